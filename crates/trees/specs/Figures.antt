@@ -2,7 +2,9 @@
 use Prim.Native.Nat.{ℕ, _+_}
 use mathlib.Core.Bool.{cond}
 use lib.Dec.{eqb}
+use Rattle.trees.specs.declared.Measure.{Measure}
 use Rattle.trees.specs.declared.Measure.the-variants.{Suction, Water}
+use Rattle.trees.specs.declared.Phenology.{Phenology}
 use Rattle.trees.specs.declared.Phenology.the-variants.{Ramps, Dip, Temperature}
 use Rattle.trees.specs.declared.Figures.{Figures}
 use Rattle.trees.specs.declared.Choice.{Choice}
@@ -12,143 +14,49 @@ use Rattle.trees.specs.declared.Choice.the-variants.{Tree, Unknown}
 abbrev pub celsius : ℕ → ℕ
 celsius t = 50 + t
 
-abbrev pub borealSpruce : Figures
-borealSpruce = record {
-  gmax = 125;
-  fmin = 10;
-  lighta = 60;
-  tmin = celsius 0;
-  topt = celsius 20;
-  tmax = celsius 200;
-  p = 9;
-  q = 1;
-  vpdmax = 800;
-  vpdmin = 2800;
-  measure = Water;
-  soilmax = 150;
-  soilmin = 10;
-  leaf = 8;
-  phenology = Ramps;
-  a = 0;
-  e = 0;
-  f1 = 20;
-  f4 = 30;
+-- a line of the table: the three temperatures are given in °C
+abbrev entry : ℕ → ℕ → ℕ → ℕ → ℕ → ℕ → ℕ → ℕ → ℕ → ℕ → Measure → ℕ → ℕ → ℕ → Phenology → ℕ → ℕ → ℕ → ℕ → Figures
+entry gmax′ fmin′ lighta′ tmin′ topt′ tmax′ p′ q′ vpdmax′ vpdmin′ measure′ soilmax′ soilmin′ leaf′ phenology′ a′ e′ f1′ f4′ = record {
+  gmax = gmax′;
+  fmin = fmin′;
+  lighta = lighta′;
+  tmin = celsius tmin′;
+  topt = celsius topt′;
+  tmax = celsius tmax′;
+  p = p′;
+  q = q′;
+  vpdmax = vpdmax′;
+  vpdmin = vpdmin′;
+  measure = measure′;
+  soilmax = soilmax′;
+  soilmin = soilmin′;
+  leaf = leaf′;
+  phenology = phenology′;
+  a = a′;
+  e = e′;
+  f1 = f1′;
+  f4 = f4′;
 }
+
+-- gmax, f_min, light_a, Tmin Topt Tmax, p q, VPD max min, soil max min, leaf, phenology, a e, f1 f4
+abbrev pub borealSpruce : Figures
+borealSpruce = entry 125 10 60 0 20 200 9 1 800 2800 Water 150 10 8 Ramps 0 0 20 30
 
 abbrev pub birch : Figures
-birch = record {
-  gmax = 240;
-  fmin = 10;
-  lighta = 42;
-  tmin = celsius 5;
-  topt = celsius 20;
-  tmax = celsius 200;
-  p = 12;
-  q = 1;
-  vpdmax = 500;
-  vpdmin = 2700;
-  measure = Water;
-  soilmax = 150;
-  soilmin = 10;
-  leaf = 50;
-  phenology = Ramps;
-  a = 0;
-  e = 0;
-  f1 = 20;
-  f4 = 30;
-}
+birch = entry 240 10 42 5 20 200 12 1 500 2700 Water 150 10 50 Ramps 0 0 20 30
 
+-- a and e play no part where f_phen goes by temperature
 abbrev pub continentalSpruce : Figures
-continentalSpruce = record {
-  gmax = 130;
-  fmin = 16;
-  lighta = 100;
-  tmin = celsius 0;
-  topt = celsius 14;
-  tmax = celsius 35;
-  p = 3;
-  q = 2;
-  vpdmax = 500;
-  vpdmin = 3000;
-  measure = Suction;
-  soilmax = 50;
-  soilmin = 500;
-  leaf = 8;
-  phenology = Temperature;
-  a = 0;
-  e = 0;
-  f1 = 0;
-  f4 = 0;
-}
+continentalSpruce = entry 130 16 100 0 14 35 3 2 500 3000 Suction 50 500 8 Temperature 0 0 0 0
 
 abbrev pub beech : Figures
-beech = record {
-  gmax = 155;
-  fmin = 13;
-  lighta = 60;
-  tmin = celsius 5;
-  topt = celsius 16;
-  tmax = celsius 33;
-  p = 17;
-  q = 11;
-  vpdmax = 1000;
-  vpdmin = 3100;
-  measure = Suction;
-  soilmax = 50;
-  soilmin = 1250;
-  leaf = 70;
-  phenology = Ramps;
-  a = 0;
-  e = 40;
-  f1 = 20;
-  f4 = 20;
-}
+beech = entry 155 13 60 5 16 33 17 11 1000 3100 Suction 50 1250 70 Ramps 0 40 20 20
 
 abbrev pub oak : Figures
-oak = record {
-  gmax = 265;
-  fmin = 13;
-  lighta = 60;
-  tmin = celsius 0;
-  topt = celsius 22;
-  tmax = celsius 35;
-  p = 13;
-  q = 22;
-  vpdmax = 1100;
-  vpdmin = 3100;
-  measure = Suction;
-  soilmax = 1000;
-  soilmin = 2000;
-  leaf = 42;
-  phenology = Ramps;
-  a = 30;
-  e = 30;
-  f1 = 15;
-  f4 = 20;
-}
+oak = entry 265 13 60 0 22 35 13 22 1100 3100 Suction 1000 2000 42 Ramps 30 30 15 20
 
 abbrev pub evergreen : Figures
-evergreen = record {
-  gmax = 195;
-  fmin = 2;
-  lighta = 120;
-  tmin = celsius 1;
-  topt = celsius 23;
-  tmax = celsius 39;
-  p = 8;
-  q = 11;
-  vpdmax = 2200;
-  vpdmin = 4000;
-  measure = Suction;
-  soilmax = 1000;
-  soilmin = 4500;
-  leaf = 30;
-  phenology = Dip;
-  a = 100;
-  e = 100;
-  f1 = 0;
-  f4 = 0;
-}
+evergreen = entry 195 2 120 1 23 39 8 11 2200 4000 Suction 1000 4500 30 Dip 100 100 0 0
 
 -- by the tree's number; a number outside 1 to 6 is no tree
 unfoldable pub figuresOf : ℕ → Choice
@@ -160,3 +68,13 @@ figuresOf tree =
     (cond (eqb tree 5) (Tree oak)
     (cond (eqb tree 6) (Tree evergreen)
     Unknown)))))
+
+-- f1 + f4, in days; 0 for a number that is no tree
+abbrev pub rampDays : Choice → ℕ
+rampDays (Tree f) = f .f1 + f .f4
+rampDays Unknown = 0
+
+-- the soil measure; suction for a number that is no tree
+abbrev pub measureOf : Choice → Measure
+measureOf (Tree f) = f .measure
+measureOf Unknown = Suction

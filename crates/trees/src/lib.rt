@@ -1,6 +1,6 @@
 // The tree table of document 01: each tree's figures, as constants that belong to that tree's type.
 ghost use mathlib.Core.Path.{_≡_};
-ghost use Rattle.trees.specs.Figures.{borealSpruce, birch, continentalSpruce, beech, oak, evergreen, figuresOf};
+ghost use Rattle.trees.specs.Figures.{borealSpruce, birch, continentalSpruce, beech, oak, evergreen, figuresOf, rampDays, measureOf};
 
 // What a soil reading measures: suction in kPa, or available water in tenths of a percent.
 pub enum Measure {
@@ -450,4 +450,24 @@ pub fn figures_of(tree: u8) -> Choice
         6 => Choice::Tree(Evergreen::figures()),
         _ => Choice::Unknown,
     }
+}
+
+// The days that the two ramps of f_phen take, f1 + f4; 0 for a number that is no tree.
+pub fn ramp_days(tree: u8) -> u32
+    ensures { λ r. ⌜ r ≡ rampDays (figuresOf tree) ⌝ }
+{
+    let Choice::Tree(f) = figures_of(tree) else {
+        return 0;
+    };
+    (f.f1 as u32) + (f.f4 as u32)
+}
+
+// What the tree's soil reading measures; suction for a number that is no tree.
+pub fn measure_of(tree: u8) -> Measure
+    ensures { λ r. ⌜ r ≡ measureOf (figuresOf tree) ⌝ }
+{
+    let Choice::Tree(f) = figures_of(tree) else {
+        return Measure::Suction;
+    };
+    f.measure
 }

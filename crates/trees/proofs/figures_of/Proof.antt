@@ -1,8 +1,8 @@
 -- `trees::figures_of` meets its contract: each arm's number picks its tree's figures.
-use borrow.Author.Needs.{needs}
-use borrow.Author.Tests.{ne-eqb}
 use mathlib.Core.Path.{ap}
 use native.Mathlib.Omega.{arith}
+use borrow.Author.Needs.{needs}
+use borrow.Author.Tests.{ne-eqb}
 use Rattle.trees.specs.declared.Choice.the-variants.{Tree}
 use Rattle.trees.specs.Figures.{figuresOf}
 use Rattle.trees.proofs.figures_of.Statement.{statement}

@@ -1,0 +1,118 @@
+-- A digit says a number below 16 and is the one digit that says it; a byte is below 256 and a number below 65536.
+use Prim.Native.Nat.{ℕ, _+_, _-_, _≤_, _<_}
+use mathlib.Core.Path.{_≡_, sym, _∙_}
+use mathlib.Core.Bool.{Bool, true, false, true≢false, _&&_}
+use mathlib.Core.Logic.{_⊎_, inl, inr, ⊎-elim}
+use mathlib.Core.List.{List}
+use native.Mathlib.Decide.{decLe}
+use native.Mathlib.Numerals.{add-one}
+use native.Mathlib.Omega.{arith}
+use borrow.Author.Tests.{le-leb, lt-leb, lt-ltb, le-ltb}
+use lib.ListN.{length, getD, drop}
+use lib.Seq.{drop-cons}
+use Rattle.frames.specs.Digits.{isDigit, valueOf, allDigits, byteAt, numberAt, digitOf}
+
+-- where a byte lies: a decimal digit, a letter, or one of the three gaps
+pub data Place (c : ℕ) : Type 0 where
+  decimal : 48 ≤ c → c ≤ 57 → Place c
+  letter : 65 ≤ c → c ≤ 70 → Place c
+  under : c < 48 → Place c
+  between : 57 < c → c < 65 → Place c
+  over : 70 < c → Place c
+
+pub le-or-lt : (m n : ℕ) → (m ≤ n) ⊎ (n < m)
+le-or-lt m n = elim (decLe m n) [ yes p ↦ inl p | no q ↦ inr (omega arith) ]
+
+place : (c : ℕ) → Place c
+place c =
+    ⊎-elim
+    (λ p. ⊎-elim (λ q. decimal p q) (λ q. ⊎-elim (λ r. ⊎-elim (λ s. letter r s) over (le-or-lt c 70)) (λ r. between q r) (le-or-lt 65 c)) (le-or-lt c 57))
+    under
+    (le-or-lt 48 c)
+
+-- what a byte says, by where it lies
+abbrev said : (c : ℕ) → Place c → ℕ
+said c (decimal p q) = c - 48
+said c (letter p q) = c - 55
+said c (under p) = 0
+said c (between p q) = 0
+said c (over p) = 0
+
+abbrev isOne : (c : ℕ) → Place c → Bool
+isOne c (decimal p q) = true
+isOne c (letter p q) = true
+isOne c (under p) = false
+isOne c (between p q) = false
+isOne c (over p) = false
+
+pub value-is : (c : ℕ) (at : Place c) → said c at ≡ valueOf c
+unfolding valueOf
+value-is c (decimal p q) = simp (le-leb 48 c p, le-leb c 57 q)
+value-is c (letter p q) = simp (le-leb 48 c (omega arith), lt-leb c 57 (omega arith), le-leb 65 c p, le-leb c 70 q)
+value-is c (under p) = simp (lt-leb 48 c p, lt-leb 65 c (omega arith))
+value-is c (between p q) = simp (le-leb 48 c (omega arith), lt-leb c 57 p, lt-leb 65 c q)
+value-is c (over p) = simp (le-leb 48 c (omega arith), lt-leb c 57 (omega arith), le-leb 65 c (omega arith), lt-leb c 70 p)
+
+pub digit-is : (c : ℕ) (at : Place c) → isOne c at ≡ isDigit c
+unfolding isDigit
+digit-is c (decimal p q) = simp (le-leb 48 c p, le-leb c 57 q)
+digit-is c (letter p q) = simp (le-leb 48 c (omega arith), lt-leb c 57 (omega arith), le-leb 65 c p, le-leb c 70 q)
+digit-is c (under p) = simp (lt-leb 48 c p, lt-leb 65 c (omega arith))
+digit-is c (between p q) = simp (le-leb 48 c (omega arith), lt-leb c 57 p, lt-leb 65 c q)
+digit-is c (over p) = simp (le-leb 48 c (omega arith), lt-leb c 57 (omega arith), le-leb 65 c (omega arith), lt-leb c 70 p)
+
+said-lt : (c : ℕ) (at : Place c) → said c at < 16
+said-lt c (decimal p q) = omega arith
+said-lt c (letter p q) = omega arith
+said-lt c (under p) = omega arith
+said-lt c (between p q) = omega arith
+said-lt c (over p) = omega arith
+
+pub value-lt : (c : ℕ) → valueOf c < 16
+value-lt c = rw (value-is c (place c)) at (said-lt c (place c))
+
+pub byte-lt : (at : ℕ) (l : List ℕ) → byteAt at l < 256
+unfolding byteAt
+byte-lt at l = omega (arith, value-lt (getD l at 0), value-lt (getD l (at + 1) 0))
+
+pub number-lt : (at : ℕ) (l : List ℕ) → numberAt at l < 65536
+unfolding numberAt
+number-lt at l = omega (arith, byte-lt at l, byte-lt (at + 2) l)
+
+-- ---- the digit that says a number
+
+pub digit-low : (d : ℕ) → d < 10 → d + 48 ≡ digitOf d
+unfolding digitOf
+digit-low d h = simp (lt-ltb d 10 h)
+
+pub digit-high : (d : ℕ) → 10 ≤ d → d + 55 ≡ digitOf d
+unfolding digitOf
+digit-high d h = simp (le-ltb d 10 h)
+
+pub value-digit : (d : ℕ) → d < 16 → valueOf (digitOf d) ≡ d
+value-digit d h =
+    ⊎-elim (λ p. rw (← digit-high d p) (omega (arith, value-is (d + 55) (letter (omega arith) (omega arith)))))
+    (λ p. rw (← digit-low d p) (omega (arith, value-is (d + 48) (decimal (omega arith) (omega arith)))))
+    (le-or-lt 10 d)
+
+pub digit-valid : (d : ℕ) → d < 16 → isDigit (digitOf d) ≡ true
+digit-valid d h =
+    ⊎-elim (λ p. rw (← digit-high d p) (sym (digit-is (d + 55) (letter (omega arith) (omega arith)))))
+    (λ p. rw (← digit-low d p) (sym (digit-is (d + 48) (decimal (omega arith) (omega arith)))))
+    (le-or-lt 10 d)
+
+digit-said : (c : ℕ) (at : Place c) → isOne c at ≡ true → digitOf (said c at) ≡ c
+digit-said c (decimal p q) e = sym (digit-low (c - 48) (omega arith)) ∙ omega arith
+digit-said c (letter p q) e = sym (digit-high (c - 55) (omega arith)) ∙ omega arith
+digit-said c (under p) e = absurd (true≢false (sym e))
+digit-said c (between p q) e = absurd (true≢false (sym e))
+digit-said c (over p) e = absurd (true≢false (sym e))
+
+pub digit-value : (c : ℕ) → isDigit c ≡ true → digitOf (valueOf c) ≡ c
+digit-value c e = rw (← value-is c (place c)) (digit-said c (place c) (digit-is c (place c) ∙ e))
+
+-- ---- a line of digits, from a place on
+
+pub all-step : (s : List ℕ) (i : ℕ) → i < length s → allDigits (drop i s) ≡ (isDigit (getD s i 0) && allDigits (drop (i + 1) s))
+unfolding allDigits
+all-step s i h = rw (add-one, drop-cons s i 0)

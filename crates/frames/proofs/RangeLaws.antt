@@ -1,0 +1,116 @@
+-- A record that rows 5 to 8 and 10 let pass is in range, and fits the widths of its line.
+use Prim.Native.Nat.{ℕ, _≤_}
+use mathlib.Core.Path.{_≡_}
+use mathlib.Core.Bool.{false, _||_}
+use mathlib.Core.List.{List, [], _∷_}
+use native.Mathlib.Omega.{arith}
+use borrow.Author.Tests.{ltb-false}
+use lib.Dec.{ltb}
+use Rattle.frames.specs.Answers.{accepted}
+use Rattle.frames.specs.Temperature.{temperatureOut}
+use Rattle.frames.specs.Layout.{Width, headerWidths, hourWidths, endWidths, headerNumbers, hourNumbers, soilNumber}
+use Rattle.frames.specs.Ranges.{isOutside, soilOut, periodOut, checked}
+use Rattle.frames.specs.RoundTrip.{InWidth}
+use Rattle.frames.specs.declared.Header.{Header}
+use Rattle.frames.specs.declared.Soil.{Soil}
+use Rattle.frames.specs.declared.Soil.the-variants.{Suction, Water}
+use Rattle.frames.specs.declared.Hour.{Hour}
+use Rattle.frames.specs.declared.Record.{Record}
+use Rattle.frames.proofs.AnswerLaws.{or-neither, row-passed}
+use Rattle.frames.proofs.LayoutLaws.{Fits}
+use Rattle.frames.proofs.TemperatureLaws.{complement-lt}
+
+-- from low to high
+pub record Inside (low high n : ℕ) : Type 0 where
+  pub above : low ≤ n
+  pub below : n ≤ high
+
+inside-is : (low high n : ℕ) → isOutside low high n ≡ false → Inside low high n
+inside-is low high n e =
+    let p = or-neither (ltb n low) (ltb high n) e in
+    record { above = ltb-false n low (p .0); below = ltb-false high n (p .1) }
+
+pub record HeaderIn (h : Header) : Type 0 where
+  pub tree : Inside 1 6 (h .tree)
+  pub days : Inside 365 366 (h .days)
+  pub first : Inside 1 (h .last) (h .first)
+  pub last : h .last ≤ h .days
+  pub level : Inside 1 10000 (h .level)
+
+pub record HourIn (h : Hour) : Type 0 where
+  pub ozone : h .ozone ≤ 5000
+  pub ppfd : h .ppfd ≤ 3000
+  pub radiation : h .radiation ≤ 1500
+  pub temperature : temperatureOut (h .temperature) ≡ false
+  pub vpd : h .vpd ≤ 10000
+  pub wind : h .wind ≤ 6000
+  pub soil : soilNumber (h .soil) ≤ 10000
+
+abbrev pub InRange : Record → Type 0
+InRange (Record.Header h) = HeaderIn h
+InRange (Record.Hour h) = HourIn h
+InRange (Record.End e) = Unit
+
+soil-le : (s : Soil) → soilOut s ≡ false → soilNumber s ≤ 10000
+soil-le (Suction n) e = ltb-false 10000 n e
+soil-le (Water n) e = omega (arith, ltb-false 1000 n e)
+
+header-passed : (h : Header) → checked (Record.Header h) ≡ accepted tt → HeaderIn h
+unfolding checked
+header-passed h e =
+    let tree = row-passed (isOutside 1 6 (h .tree)) _ _ tt e in
+    let days = row-passed (isOutside 365 366 (h .days)) _ _ tt (tree .1) in
+    let period = row-passed (periodOut h _) _ _ tt (days .1) in
+    let level = row-passed (isOutside 1 10000 (h .level)) _ _ tt (period .1) in
+    let ramps = or-neither (ltb (h .first) 1 || ltb (h .last) (h .first) || ltb (h .days) (h .last)) _ (period .0) in
+    let last = or-neither (ltb (h .first) 1 || ltb (h .last) (h .first)) _ (ramps .0) in
+    let first = or-neither (ltb (h .first) 1) _ (last .0) in
+    record {
+      tree = inside-is 1 6 (h .tree) (tree .0);
+      days = inside-is 365 366 (h .days) (days .0);
+      first = record { above = ltb-false (h .first) 1 (first .0); below = ltb-false (h .last) (h .first) (first .1) };
+      last = ltb-false (h .days) (h .last) (last .1);
+      level = inside-is 1 10000 (h .level) (level .0);
+    }
+
+hour-passed : (h : Hour) → checked (Record.Hour h) ≡ accepted tt → HourIn h
+unfolding checked
+hour-passed h e =
+    let ozone = row-passed (ltb 5000 (h .ozone)) _ _ tt e in
+    let ppfd = row-passed (ltb 3000 (h .ppfd)) _ _ tt (ozone .1) in
+    let radiation = row-passed (ltb 1500 (h .radiation)) _ _ tt (ppfd .1) in
+    let temperature = row-passed (temperatureOut (h .temperature)) _ _ tt (radiation .1) in
+    let vpd = row-passed (ltb 10000 (h .vpd)) _ _ tt (temperature .1) in
+    let wind = row-passed (ltb 6000 (h .wind)) _ _ tt (vpd .1) in
+    let soil = row-passed (soilOut (h .soil)) _ _ tt (wind .1) in
+    record {
+      ozone = ltb-false 5000 (h .ozone) (ozone .0);
+      ppfd = ltb-false 3000 (h .ppfd) (ppfd .0);
+      radiation = ltb-false 1500 (h .radiation) (radiation .0);
+      temperature = temperature .0;
+      vpd = ltb-false 10000 (h .vpd) (vpd .0);
+      wind = ltb-false 6000 (h .wind) (wind .0);
+      soil = soil-le (h .soil) (soil .0);
+    }
+
+pub checked-passed : (r : Record) → checked r ≡ accepted tt → InRange r
+checked-passed (Record.Header h) e = header-passed h e
+checked-passed (Record.Hour h) e = hour-passed h e
+checked-passed (Record.End end) e = tt
+
+-- ---- a record's numbers and their widths
+
+abbrev pub widthsOf : Record → List Width
+widthsOf (Record.Header h) = headerWidths
+widthsOf (Record.Hour h) = hourWidths
+widthsOf (Record.End e) = endWidths
+
+abbrev pub numbersOf : Record → List ℕ
+numbersOf (Record.Header h) = headerNumbers h
+numbersOf (Record.Hour h) = hourNumbers h
+numbersOf (Record.End e) = e .hours ∷ []
+
+pub range-fits : (r : Record) → InRange r → InWidth r → Fits (widthsOf r) (numbersOf r)
+range-fits (Record.Header h) i w = omega arith
+range-fits (Record.Hour h) i w = let t = complement-lt (h .temperature) (i .temperature) in omega arith
+range-fits (Record.End e) i w = omega arith

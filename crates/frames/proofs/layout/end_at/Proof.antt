@@ -1,0 +1,15 @@
+-- `frames::layout::end_at` meets its contract.
+use borrow.Author.Needs.{needs}
+use Rattle.frames.specs.Layout.{endAt}
+use Rattle.frames.proofs.layout.end_at.Statement.{statement}
+use Rattle.frames.proofs.layout.end_at.Tie as tie
+
+number-at-requires : tie.Need-number-at-requires
+number-at-requires c κs = search needs
+
+returns : tie.Need-returns
+unfolding endAt
+returns c = cc
+
+pub end-at-spec : {M : Type 1} → statement M
+end-at-spec = tie.close (tie.spec number-at-requires returns)

@@ -1,0 +1,51 @@
+-- `frames::layout::hour_at` meets its contract.
+use borrow.Author.Needs.{needs}
+use Rattle.frames.specs.Layout.{hourAt}
+use Rattle.frames.proofs.layout.hour_at.Statement.{statement}
+use Rattle.frames.proofs.layout.hour_at.Tie as tie
+
+number-at-requires : tie.Need-number-at-requires
+number-at-requires c κs = search needs
+
+byte-at-requires : tie.Need-byte-at-requires
+byte-at-requires c κs = search needs
+
+number-at-requires-2 : tie.Need-number-at-requires-2
+number-at-requires-2 c κs = search needs
+
+number-at-requires-3 : tie.Need-number-at-requires-3
+number-at-requires-3 c κs = search needs
+
+number-at-requires-4 : tie.Need-number-at-requires-4
+number-at-requires-4 c κs = search needs
+
+number-at-requires-5 : tie.Need-number-at-requires-5
+number-at-requires-5 c κs = search needs
+
+number-at-requires-6 : tie.Need-number-at-requires-6
+number-at-requires-6 c κs = search needs
+
+number-at-requires-7 : tie.Need-number-at-requires-7
+number-at-requires-7 c κs = search needs
+
+number-at-requires-8 : tie.Need-number-at-requires-8
+number-at-requires-8 c κs = search needs
+
+returns : tie.Need-returns
+unfolding hourAt
+returns c = cc
+
+pub hour-at-spec : {M : Type 1} → statement M
+hour-at-spec =
+    tie.close
+    (tie.spec
+    number-at-requires
+    byte-at-requires
+    number-at-requires-2
+    number-at-requires-3
+    number-at-requires-4
+    number-at-requires-5
+    number-at-requires-6
+    number-at-requires-7
+    number-at-requires-8
+    returns)

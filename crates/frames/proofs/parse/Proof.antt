@@ -1,0 +1,92 @@
+-- `frames::parse` meets its contract: rows 1 to 3 in order, then the frame.
+use Prim.Native.Nat.{ℕ, _≤_}
+use mathlib.Core.Path.{_≡_, sym, ap, _∙_}
+use mathlib.Core.Bool.{true}
+use mathlib.Core.List.{List}
+use native.Mathlib.Omega.{arith}
+use borrow.Author.Tests.{eq-eqb, ne-eqb, not-true, not-false}
+use borrow.Author.Needs.{needs}
+use lib.ListN.{length}
+use Rattle.frames.specs.Answers.{accepted}
+use Rattle.frames.specs.Digits.{allDigits, byteAt}
+use Rattle.frames.specs.Kinds.{isLength, lengthOf}
+use Rattle.frames.specs.Frames.{parsedOf}
+use Rattle.frames.proofs.KindLaws.{length-enough}
+use Rattle.frames.proofs.parse.Statement.{statement}
+use Rattle.frames.proofs.parse.Tie as tie
+
+is-length-requires : tie.Need-is-length-requires
+is-length-requires c κs = search needs
+
+returns : tie.Need-returns
+unfolding parsedOf
+returns c = simp (sym (c .before .is-length .ensures) ∙ not-true _ (c .if1 .taken))
+
+-- past row 1
+module _ (c : tie.Else1) where
+  abbrev line₁ : List ℕ
+  line₁ = c .before .before .before .args .line .now
+
+  sized : isLength (length line₁) ≡ true
+  sized = sym (c .before .is-length .ensures) ∙ not-false _ (c .if1 .left)
+
+  enough : 6 ≤ length line₁
+  enough = length-enough (length line₁) sized
+
+all-digits-requires : tie.Need-all-digits-requires
+all-digits-requires c κs = search needs
+
+returns-2 : tie.Need-returns-2
+unfolding parsedOf
+returns-2 c = simp (sized (c .before .before), sym (c .before .all-digits .ensures) ∙ not-true _ (c .if2 .taken))
+
+byte-at-requires : tie.Need-byte-at-requires
+byte-at-requires c κs = omega (arith, enough (c .before .before))
+
+-- past row 2
+whole : (c : tie.Else2) → allDigits (line₁ (c .before .before)) ≡ true
+whole c = sym (c .before .all-digits .ensures) ∙ not-false _ (c .if2 .left)
+
+length-of-requires : tie.Need-length-of-requires
+length-of-requires c κs = search needs
+
+module _ (c : tie.After-length-of) where
+  abbrev line₃ : List ℕ
+  line₃ = line₁ (c .before .before .before .before)
+
+  span : c .length-of .result ≡ lengthOf (byteAt 0 line₃)
+  span = c .length-of .ensures ∙ ap lengthOf (c .before .byte-at .ensures)
+
+returns-3 : tie.Need-returns-3
+unfolding parsedOf
+returns-3 c =
+    let e = c .before in
+    simp (sized (e .before .before .before .before), whole (e .before .before), ne-eqb (lengthOf (byteAt 0 (line₃ e))) (length (line₃ e)) (λ p. c .if3 .taken (span e ∙ p)))
+
+-- past row 3
+fit : (c : tie.Else3) → lengthOf (byteAt 0 (line₃ (c .before))) ≡ length (line₃ (c .before))
+fit c = sym (span (c .before)) ∙ c .if3 .left
+
+frame-at-requires : tie.Need-frame-at-requires
+frame-at-requires c κs = (enough (c .before .before .before .before .before), fit c)
+
+returns-4 : tie.Need-returns-4
+unfolding parsedOf
+returns-4 c =
+    let e = c .before .before in
+    simp (sized (e .before .before .before .before), whole (e .before .before), eq-eqb (lengthOf (byteAt 0 (line₃ e))) (length (line₃ e)) (fit (c .before)))
+    (ap accepted (c .frame-at .ensures))
+
+pub parse-spec : {M : Type 1} → statement M
+parse-spec =
+    tie.close
+    (tie.spec
+    is-length-requires
+    returns
+    all-digits-requires
+    returns-2
+    byte-at-requires
+    length-of-requires
+    returns-3
+    frame-at-requires
+    returns-4)

@@ -1,0 +1,48 @@
+-- `frames::record_of` meets its contract.
+use borrow.Author.Needs.{needs}
+use Rattle.frames.specs.Frames.{recordOf}
+use Rattle.frames.proofs.record_of.Statement.{statement}
+use Rattle.frames.proofs.record_of.Tie as tie
+
+enum-known-frame : tie.Need-enum-known-frame
+enum-known-frame c = search needs
+
+sound-requires : tie.Need-sound-requires
+sound-requires c κs = search needs
+
+enum-known-frame-2 : tie.Need-enum-known-frame-2
+enum-known-frame-2 c = search needs
+
+hour-record-requires : tie.Need-hour-record-requires
+hour-record-requires c κs = search needs
+
+enum-known-frame-3 : tie.Need-enum-known-frame-3
+enum-known-frame-3 c = search needs
+
+sound-requires-2 : tie.Need-sound-requires-2
+sound-requires-2 c κs = search needs
+
+returns : tie.Need-returns
+unfolding recordOf
+returns c = rw (c .before .before .frame .given .1) (c .sound .ensures)
+
+returns-2 : tie.Need-returns-2
+returns-2 c = rw (c .before .before .frame2 .given .1) (c .hour-record .ensures)
+
+returns-3 : tie.Need-returns-3
+unfolding recordOf
+returns-3 c = rw (c .before .before .frame3 .given .1) (c .sound2 .ensures)
+
+pub record-of-spec : {M : Type 1} → statement M
+record-of-spec =
+    tie.close
+    (tie.spec
+    enum-known-frame
+    sound-requires
+    enum-known-frame-2
+    hour-record-requires
+    enum-known-frame-3
+    sound-requires-2
+    returns
+    returns-2
+    returns-3)

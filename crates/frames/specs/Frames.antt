@@ -1,0 +1,34 @@
+-- A line read alone, its tree given (document 01, "Frames"): rows 1 to 3, then those of the record that it says.
+use Prim.Native.Nat.{ℕ}
+use mathlib.Core.Bool.{not}
+use mathlib.Core.List.{List}
+use lib.ListN.{length}
+use lib.Dec.{eqb}
+use Rattle.trees.specs.Figures.{figuresOf, measureOf}
+use Rattle.frames.specs.Answers.{Outcome, accepted, row, onward}
+use Rattle.frames.specs.Digits.{allDigits, byteAt}
+use Rattle.frames.specs.Kinds.{isLength, lengthOf}
+use Rattle.frames.specs.Layout.{frameAt, hourOf}
+use Rattle.frames.specs.Ranges.{isOutside, checked}
+use Rattle.frames.specs.declared.Raw.{Raw}
+use Rattle.frames.specs.declared.Record.{Record}
+
+unfoldable pub parsedOf : List ℕ → Outcome Raw
+parsedOf l =
+    row 1 (not (isLength (length l)))
+    (row 2 (not (allDigits l))
+    (row 3 (not (eqb (lengthOf (byteAt 0 l)) (length l)))
+    (accepted (frameAt l))))
+
+-- a record, or the row that refuses it
+unfoldable pub soundOf : Record → Outcome Record
+soundOf r = onward (checked r) (λ _. accepted r)
+
+-- the given tree matters for an hour frame only; outside 1 to 6 it is row 5
+unfoldable pub recordOf : ℕ → Raw → Outcome Record
+recordOf tree (Raw.Header h) = soundOf (Record.Header h)
+recordOf tree (Raw.Hour raw) = row 5 (isOutside 1 6 tree) (soundOf (Record.Hour (hourOf raw (measureOf (figuresOf tree)))))
+recordOf tree (Raw.End e) = soundOf (Record.End e)
+
+unfoldable pub readOf : ℕ → List ℕ → Outcome Record
+readOf tree l = onward (parsedOf l) (recordOf tree)
