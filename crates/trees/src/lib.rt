@@ -1,5 +1,11 @@
 // The tree table of document 01: each tree's figures, as constants that belong to that tree's type.
+pub mod factors;
+pub mod phen;
+mod tables;
+pub mod temperature;
+
 ghost use mathlib.Core.Path.{_≡_};
+ghost use Rattle.trees.specs.BenchCases.{BenchCases};
 ghost use Rattle.trees.specs.Figures.{borealSpruce, birch, continentalSpruce, beech, oak, evergreen, figuresOf, rampDays, measureOf};
 
 // What a soil reading measures: suction in kPa, or available water in tenths of a percent.
@@ -440,6 +446,7 @@ impl Evergreen {
 // The figures of the tree with a number, 1 to 6.
 pub fn figures_of(tree: u8) -> Choice
     ensures { λ r. ⌜ r ≡ figuresOf tree ⌝ }
+    ensures bench_cases { λ _. ⌜ BenchCases ⌝ }
 {
     match tree {
         1 => Choice::Tree(BorealSpruce::figures()),

@@ -15,10 +15,10 @@ enum-told : tie.Need-enum-told
 enum-told c = search needs
 
 returns : tie.Need-returns
-returns c = ap measureOf (sym (c .enum-told .given .1) ∙ c .before .before .figures-of .ensures)
+returns c = ap measureOf (sym (c .enum-told .given .1) ∙ c .before .before .figures-of .ensures .0)
 
 returns-2 : tie.Need-returns-2
-returns-2 c = ap measureOf (sym (c .before .f .given .1) ∙ c .before .before .before .figures-of .ensures)
+returns-2 c = ap measureOf (sym (c .before .f .given .1) ∙ c .before .before .before .figures-of .ensures .0)
 
 pub measure-of-spec : {M : Type 1} → statement M
 measure-of-spec = tie.close (tie.spec figures-of-requires enum-known-f enum-told returns returns-2)

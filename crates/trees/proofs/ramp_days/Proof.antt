@@ -16,10 +16,10 @@ enum-told : tie.Need-enum-told
 enum-told c = search needs
 
 returns : tie.Need-returns
-returns c = ap rampDays (sym (c .enum-told .given .1) ∙ c .before .before .figures-of .ensures)
+returns c = ap rampDays (sym (c .enum-told .given .1) ∙ c .before .before .figures-of .ensures .0)
 
 cast-result : tie.Need-cast-result
-cast-result c = search needs
+cast-result c = omega (arith, c .struct-known .given)
 
 cast-result-2 : tie.Need-cast-result-2
 cast-result-2 c = omega (arith, c .struct-known2 .given)
@@ -28,7 +28,7 @@ add-result : tie.Need-add-result
 add-result c = omega (arith, c .struct-known2 .given)
 
 returns-2 : tie.Need-returns-2
-returns-2 c = ap rampDays (sym (c .before .before .before .f .given .1) ∙ c .before .before .before .before .before .figures-of .ensures)
+returns-2 c = ap rampDays (sym (c .before .before .before .f .given .1) ∙ c .before .before .before .before .before .figures-of .ensures .0)
 
 pub ramp-days-spec : {M : Type 1} → statement M
 ramp-days-spec =

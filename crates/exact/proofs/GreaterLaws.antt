@@ -1,0 +1,34 @@
+-- The greater of two fractions is above both, and below what is above both.
+use Prim.Native.Nat.{_*_}
+use mathlib.Core.Bool.{Bool, true, false, not, cond}
+use native.Mathlib.Nat.{le-of-lt}
+use lib.Dec.{T, leb, leb→le, nleb→lt}
+use Rattle.exact.specs.Frac.{Frac, _≼_, greater}
+use Rattle.exact.proofs.FracLaws.{≼-refl}
+
+-- whichever is picked, where the test says which is the lesser
+above-left : (x y : Frac) (b : Bool) → (T b → x ≼ y) → x ≼ cond b y x
+above-left x y true h = h tt
+above-left x y false h = ≼-refl x
+
+above-right : (x y : Frac) (b : Bool) → (T (not b) → y ≼ x) → y ≼ cond b y x
+above-right x y true h = ≼-refl y
+above-right x y false h = h tt
+
+least-above : (x y z : Frac) (b : Bool) → x ≼ z → y ≼ z → cond b y x ≼ z
+least-above x y z true h k = k
+least-above x y z false h k = h
+
+module _ (x y : Frac) where
+  abbrev lower : Bool
+  lower = leb (x .num * y .den) (y .num * x .den)
+
+  pub greater-left : x ≼ greater x y
+  greater-left = above-left x y lower (λ t. record { cross = leb→le _ _ t })
+
+  pub greater-right : y ≼ greater x y
+  greater-right =
+      above-right x y lower (λ (t : T (not lower)). record { cross = le-of-lt (nleb→lt (x .num * y .den) (y .num * x .den) t) })
+
+  pub greater-least : {z : Frac} → x ≼ z → y ≼ z → greater x y ≼ z
+  greater-least {z} h k = least-above x y z lower h k

@@ -1,0 +1,5 @@
+pub mod FracLaws
+pub mod GreaterLaws
+pub mod PowerLaws
+pub mod MeanLaws
+pub mod RootLaws

@@ -1,0 +1,8 @@
+-- The greatest number, up to a bound, that passes a test: what a root rounded down is, whatever the root.
+use Prim.Native.Nat.{ℕ, zero, suc}
+use mathlib.Core.Bool.{Bool, cond}
+
+-- 0 where none passes; a meaning, never run
+unfoldable pub greatest : (ℕ → Bool) → ℕ → ℕ
+greatest passes zero = zero
+greatest passes (suc n) = cond (passes (suc n)) (suc n) (greatest passes n)

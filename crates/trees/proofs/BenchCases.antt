@@ -1,0 +1,42 @@
+-- The cases marked P hold: those of the exact factors by one computation, those of f_temp by its laws.
+use Prim.Native.Nat.{_*_}
+use mathlib.Core.Path.{refl}
+use mathlib.Core.Bool.{Bool, true, _&&_}
+use mathlib.Core.List.{List, [], _∷_}
+use native.Mathlib.Omega.{arith}
+use lib.Dec.{T, eqb, eqb→eq}
+use Rattle.trees.specs.Figures.{continentalSpruce, beech, figuresOf}
+use Rattle.trees.specs.Temperature.{tried, allowed, temperatureAt}
+use Rattle.trees.specs.Deficit.{deficitOf}
+use Rattle.trees.specs.SoilWater.{soilWaterOf}
+use Rattle.trees.specs.Phenology.{byRamps, byDip, phenologyOf}
+use Rattle.trees.specs.BenchCases.{cases, AllSame, BenchCases}
+use Rattle.trees.proofs.SoundLaws.{figures-sound}
+use Rattle.trees.proofs.TemperatureRoot.{rootAt-is}
+use Rattle.trees.proofs.TemperatureTable.{and-left, and-right, greatest-tested}
+use Rattle.trees.proofs.TemperatureLaws.{temperatureAt-le, temperatureAt-optimum}
+use Rattle.exact.specs.Frac.{Frac, straight}
+use Rattle.exact.proofs.FracLaws.{≼-antisym}
+
+abbrev same : Frac × Frac → Bool
+same pair = eqb (pair .0 .num * pair .1 .den) (pair .1 .num * pair .0 .den)
+
+abbrev allSame : List (Frac × Frac) → Bool
+allSame [] = true
+allSame (pair ∷ rest) = same pair && allSame rest
+
+all-same : (l : List (Frac × Frac)) → T (allSame l) → AllSame l
+all-same [] h = tt
+all-same (pair ∷ rest) h =
+    (record { cross = eqb→eq _ _ (and-left (same pair) (allSame rest) h) }, all-same rest (and-right (same pair) (allSame rest) h))
+
+pub bench-cases : BenchCases
+unfolding phenologyOf byRamps byDip deficitOf soilWaterOf straight tried allowed temperatureAt figuresOf
+bench-cases = record {
+  factors = all-same cases tt;
+  continentalSpruce7Degrees = rootAt-is continentalSpruce 570 (omega arith) (greatest-tested continentalSpruce 570 769800358 tt);
+  beech5Degrees = λ k. record { cross = refl };
+  beech16Degrees = λ k.
+      let s = figures-sound 4 beech refl in
+      ≼-antisym (temperatureAt-le beech s 660 k) (temperatureAt-optimum beech s k);
+}

@@ -1,0 +1,9 @@
+pub mod SoundLaws
+pub mod TemperatureRoot
+pub mod TemperatureTable
+pub mod TemperatureLookup
+pub mod TemperatureTrees
+pub mod TemperatureLaws
+pub mod PhenologyLaws
+pub mod FactorLaws
+pub mod BenchCases
