@@ -1,7 +1,7 @@
 #!/usr/bin/env python3
 """Writes crates/trees/src/tables.rt: each tree's f_temp table (document 01, "Factors"), in whole-number arithmetic.
 
-An entry is the greatest whole t with t/10^9 not above a·w^(p/q). The table proves itself in the crate: this script is trusted by nobody.
+An entry is the greatest whole t with t/10^9 not above a·w^(p/q). The crate's proofs test every entry, so nothing rests on this script.
 """
 from math import gcd
 from pathlib import Path

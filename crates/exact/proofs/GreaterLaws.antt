@@ -1,10 +1,10 @@
--- The greater of two fractions is above both, and below what is above both.
+-- The greater of two fractions is above both, below what is above both, and never falls as the second grows.
 use Prim.Native.Nat.{_*_}
 use mathlib.Core.Bool.{Bool, true, false, not, cond}
 use native.Mathlib.Nat.{le-of-lt}
 use lib.Dec.{T, leb, leb→le, nleb→lt}
 use Rattle.exact.specs.Frac.{Frac, _≼_, greater}
-use Rattle.exact.proofs.FracLaws.{≼-refl}
+use Rattle.exact.proofs.FracLaws.{≼-refl, ≼-trans}
 
 -- whichever is picked, where the test says which is the lesser
 above-left : (x y : Frac) (b : Bool) → (T b → x ≼ y) → x ≼ cond b y x
@@ -32,3 +32,6 @@ module _ (x y : Frac) where
 
   pub greater-least : {z : Frac} → x ≼ z → y ≼ z → greater x y ≼ z
   greater-least {z} h k = least-above x y z lower h k
+
+pub greater-mono : (x : Frac) {y z : Frac} → y ≼ z → greater x y ≼ greater x z
+greater-mono x {y} {z} h = greater-least x y (greater-left x z) (≼-trans h (greater-right x z))

@@ -1,5 +1,14 @@
 pub mod FracLaws
 pub mod GreaterLaws
+pub mod InverseLaws
 pub mod PowerLaws
 pub mod MeanLaws
 pub mod RootLaws
+pub mod LeastLaws
+pub mod SquareLaws
+pub mod RoundingLaws
+pub mod SeriesConvolution
+pub mod SeriesCommon
+pub mod SeriesSums
+pub mod SeriesLaws
+pub mod SeriesBounds

@@ -22,9 +22,7 @@ use native.Mathlib.Nat.{
 rise : (c s n : ℕ) → c ^ n * (c + n * s) ≤ c * (c + s) ^ n
 rise c s zero = rw (pow-zero, pow-zero) (omega arith)
 rise c s (suc n) =
-    let m : ℕ = c ^ n in
-    rw (pow-suc c n, pow-suc (c + s) n)
-    (omega (arith, mul-le-mul-right (c + s) (rise c s n)))
+    rw (pow-suc c n, pow-suc (c + s) n) (omega (arith, mul-le-mul-right (c + s) (rise c s n)))
 
 fall-step : (c d e s m l : ℕ) → c * e ≤ (e + s) * d → m * (e + s) ≤ c * l → m * c * e ≤ c * (l * d)
 fall-step c d e s m l key h = omega (arith, mul-le-mul-left m key, mul-le-mul-right d h)
@@ -70,7 +68,6 @@ module _ (a s v d p q : ℕ) (p-pos : zero < p) (q-pos : zero < q) (a-pos : zero
 above-le :
     (a b u v p q : ℕ) → zero < p → zero < q → zero < a → p * a ≡ q * b → u + v ≡ a + b → a ≤ u → u ^ q * v ^ p ≤ a ^ q * b ^ p
 above-le a b u v p q p-pos q-pos a-pos ratio sum h =
-    let s : ℕ = u - a in
     let u-is : a + (u - a) ≡ u = omega arith in
     let b-is : v + (u - a) ≡ b = omega arith in
     let c-is : (p * a - (u - a)) + (u - a) ≡ p * a = omega (arith, mul-le-mul-right b q-pos) in

@@ -14,6 +14,7 @@ pub record Frac : Type 0 where
 
 infixl 70 _over_
 infixl 65 _⊗_
+infixl 65 _⊘_
 infixl 60 _⊕_
 infixl 60 _⊖_
 infix 50 _≼_
@@ -34,6 +35,14 @@ x ⊖ y = record { num = x .num * y .den - y .num * x .den; den = x .den * y .de
 
 abbrev pub _⊗_ : Frac → Frac → Frac
 x ⊗ y = record { num = x .num * y .num; den = x .den * y .den; positive = mul-pos (x .positive) (y .positive) }
+
+-- 1 / x; x is not 0 where it is used
+abbrev pub inverse : Frac → Frac
+inverse x = x .den over x .num
+
+-- x / y
+abbrev pub _⊘_ : Frac → Frac → Frac
+x ⊘ y = x ⊗ inverse y
 
 -- x ≤ y
 pub record _≼_ (x y : Frac) : Type 0 where

@@ -1,2 +1,3 @@
 pub mod Frac
 pub mod Root
+pub mod Series

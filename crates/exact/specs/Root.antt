@@ -6,3 +6,8 @@ use mathlib.Core.Bool.{Bool, cond}
 unfoldable pub greatest : (ℕ → Bool) → ℕ → ℕ
 greatest passes zero = zero
 greatest passes (suc n) = cond (passes (suc n)) (suc n) (greatest passes n)
+
+-- the least number, up to a bound, that passes a test; the bound where none below it does
+unfoldable pub least : (ℕ → Bool) → ℕ → ℕ
+least passes zero = zero
+least passes (suc n) = cond (passes (least passes n)) (least passes n) (suc n)

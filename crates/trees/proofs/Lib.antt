@@ -7,3 +7,4 @@ pub mod TemperatureLaws
 pub mod PhenologyLaws
 pub mod FactorLaws
 pub mod BenchCases
+pub mod TermLaws

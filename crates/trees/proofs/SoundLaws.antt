@@ -28,24 +28,31 @@ oak-sound = omega arith
 evergreen-sound : Sound evergreen
 evergreen-sound = omega arith
 
--- a tree that is chosen, if any, has sound figures
-abbrev AllSound : Choice → Type 0
-AllSound (Tree f) = Sound f
-AllSound Unknown = Unit
+-- what holds of the six holds of any tree that is chosen
 
-either : (t : Bool) (f : Figures) (rest : Choice) → Sound f → AllSound rest → AllSound (cond t (Tree f) rest)
-either true f rest s r = s
-either false f rest s r = r
+module _ (P : Figures → Type 0) where
+  abbrev Chosen : Choice → Type 0
+  Chosen (Tree f) = P f
+  Chosen Unknown = Unit
 
-chosen-sound : (t : ℕ) → AllSound (figuresOf t)
-unfolding figuresOf
-chosen-sound t =
-    either (eqb t 1) borealSpruce _ borealSpruce-sound
-    (either (eqb t 2) birch _ birch-sound
-    (either (eqb t 3) continentalSpruce _ continentalSpruce-sound
-    (either (eqb t 4) beech _ beech-sound
-    (either (eqb t 5) oak _ oak-sound
-    (either (eqb t 6) evergreen Unknown evergreen-sound tt)))))
+  either : (t : Bool) (f : Figures) (rest : Choice) → P f → Chosen rest → Chosen (cond t (Tree f) rest)
+  either true f rest s r = s
+  either false f rest s r = r
+
+  pub figures-all :
+      P borealSpruce → P birch → P continentalSpruce → P beech → P oak → P evergreen →
+      (t : ℕ) (f : Figures) → figuresOf t ≡ Tree f → P f
+  unfolding figuresOf
+  figures-all a b c d e g t f chosen =
+      let all : Chosen (figuresOf t) =
+      either (eqb t 1) borealSpruce _ a
+      (either (eqb t 2) birch _ b
+      (either (eqb t 3) continentalSpruce _ c
+      (either (eqb t 4) beech _ d
+      (either (eqb t 5) oak _ e
+      (either (eqb t 6) evergreen Unknown g tt))))) in
+      rw chosen at all
 
 pub figures-sound : (t : ℕ) (f : Figures) → figuresOf t ≡ Tree f → Sound f
-figures-sound t f e = rw e at (chosen-sound t)
+figures-sound =
+    figures-all Sound borealSpruce-sound birch-sound continentalSpruce-sound beech-sound oak-sound evergreen-sound

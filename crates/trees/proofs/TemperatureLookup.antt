@@ -20,10 +20,10 @@ module _ (f : Figures) (x : ℕ) where
   pub inside-true : 10 * f .tmin < x → x < 10 * f .tmax → inside f x ≡ true
   inside-true low high = rw (lt-ltb (10 * f .tmin) x low) (lt-ltb x (10 * f .tmax) high)
 
-  pub outside-low : x ≤ 10 * f .tmin → inside f x ≡ false
+  outside-low : x ≤ 10 * f .tmin → inside f x ≡ false
   outside-low h = rw (le-ltb (10 * f .tmin) x h)
 
-  pub outside-high : 10 * f .tmin < x → 10 * f .tmax ≤ x → inside f x ≡ false
+  outside-high : 10 * f .tmin < x → 10 * f .tmax ≤ x → inside f x ≡ false
   outside-high low h = rw (lt-ltb (10 * f .tmin) x low) (le-ltb x (10 * f .tmax) h)
 
   pair-outside : inside f x ≡ false → bounds (f .fmin * 10000000) (f .fmin * 10000000) ≡ temperaturePair f x

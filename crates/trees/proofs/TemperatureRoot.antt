@@ -33,13 +33,13 @@ use native.Mathlib.Nat.{
 
 module _ (f : Figures) (x : ℕ) where
   -- the denominators of a^q and w^p, and their numerators
-  abbrev pub dens : ℕ
+  abbrev dens : ℕ
   dens = a f x .den ^ f .q * w f x .den ^ f .p
 
-  abbrev pub nums : ℕ
+  abbrev nums : ℕ
   nums = a f x .num ^ f .q * w f x .num ^ f .p
 
-  pub dens-pos : zero < dens
+  dens-pos : zero < dens
   dens-pos = mul-pos (one-le-pow (f .q) (a f x .den) (a f x .positive)) (one-le-pow (f .p) (w f x .den) (w f x .positive))
 
   tried-mono : {t u : ℕ} → t ≤ u → tried f x t ≤ tried f x u

@@ -1,6 +1,6 @@
 -- What the tree's number picks: its figures with its table, and the pair that the definition gives to that number.
 use Prim.Native.Nat.{ℕ, _<_, _≤_}
-use mathlib.Core.Path.{_≡_, refl, _∙_, subst⁻¹}
+use mathlib.Core.Path.{_≡_, refl, ap, sym, _∙_, subst⁻¹}
 use mathlib.Core.List.{List}
 use borrow.Author.Tests.{le-leb, lt-leb}
 use lib.Dec.{T}
@@ -21,11 +21,15 @@ pub picked :
 picked tree f {g} {ts} chosen e tested highest =
     (subst⁻¹ Sound e (figures-sound tree f chosen), (subst⁻¹ (λ (h : Figures). IsTable h ts) e (table-tested f ts tested), highest))
 
+pub temperatureOf-is : (choice : Choice) (f : Figures) (x : ℕ) → choice ≡ Tree f → x ≤ 1100 → temperatureOf choice x ≡ temperaturePair f x
+unfolding temperatureOf
+temperatureOf-is choice f x chosen highest = rw (chosen, le-leb x 1100 highest)
+
 pub pair-of :
     (tree : ℕ) (f : Figures) {g : Figures} {x : ℕ} {r : Bounds} → figuresOf tree ≡ Tree f → g ≡ f → x ≤ 1100 →
     r ≡ temperaturePair g x → r ≡ temperatureOf (figuresOf tree) x
-unfolding temperatureOf
-pair-of tree f {g} {x} {r} chosen e highest h = h ∙ rw (chosen, le-leb x 1100 highest, e)
+pair-of tree f {g} {x} chosen e highest h =
+    h ∙ ap (λ (m : Figures). temperaturePair m x) e ∙ sym (temperatureOf-is (figuresOf tree) f x chosen highest)
 
 pub too-high : (choice : Choice) (x : ℕ) → 1100 < x → record { lower = 0; upper = 0 } ≡ temperatureOf choice x
 unfolding temperatureOf

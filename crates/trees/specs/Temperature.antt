@@ -40,11 +40,11 @@ inside f x = ltb (10 * f .tmin) x && ltb x (10 * f .tmax)
 unfoldable pub temperatureAt : ℕ → Figures → ℕ → Frac
 temperatureAt k f x = cond (inside f x) (greater (f .fmin over 100) (rootAt k f x over 10 ^ k)) (f .fmin over 100)
 
--- what the root's place holds, but at least f_min, in units of 10⁻⁹
+-- the larger of f_min and t, in units of 10⁻⁹
 abbrev atLeast : Figures → ℕ → ℕ
 atLeast f t = max (f .fmin * 10 ^ 7) t
 
--- f_temp between two numbers of 10⁻⁹
+-- f_temp lies from lower to upper, in units of 10⁻⁹
 unfoldable pub temperaturePair : Figures → ℕ → Bounds
 temperaturePair f x =
     cond (inside f x) (record { lower = atLeast f (rootAt 9 f x); upper = atLeast f (rootAt 9 f x + 1) })

@@ -1,0 +1,90 @@
+-- The table's rule and the digits' lower bounds, each out of one computed test.
+use mathlib.Core.Path.{_≡_, _∙_, subst, sym}
+use mathlib.Core.Bool.{Bool, true, _&&_}
+use mathlib.Core.List.{List, [], _∷_}
+use mathlib.Core.Logic.{⊎-elim}
+use Prim.Native.Nat.{ℕ, zero, suc, _+_, _*_, _/_, _^_, _≤_, _<_}
+use native.Mathlib.Nat.{add-zero, zero-add, add-suc, suc-add, le-of-suc-le-suc, not-suc-le-zero, eq-or-lt-of-le, mul-le-mul-left, one-mul}
+use native.Mathlib.Omega.{arith}
+use lib.Dec.{T, eqb, eqb→eq, lit<, lit≤}
+use lib.ListN.{length, getD}
+use Rattle.exact.specs.Frac.{_over_, _≼_}
+use Rattle.exact.specs.Series.{decayAt}
+use Rattle.exact.proofs.SeriesCommon.{commonDen, commonNum}
+use Rattle.exact.proofs.SeriesBounds.{decayAt-down, restTest, decayAt-ge}
+use Rattle.trees.proofs.TemperatureTable.{and-left, and-right}
+use Rattle.flux.specs.Light.{digitTerms, decayEntry}
+use Rattle.flux.specs.DecayTable.{weight, IsTable}
+
+-- an entry on the common denominator, where it is cheap
+abbrev rounded : ℕ → ℕ
+rounded n = 10 ^ 9 * commonDen digitTerms 10000 / commonNum digitTerms n 10000
+
+pub decayEntry-is : (n : ℕ) → decayEntry n ≡ rounded n
+unfolding decayEntry
+decayEntry-is n = decayAt-down (10 ^ 9) digitTerms n 10000 (lit< tt)
+
+-- ---- the table
+
+abbrev everyTest : ℕ → List ℕ → Bool
+everyTest i [] = true
+everyTest i (e ∷ es) = eqb e (rounded (weight i)) && everyTest (suc i) es
+
+every-tested : (i : ℕ) (es : List ℕ) → T (everyTest i es) → (j : ℕ) → j < length es → getD es j 0 ≡ rounded (weight (i + j))
+every-tested i [] h j l = absurd (not-suc-le-zero l)
+every-tested i (e ∷ es) h zero l =
+    subst (λ (m : ℕ). e ≡ rounded (weight m)) (sym (add-zero i)) (eqb→eq e _ (and-left (eqb e (rounded (weight i))) (everyTest (suc i) es) h))
+every-tested i (e ∷ es) h (suc j) l =
+    subst (λ (m : ℕ). getD es j 0 ≡ rounded (weight m)) (suc-add i j ∙ sym (add-suc i j))
+    (every-tested (suc i) es (and-right (eqb e (rounded (weight i))) (everyTest (suc i) es) h) j (le-of-suc-le-suc l))
+
+module _ (table : List ℕ) where
+  abbrev pub tableTest : Bool
+  tableTest = eqb (length table) 300 && everyTest 0 table
+
+  pub table-tested : T tableTest → IsTable table
+  table-tested h = record {
+    whole = eqb→eq (length table) 300 (and-left (eqb (length table) 300) (everyTest 0 table) h);
+    entries =
+        λ i l.
+        subst (λ (m : ℕ). getD table i 0 ≡ rounded (weight m)) (zero-add i)
+        (every-tested 0 table (and-right (eqb (length table) 300) (everyTest 0 table) h) i l)
+        ∙ sym (decayEntry-is (weight i));
+  }
+
+-- ---- each digit of a place, below m
+
+abbrev digitsTest : ℕ → ℕ → Bool
+digitsTest place zero = true
+digitsTest place (suc m) = restTest (place * m) 10000 (rounded (place * m)) (10 ^ 9) digitTerms && digitsTest place m
+
+digits-tested :
+    (place m : ℕ) → T (digitsTest place m) → (i : ℕ) → i < m → T (restTest (place * i) 10000 (rounded (place * i)) (10 ^ 9) digitTerms)
+digits-tested place zero h i l = absurd (not-suc-le-zero l)
+digits-tested place (suc m) h i l =
+    let first : Bool = restTest (place * m) 10000 (rounded (place * m)) (10 ^ 9) digitTerms in
+    ⊎-elim
+    (λ e. subst (λ (j : ℕ). T (restTest (place * j) 10000 (rounded (place * j)) (10 ^ 9) digitTerms)) (sym e) (and-left first (digitsTest place m) h))
+    (λ s. digits-tested place m (and-right first (digitsTest place m) h) i s)
+    (eq-or-lt-of-le (le-of-suc-le-suc l))
+
+module _ (place m : ℕ) (place-pos : 0 < place) (near : place * m ≤ 10000 * suc digitTerms) (test : T (digitsTest place m)) where
+  digit-ge : (i : ℕ) → i < m → (k : ℕ) → decayEntry (place * i) over 10 ^ 9 ≼ decayAt k (place * i) 10000
+  digit-ge i l k =
+      rw (decayEntry-is (place * i))
+      (decayAt-ge (place * i) 10000 (rounded (place * i)) (10 ^ 9) (lit< tt) (lit< tt) digitTerms
+      (omega (arith, mul-le-mul-left place l)) (digits-tested place m test i l) k)
+
+-- ---- in base 100: n % 100, n / 100 % 100 and n / 10000
+
+pub ones-ge : (i : ℕ) → i < 100 → (k : ℕ) → decayEntry i over 10 ^ 9 ≼ decayAt k i 10000
+unfolding commonDen commonNum
+ones-ge i l k = subst (λ (n : ℕ). decayEntry n over 10 ^ 9 ≼ decayAt k n 10000) (one-mul i) (digit-ge 1 100 (lit< tt) (lit≤ tt) tt i l k)
+
+pub hundreds-ge : (i : ℕ) → i < 100 → (k : ℕ) → decayEntry (100 * i) over 10 ^ 9 ≼ decayAt k (100 * i) 10000
+unfolding commonDen commonNum
+hundreds-ge = digit-ge 100 100 (lit< tt) (lit≤ tt) tt
+
+pub myriads-ge : (i : ℕ) → i < 65 → (k : ℕ) → decayEntry (10000 * i) over 10 ^ 9 ≼ decayAt k (10000 * i) 10000
+unfolding commonDen commonNum
+myriads-ge = digit-ge 10000 65 (lit< tt) (lit≤ tt) tt

@@ -1,0 +1,28 @@
+-- What the hour's dose is, by what the tree's number names and what row 10 says.
+use Prim.Native.Nat.{ℕ}
+use mathlib.Core.Path.{_≡_}
+use Rattle.trees.specs.declared.Figures.{Figures}
+use Rattle.trees.specs.declared.Choice.{Choice}
+use Rattle.flux.specs.Pair.{lowerOf, upperOf}
+use Rattle.flux.specs.HourDose.{hourDoseOf}
+use Rattle.frames.specs.declared.Hour.{Hour}
+use Rattle.frames.specs.declared.Record.{Record}
+use Rattle.frames.specs.Answers.{accepted, refused}
+use Rattle.frames.specs.Ranges.{checked}
+
+module _ (choice : Choice) (first last : ℕ) (h : Hour) where
+  pub unknown-is : choice ≡ Choice.Unknown → refused (5, 0) ≡ hourDoseOf choice first last h
+  unfolding hourDoseOf
+  unknown-is e = rw e
+
+  pub refused-is :
+      (f : Figures) (row : ℕ × ℕ) → choice ≡ Choice.Tree f → checked (Record.Hour h) ≡ refused row →
+      refused row ≡ hourDoseOf choice first last h
+  unfolding hourDoseOf
+  refused-is f row e r = rw (e, r)
+
+  pub accepted-is :
+      (f : Figures) (lower upper : ℕ) → choice ≡ Choice.Tree f → checked (Record.Hour h) ≡ accepted tt →
+      lower ≡ lowerOf f first last h → upper ≡ upperOf f first last h → accepted (lower, upper) ≡ hourDoseOf choice first last h
+  unfolding hourDoseOf
+  accepted-is f lower upper e a l u = rw (e, a, l, u)

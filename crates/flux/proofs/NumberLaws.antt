@@ -1,0 +1,103 @@
+-- The code's numbers: what it computes from the terms of f_VPD, f_SW and f_phen is the opening's pair and the share's, and fits 64 bits.
+use Prim.Native.Nat.{ℕ, _+_, _-_, _*_, _/_, _^_, _≤_, _<_, max}
+use mathlib.Core.Path.{_≡_}
+use native.Mathlib.Nat.{mul-le-mul, mul-le-mul-left}
+use native.Mathlib.Omega.{arith}
+use mir.Syntax.{w64}
+use mir.Val.{Fits}
+use Rattle.exact.specs.declared.Fraction.{Fraction}
+use Rattle.exact.specs.Frac.{Frac, Is, natural, _≼_}
+use Rattle.exact.proofs.RoundingLaws.{times-down-le, times-up-le}
+use Rattle.trees.specs.declared.Figures.{Figures}
+use Rattle.trees.specs.Sound.{Sound}
+use Rattle.trees.specs.Phenology.{phenologyOf}
+use Rattle.trees.specs.Temperature.{temperaturePair}
+use Rattle.trees.specs.Deficit.{deficitOf}
+use Rattle.trees.specs.SoilWater.{soilWaterOf}
+use Rattle.trees.proofs.FactorLaws.{deficit-limits, soilWater-limits, phenology-limits}
+use Rattle.trees.proofs.TermLaws.{Small, deficit-small, soilWater-small, phenology-small}
+use Rattle.frames.specs.declared.Hour.{Hour}
+use Rattle.frames.specs.Layout.{soilNumber}
+use Rattle.flux.specs.Factor.{Factor}
+use Rattle.flux.specs.Light.{lightLow, lightUp}
+use Rattle.flux.specs.Conductance.{aboveOf}
+use Rattle.flux.specs.Pair.{openingLow, openingUp, shareLow, shareUp}
+
+-- ---- a number times a factor
+
+module _ (n : ℕ) (x : Fraction) (factor : Factor x) where
+  abbrev value : Frac
+  value = record { num = x .num; den = x .den; positive = factor .whole }
+
+  value-le : value ≼ natural 1
+  value-le = record { cross = omega (arith, factor .below) }
+
+  pub down-le : n * x .num / x .den ≤ n
+  down-le = times-down-le n {x = value} value-le
+
+  pub up-le : (n * x .num + (x .den - 1)) / x .den ≤ n
+  up-le = times-up-le n {x = value} value-le
+
+  module _ (small : n ≤ 10 ^ 9 + 1) where
+    product-le : n * x .num ≤ (10 ^ 9 + 1) * 10 ^ 6
+    product-le = omega (arith, mul-le-mul-left n (factor .below), mul-le-mul small (factor .small))
+
+    pub mul-fits : Fits w64 (n * x .num)
+    mul-fits = record { fits = omega (arith, product-le) }
+
+    pub up-fits : Fits w64 (n * x .num + (x .den - 1))
+    up-fits = record { fits = omega (arith, product-le, factor .small) }
+
+-- two numbers of 10⁻⁹
+pub product-lt : {a b : ℕ} → a ≤ 10 ^ 9 + 1 → b ≤ 10 ^ 9 + 1 → a * b + 10 ^ 11 < 10 ^ 19
+product-lt h k = omega (arith, mul-le-mul h k)
+
+-- ---- the factors
+
+factor-is : {r : Fraction} {x : Frac} → Is r x → x ≼ natural 1 → Small x → Factor r
+factor-is {r} {x} i below small = record {
+  whole = omega (arith, i .den, x .positive);
+  below = omega (arith, i .num, i .den, below .cross);
+  small = omega (arith, i .den, small .den);
+}
+
+module _ (f : Figures) (s : Sound f) {r : Fraction} where
+  pub deficit-factor : (vpd : ℕ) → Is r (deficitOf f vpd) → Factor r
+  deficit-factor vpd i = factor-is i (deficit-limits f s vpd .below) (deficit-small f s vpd)
+
+  pub soilWater-factor : (reading : ℕ) → Is r (soilWaterOf f reading) → Factor r
+  soilWater-factor reading i = factor-is i (soilWater-limits f s reading .below) (soilWater-small f s reading)
+
+  pub phenology-factor : (first last day temperature : ℕ) → Is r (phenologyOf f first last day temperature) → Factor r
+  phenology-factor first last day temperature i =
+      factor-is i (phenology-limits f s first last day temperature .below) (phenology-small f s first last day temperature)
+
+-- ---- the pairs
+
+module _ (f : Figures) (h : Hour) {vpd sw : Fraction} where
+  module _ (v : Is vpd (deficitOf f (h .vpd))) (w : Is sw (soilWaterOf f (soilNumber (h .soil)))) where
+    pub openingLow-is :
+        {t : ℕ} → t ≡ temperaturePair f (aboveOf (h .temperature)) .lower →
+        max (f .fmin * 10 ^ 7) (t * vpd .num / vpd .den * sw .num / sw .den) ≡ openingLow f h
+    unfolding openingLow
+    openingLow-is e = rw (e, v .num, v .den, w .num, w .den)
+
+    pub openingUp-is :
+        {t : ℕ} → t ≡ temperaturePair f (aboveOf (h .temperature)) .upper →
+        max (f .fmin * 10 ^ 7) (((t * vpd .num + (vpd .den - 1)) / vpd .den * sw .num + (sw .den - 1)) / sw .den) ≡ openingUp f h
+    unfolding openingUp
+    openingUp-is e = rw (e, v .num, v .den, w .num, w .den)
+
+module _ (f : Figures) (first last : ℕ) (h : Hour) {phen : Fraction} {light opening : ℕ} where
+  module _ (p : Is phen (phenologyOf f first last (h .day) (aboveOf (h .temperature)))) where
+    pub shareLow-is :
+        light ≡ lightLow f (h .ppfd) → opening ≡ openingLow f h →
+        light * phen .num / phen .den * opening / 10 ^ 11 ≡ shareLow f first last h
+    unfolding shareLow
+    shareLow-is l o = rw (l, o, p .num, p .den)
+
+    pub shareUp-is :
+        light ≡ lightUp f (h .ppfd) → opening ≡ openingUp f h →
+        ((light * phen .num + (phen .den - 1)) / phen .den * opening + (10 ^ 11 - 1)) / 10 ^ 11 ≡ shareUp f first last h
+    unfolding shareUp
+    shareUp-is l o = rw (l, o, p .num, p .den)

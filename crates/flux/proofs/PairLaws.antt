@@ -1,0 +1,52 @@
+-- The hour's pair encloses its dose and is at most 2 apart, where the bounds of the share enclose the share and are at most 3 apart.
+use Prim.Native.Nat.{ℕ, _+_, _^_, _≤_}
+use native.Mathlib.Nat.{le-refl}
+use native.Mathlib.Omega.{arith}
+use Rattle.exact.specs.Frac.{natural, _over_, _≼_}
+use Rattle.exact.proofs.FracLaws.{≼-trans}
+use Rattle.trees.specs.declared.Figures.{Figures}
+use Rattle.frames.specs.declared.Hour.{Hour}
+use Rattle.flux.specs.BoundaryLayer.{windRead}
+use Rattle.flux.specs.Conductance.{shareAt}
+use Rattle.flux.specs.Dose.{doseAt}
+use Rattle.flux.specs.Pair.{shareLow, shareUp, rootLow, lowerOf, upperOf}
+use Rattle.flux.proofs.BoundaryLaws.{rootUpAt-anti, rootLow-le, rootUpAt-le}
+use Rattle.flux.proofs.FluxLaws.{doseAt-is}
+use Rattle.flux.proofs.QuotientLaws.{quotient-under, quotient-over, lower-le-upper}
+use Rattle.flux.proofs.QuotientSizes.{quotient-gap, upper-le}
+
+module _ (f : Figures) (first last : ℕ) (h : Hour) where
+  -- from 6 decimals of the root on
+  pub lowerOf-under :
+      (k : ℕ) → 6 ≤ k → shareLow f first last h over 10 ^ 7 ≼ shareAt k f first last h →
+      natural (lowerOf f first last h) ≼ doseAt k f first last h
+  unfolding lowerOf
+  lowerOf-under k from6 share =
+      rw (doseAt-is k f first last h)
+      (quotient-under (f .gmax) (h .ozone) (shareLow f first last h) (rootLow (f .leaf) (h .wind) + 1) _ _ share
+      (≼-trans (rootUpAt-anti (f .leaf) (windRead (h .wind)) (omega arith) from6) (rootUpAt-le (f .leaf) (h .wind))))
+
+  pub upperOf-over :
+      (k : ℕ) → shareAt k f first last h ≼ shareUp f first last h over 10 ^ 7 →
+      doseAt k f first last h ≼ natural (upperOf f first last h)
+  unfolding upperOf
+  upperOf-over k share =
+      rw (doseAt-is k f first last h)
+      (quotient-over (f .gmax) (h .ozone) (shareUp f first last h) (rootLow (f .leaf) (h .wind)) _ _ share (rootLow-le (f .leaf) (h .wind) k))
+
+  pub lowerOf-le : shareLow f first last h ≤ shareUp f first last h → lowerOf f first last h ≤ upperOf f first last h
+  unfolding lowerOf upperOf
+  lowerOf-le order = lower-le-upper (f .gmax) (h .ozone) order (omega arith)
+
+  module _ (gmax-le : f .gmax ≤ 265) (ozone-le : h .ozone ≤ 5000) (share-le : shareUp f first last h ≤ 10000003) where
+    pub upperOf-le : upperOf f first last h ≤ 600000
+    unfolding upperOf
+    upperOf-le = upper-le (f .gmax) (h .ozone) (shareUp f first last h) (rootLow (f .leaf) (h .wind)) gmax-le ozone-le share-le
+
+    pub upperOf-gap :
+        shareLow f first last h ≤ shareUp f first last h → shareUp f first last h ≤ shareLow f first last h + 3 →
+        upperOf f first last h ≤ lowerOf f first last h + 2
+    unfolding lowerOf upperOf
+    upperOf-gap order near =
+        quotient-gap (f .gmax) (h .ozone) (shareUp f first last h) (rootLow (f .leaf) (h .wind)) gmax-le ozone-le share-le
+        (shareLow f first last h) (rootLow (f .leaf) (h .wind) + 1) order near (le-refl _)

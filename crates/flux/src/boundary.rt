@@ -1,0 +1,81 @@
+// √(leaf/wind), for Rb (document 01, "Factors").
+ghost use mathlib.Core.Path.{_≡_};
+ghost use Prim.Native.Nat.{_*_, _<_};
+ghost use lib.Dec.{leb};
+ghost use Rattle.exact.specs.Root.{greatest};
+ghost use Rattle.flux.specs.BoundaryLayer.{windRead};
+ghost use Rattle.flux.specs.Pair.{rootLow};
+
+// √n, rounded down: it lies from r to below r + gap, and each turn halves the gap.
+fn halving(n: u64) -> u64
+    requires { ⌜ n < 1125899906842624 ⌝ }
+    ensures { λ r. ⌜ r ≡ greatest (λ t. leb (t * t) n) n ⌝ }
+{
+    let mut r: u64 = 0;
+    let mut gap: u64 = if n < 1099511627776 { 1048576 } else { 33554432 };
+    while 1 < gap {
+        let half = gap / 2;
+        let middle = r + half;
+        if middle * middle <= n {
+            r = middle;
+        }
+        gap = gap - half;
+    }
+    r
+}
+
+// √n within 4 percent: for n from 4^(e-1) to below 4^e, (22·n/4^e + 11)/32 of 2^e.
+fn guess(n: u64) -> u64
+    requires { ⌜ n < 1125899906842624 ⌝ }
+{
+    let e = (65 - u64::leading_zeros(n)) / 2;
+    std::num::wrapping_add_u64(22 * (n >> e), 11 << e) / 32
+}
+
+// One step of Newton's towards √n.
+fn nearer(n: u64, r: u64) -> u64 {
+    if r < 1 {
+        return 0;
+    }
+    std::num::wrapping_add_u64(r, n / r) / 2
+}
+
+// r where it is √n, rounded down.
+fn tested(n: u64, r: u64) -> u64
+    requires { ⌜ n < 1125899906842624 ⌝ }
+    ensures { λ q. ⌜ q ≡ greatest (λ t. leb (t * t) n) n ⌝ }
+{
+    if 33554431 < r {
+        return halving(n);
+    }
+    if n < r * r {
+        return halving(n);
+    }
+    if (r + 1) * (r + 1) <= n {
+        return halving(n);
+    }
+    r
+}
+
+// √n, rounded down: two steps reach it nearly always.
+fn root(n: u64) -> u64
+    requires { ⌜ n < 1125899906842624 ⌝ }
+    ensures { λ r. ⌜ r ≡ greatest (λ t. leb (t * t) n) n ⌝ }
+{
+    let r = nearer(n, nearer(n, guess(n)));
+    tested(n, r)
+}
+
+// A wind under 10 cm/s is read as 10.
+fn read(wind: u16) -> u16
+    ensures { λ r. ⌜ r ≡ windRead wind ⌝ }
+{
+    if wind < 10 { 10 } else { wind }
+}
+
+// √(leaf/wind) in units of 10⁻⁶, rounded down, for a leaf in mm and a wind in cm/s.
+pub(crate) fn root_low(leaf: u16, wind: u16) -> u64
+    ensures { λ r. ⌜ r ≡ rootLow leaf wind ⌝ }
+{
+    root((leaf as u64) * 100000000000 / (read(wind) as u64))
+}

@@ -1,0 +1,44 @@
+// The hour's stomatal ozone dose (document 01, "Factors" and "The exact dose").
+mod boundary;
+mod decay;
+mod dose;
+mod hour;
+mod light;
+mod reading;
+mod share;
+
+use frames::Checked;
+use frames::Hour;
+use frames::Record;
+use frames::Refusal;
+use trees::Choice;
+ghost use mathlib.Core.Path.{_≡_};
+ghost use Rattle.trees.specs.Figures.{figuresOf};
+ghost use Rattle.flux.specs.HourDose.{hourDoseOf, dosedAs};
+ghost use Rattle.flux.specs.Enclosure.{Enclosure};
+
+// What an hour adds to POD1, in nmol m⁻²: at least lower and at most upper.
+pub enum Dosed {
+    Pair { lower: u64, upper: u64 },
+    Refused(Refusal),
+}
+
+// An hour's pair, for the tree with a number and the first and the last day of the period.
+pub fn hour_dose(tree: u8, first: u16, last: u16, h: Hour) -> Dosed
+    ensures { λ r. ⌜ dosedAs r ≡ hourDoseOf (figuresOf tree) first last h ⌝ }
+    ensures enclosure { λ _. ⌜ Enclosure ⌝ }
+{
+    let Choice::Tree(f) = trees::figures_of(tree) else {
+        return Dosed::Refused(Refusal::Tree);
+    };
+    let answer = frames::check(Record::Hour(h));
+    if let Checked::Refused(refusal) = answer {
+        return Dosed::Refused(refusal);
+    }
+    let t = trees::temperature::f_temp(tree, reading::above(h.temperature));
+    let s = hour::dosed(f, t, first, last, h);
+    Dosed::Pair {
+        lower: s.low,
+        upper: s.up,
+    }
+}

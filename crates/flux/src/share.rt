@@ -1,0 +1,73 @@
+// The share of the maximal conductance (document 01, "Factors"), rounded down and up: its parts in units of 10⁻⁹, the whole in units of 10⁻⁷.
+use exact::Fraction;
+ghost use mathlib.Core.Path.{_≡_};
+ghost use Prim.Native.Nat.{_+_, _-_, _*_, _/_, _^_, _≤_, max};
+ghost use Rattle.flux.specs.Factor.{Factor};
+
+// A number times a factor, rounded down.
+fn times_down(n: u64, x: Fraction) -> u64
+    requires number { ⌜ n ≤ 10 ^ 9 + 1 ⌝ }
+    requires factor { ⌜ Factor x ⌝ }
+    ensures is { λ r. ⌜ r ≡ n * x .num / x .den ⌝ }
+    ensures le { λ r. ⌜ r ≤ n ⌝ }
+{
+    n * x.num / x.den
+}
+
+// A number times a factor, rounded up.
+fn times_up(n: u64, x: Fraction) -> u64
+    requires number { ⌜ n ≤ 10 ^ 9 + 1 ⌝ }
+    requires factor { ⌜ Factor x ⌝ }
+    ensures is { λ r. ⌜ r ≡ (n * x .num + (x .den - 1)) / x .den ⌝ }
+    ensures le { λ r. ⌜ r ≤ n ⌝ }
+{
+    (n * x.num + (x.den - 1)) / x.den
+}
+
+// A number, but at least f_min, which is in percent.
+fn at_least(fmin: u16, n: u64) -> u64
+    ensures { λ r. ⌜ r ≡ max (fmin * 10 ^ 7) n ⌝ }
+{
+    let floor = (fmin as u64) * 10000000;
+    if floor < n { n } else { floor }
+}
+
+// max(f_min, f_temp·f_VPD·f_SW) from the lower bound of f_temp, rounded down.
+pub(crate) fn opening_low(fmin: u16, t: u64, vpd: Fraction, sw: Fraction) -> u64
+    requires number { ⌜ t ≤ 10 ^ 9 + 1 ⌝ }
+    requires vpd { ⌜ Factor vpd ⌝ }
+    requires sw { ⌜ Factor sw ⌝ }
+    ensures { λ r. ⌜ r ≡ max (fmin * 10 ^ 7) (t * vpd .num / vpd .den * sw .num / sw .den) ⌝ }
+{
+    at_least(fmin, times_down(times_down(t, vpd), sw))
+}
+
+// max(f_min, f_temp·f_VPD·f_SW) from the upper bound of f_temp, rounded up.
+pub(crate) fn opening_up(fmin: u16, t: u64, vpd: Fraction, sw: Fraction) -> u64
+    requires number { ⌜ t ≤ 10 ^ 9 + 1 ⌝ }
+    requires vpd { ⌜ Factor vpd ⌝ }
+    requires sw { ⌜ Factor sw ⌝ }
+    ensures { λ r. ⌜ r ≡ max (fmin * 10 ^ 7) (((t * vpd .num + (vpd .den - 1)) / vpd .den * sw .num + (sw .den - 1)) / sw .den) ⌝ }
+{
+    at_least(fmin, times_up(times_up(t, vpd), sw))
+}
+
+// f_phen × f_light × that, from the lower bounds, rounded down.
+pub(crate) fn share_low(light: u64, phen: Fraction, opening: u64) -> u64
+    requires light { ⌜ light ≤ 10 ^ 9 + 1 ⌝ }
+    requires phen { ⌜ Factor phen ⌝ }
+    requires opening { ⌜ opening ≤ 10 ^ 9 + 1 ⌝ }
+    ensures { λ r. ⌜ r ≡ light * phen .num / phen .den * opening / 10 ^ 11 ⌝ }
+{
+    times_down(light, phen) * opening / 100000000000
+}
+
+// f_phen × f_light × that, from the upper bounds, rounded up.
+pub(crate) fn share_up(light: u64, phen: Fraction, opening: u64) -> u64
+    requires light { ⌜ light ≤ 10 ^ 9 + 1 ⌝ }
+    requires phen { ⌜ Factor phen ⌝ }
+    requires opening { ⌜ opening ≤ 10 ^ 9 + 1 ⌝ }
+    ensures { λ r. ⌜ r ≡ ((light * phen .num + (phen .den - 1)) / phen .den * opening + (10 ^ 11 - 1)) / 10 ^ 11 ⌝ }
+{
+    (times_up(light, phen) * opening + 99999999999) / 100000000000
+}

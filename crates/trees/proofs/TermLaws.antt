@@ -1,0 +1,75 @@
+-- The denominators of f_VPD, f_SW and f_phen as they are worked out are at most 1,000,000, for any sound figures.
+use Prim.Native.Nat.{ℕ, _+_, _-_, _*_, _^_, _≤_}
+use mathlib.Core.Path.{_≡_, refl}
+use mathlib.Core.Bool.{Bool, true, false, cond, _&&_}
+use native.Mathlib.Omega.{arith}
+use lib.Dec.{ltb, leb}
+use Rattle.exact.specs.Frac.{Frac, _over_, natural, straight}
+use Rattle.trees.specs.declared.Measure.{Measure}
+use Rattle.trees.specs.declared.Measure.the-variants.{Suction, Water}
+use Rattle.trees.specs.declared.Phenology.{Phenology}
+use Rattle.trees.specs.declared.Phenology.the-variants.{Ramps, Dip, Temperature}
+use Rattle.trees.specs.declared.Figures.{Figures}
+use Rattle.trees.specs.Sound.{Sound, SoilSound}
+use Rattle.trees.specs.Deficit.{deficitOf}
+use Rattle.trees.specs.SoilWater.{drier, soilWaterOf}
+use Rattle.trees.specs.Phenology.{byRamps, byDip, byTemperature, phenologyOf}
+use Rattle.trees.proofs.PhenologyLaws.{phenology-ramps, phenology-dip, phenology-temperature}
+
+pub record Small (x : Frac) : Type 0 where
+  pub den : x .den ≤ 10 ^ 6
+
+cond-small : (t : Bool) {x y : Frac} → Small x → Small y → Small (cond t x y)
+cond-small true p q = p
+cond-small false p q = q
+
+straight-small : (from to d s : ℕ) → s ≤ 10000 → Small (straight from to d s)
+unfolding straight
+straight-small from to d s h =
+    cond-small (ltb d s) {x = ((s - d) * from + d * to) over (100 * s)} {y = to over 100} (record { den = omega arith }) (record { den = omega arith })
+
+drier-le : (m : Measure) (wet dry : ℕ) → SoilSound m wet dry → drier m wet dry ≤ 10000
+drier-le Suction wet dry s = omega arith
+drier-le Water wet dry s = omega arith
+
+dip-small : (day : ℕ) → Small (byDip day)
+unfolding byDip
+dip-small day =
+    let one : Small (natural 1) = record { den = omega arith } in
+    cond-small (leb day 80) one
+    (cond-small (ltb day 210) (straight-small 100 30 (day - 80) (210 - 80) (omega arith))
+    (cond-small (leb day 260) (record { den = omega arith })
+    (cond-small (ltb day 320) (straight-small 30 100 (day - 260) (320 - 260) (omega arith))
+    one)))
+
+temperature-small : (tmin tmax temperature : ℕ) → Small (byTemperature tmin tmax temperature)
+unfolding byTemperature
+temperature-small tmin tmax temperature =
+    cond-small (ltb (10 * tmin) temperature && ltb temperature (10 * tmax)) (record { den = omega arith }) (record { den = omega arith })
+
+module _ (f : Figures) (sound : Sound f) where
+  pub deficit-small : (vpd : ℕ) → Small (deficitOf f vpd)
+  unfolding deficitOf
+  deficit-small vpd = straight-small 100 (f .fmin) (vpd - f .vpdmax) (f .vpdmin - f .vpdmax) (omega (arith, sound .vpd))
+
+  pub soilWater-small : (reading : ℕ) → Small (soilWaterOf f reading)
+  unfolding soilWaterOf
+  soilWater-small reading =
+      straight-small 100 (f .fmin) (drier (f .measure) (f .soilmax) reading) (drier (f .measure) (f .soilmax) (f .soilmin))
+      (drier-le (f .measure) (f .soilmax) (f .soilmin) (sound .soil))
+
+  ramps-small : (first last day : ℕ) → Small (byRamps f first last day)
+  unfolding byRamps
+  ramps-small first last day =
+      cond-small (ltb (last - day) (f .f4))
+      (straight-small (f .e) 100 (last - day) (f .f4) (omega (arith, sound .f4)))
+      (straight-small (f .a) 100 (day - first) (f .f1) (omega (arith, sound .f1)))
+
+  by-kind-small : (kind : Phenology) → f .phenology ≡ kind → (first last day temperature : ℕ) → Small (phenologyOf f first last day temperature)
+  by-kind-small Ramps e first last day temperature = rw (phenology-ramps f first last day temperature e) (ramps-small first last day)
+  by-kind-small Dip e first last day temperature = rw (phenology-dip f first last day temperature e) (dip-small day)
+  by-kind-small Temperature e first last day temperature =
+      rw (phenology-temperature f first last day temperature e) (temperature-small (f .tmin) (f .tmax) temperature)
+
+  pub phenology-small : (first last day temperature : ℕ) → Small (phenologyOf f first last day temperature)
+  phenology-small first last day temperature = by-kind-small (f .phenology) refl first last day temperature
