@@ -1,13 +1,10 @@
 -- The code's numbers: what it computes from the terms of f_VPD, f_SW and f_phen is the opening's pair and the share's, and fits 64 bits.
 use Prim.Native.Nat.{ℕ, _+_, _-_, _*_, _/_, _^_, _≤_, _<_, max}
-use mathlib.Core.Path.{_≡_}
-use native.Mathlib.Nat.{mul-le-mul, mul-le-mul-left}
+use mathlib.Core.Path.{_≡_, sym}
+use native.Mathlib.Nat.{mul-le-mul, mul-le-mul-left, mul-div-cancel, mul-add-div-right, div-eq-of-lt}
 use native.Mathlib.Omega.{arith}
 use mir.Syntax.{w64}
 use mir.Val.{Fits}
-use Rattle.exact.specs.declared.Fraction.{Fraction}
-use Rattle.exact.specs.Frac.{Frac, Is, natural, _≼_}
-use Rattle.exact.proofs.RoundingLaws.{times-down-le, times-up-le}
 use Rattle.trees.specs.declared.Figures.{Figures}
 use Rattle.trees.specs.Sound.{Sound}
 use Rattle.trees.specs.Phenology.{phenologyOf}
@@ -16,12 +13,15 @@ use Rattle.trees.specs.Deficit.{deficitOf}
 use Rattle.trees.specs.SoilWater.{soilWaterOf}
 use Rattle.trees.proofs.FactorLaws.{deficit-limits, soilWater-limits, phenology-limits}
 use Rattle.trees.proofs.TermLaws.{Small, deficit-small, soilWater-small, phenology-small}
-use Rattle.frames.specs.declared.Hour.{Hour}
-use Rattle.frames.specs.Layout.{soilNumber}
 use Rattle.flux.specs.Factor.{Factor}
 use Rattle.flux.specs.Light.{lightLow, lightUp}
 use Rattle.flux.specs.Conductance.{aboveOf}
 use Rattle.flux.specs.Pair.{openingLow, openingUp, shareLow, shareUp}
+use Rattle.exact.specs.declared.Fraction.{Fraction}
+use Rattle.exact.specs.Frac.{Frac, Is, natural, _≼_}
+use Rattle.exact.proofs.RoundingLaws.{times-down-le, times-up-le}
+use Rattle.frames.specs.declared.Hour.{Hour}
+use Rattle.frames.specs.Layout.{soilNumber}
 
 -- ---- a number times a factor
 
@@ -101,3 +101,13 @@ module _ (f : Figures) (first last : ℕ) (h : Hour) {phen : Fraction} {light op
         ((light * phen .num + (phen .den - 1)) / phen .den * opening + (10 ^ 11 - 1)) / 10 ^ 11 ≡ shareUp f first last h
     unfolding shareUp
     shareUp-is l o = rw (l, o, p .num, p .den)
+
+-- ---- times 1
+
+pub one-down : (n num den : ℕ) → num ≡ den → 0 < den → n ≡ n * num / den
+one-down n num den e h = rw e (sym (mul-div-cancel n h))
+
+pub one-up : (n num den : ℕ) → num ≡ den → 0 < den → n ≡ (n * num + (den - 1)) / den
+one-up n num den e h =
+    let rest : (den - 1) / den ≡ 0 = div-eq-of-lt (omega arith) in
+    rw e (omega (arith, rest, mul-add-div-right h n (den - 1)))

@@ -1,5 +1,5 @@
 -- One counted hour's pair: two whole numbers, in nmol m⁻², that enclose the hour's exact dose (document 01, "The exact dose").
--- How the pair is made; what it is worth stands in proofs/: callers cite those laws, never this text.
+-- How the pair is made; what it is worth stands in Enclosure.antt: callers cite those laws, never this text.
 use Prim.Native.Nat.{ℕ, _+_, _-_, _*_, _/_, _^_, max}
 use lib.Dec.{leb}
 use Rattle.exact.specs.Frac.{Frac}

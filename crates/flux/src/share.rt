@@ -11,6 +11,9 @@ fn times_down(n: u64, x: Fraction) -> u64
     ensures is { λ r. ⌜ r ≡ n * x .num / x .den ⌝ }
     ensures le { λ r. ⌜ r ≤ n ⌝ }
 {
+    if x.num == x.den {
+        return n;
+    }
     n * x.num / x.den
 }
 
@@ -21,6 +24,9 @@ fn times_up(n: u64, x: Fraction) -> u64
     ensures is { λ r. ⌜ r ≡ (n * x .num + (x .den - 1)) / x .den ⌝ }
     ensures le { λ r. ⌜ r ≤ n ⌝ }
 {
+    if x.num == x.den {
+        return n;
+    }
     (n * x.num + (x.den - 1)) / x.den
 }
 

@@ -8,7 +8,7 @@ mod temperature;
 mod writing;
 
 ghost use mathlib.Core.Path.{_≡_};
-ghost use Rattle.frames.specs.Answers.{parsedAs, checkedAs, decodedAs};
+ghost use Rattle.frames.specs.Answers.{rowOf, parsedAs, checkedAs, decodedAs};
 ghost use Rattle.frames.specs.Frames.{parsedOf, soundOf, recordOf, readOf};
 ghost use Rattle.frames.specs.Ranges.{checked};
 ghost use Rattle.frames.specs.Writer.{Writes};
@@ -109,6 +109,27 @@ pub enum Decoded {
 pub enum Written {
     Bytes(usize),
     Refused(Refusal),
+}
+
+// A refusal's row in document 01, 1 to 13.
+pub fn row_of(refusal: Refusal) -> u8
+    ensures { λ r. ⌜ r ≡ rowOf «refusal» .0 ⌝ }
+{
+    match refusal {
+        Refusal::Length => 1,
+        Refusal::Digit => 2,
+        Refusal::Kind => 3,
+        Refusal::Turn => 4,
+        Refusal::Tree => 5,
+        Refusal::Year => 6,
+        Refusal::Period => 7,
+        Refusal::Level => 8,
+        Refusal::Due => 9,
+        Refusal::Range(_) => 10,
+        Refusal::Count => 11,
+        Refusal::Buffer => 12,
+        Refusal::Account => 13,
+    }
 }
 
 // A line to a frame: rows 1 to 3, in that order.

@@ -15,27 +15,9 @@ use frames::Refusal;
 use frames::Soil;
 use frames::Written;
 
-fn row(refusal: Refusal) -> u8 {
-    match refusal {
-        Refusal::Length => 1,
-        Refusal::Digit => 2,
-        Refusal::Kind => 3,
-        Refusal::Turn => 4,
-        Refusal::Tree => 5,
-        Refusal::Year => 6,
-        Refusal::Period => 7,
-        Refusal::Level => 8,
-        Refusal::Due => 9,
-        Refusal::Range(_) => 10,
-        Refusal::Count => 11,
-        Refusal::Buffer => 12,
-        Refusal::Account => 13,
-    }
-}
-
 fn print_refusal(refusal: Refusal) {
     print(b"row");
-    print_next(row(refusal) as u16);
+    print_next(frames::row_of(refusal) as u16);
     if let Refusal::Range(field) = refusal {
         print(b" field");
         print_next(field as u16);
@@ -165,7 +147,7 @@ fn refusal_mark(refusal: Refusal) -> u8 {
             _ => b'?',
         };
     }
-    let n = row(refusal);
+    let n = frames::row_of(refusal);
     match n {
         1..=8 => n + 48,
         _ => b'?',
