@@ -1,8 +1,8 @@
 #!/usr/bin/env python3
 """Writes crates/flux/src/decay.rt: exp(-n/10000) for each digit of n in base 100 (document 01, "Factors"), in whole-number arithmetic.
 
-An entry is 10^9 divided by 65 terms of the series of exp(n/10000), rounded down. The table proves itself in the crate: this script is
-trusted by nobody.
+An entry is 10^9 divided by 65 terms of the series of exp(n/10000), rounded down; a table ends at its last entry that is not 0. The tables
+prove themselves in the crate: this script is trusted by nobody.
 """
 from math import factorial
 from pathlib import Path
@@ -10,6 +10,7 @@ from pathlib import Path
 TERMS = 65
 SCALE = 10**9
 UNIT = 10000
+PLACES = {"ONES": 1, "HUNDREDS": 100, "MYRIADS": 10000}
 
 
 def entry(n: int) -> int:
@@ -19,14 +20,19 @@ def entry(n: int) -> int:
     return SCALE * den // num
 
 
+def table(place: int) -> list[int]:
+    return [e for e in (entry(digit * place) for digit in range(100)) if e > 0]
+
+
 def main() -> None:
-    entries = [entry(digit * 100**place) for place in range(3) for digit in range(100)]
     lines = [
-        "// exp(-n/10000) in units of 10⁻⁹, made by tools/decay_table.py: entry 100·p + d is that of n = d·100^p, with 65 terms, rounded down.",
-        f"pub(crate) const DECAY: [u32; {len(entries)}] = [",
-        *(f"    {e}," for e in entries),
-        "];",
+        "// exp(-n/10000) in units of 10⁻⁹, made by tools/decay_table.py: entry d of a place's table is that of n = d·place, with 65 terms, rounded",
+        "// down. Past a table's end it is 0. A table is copied where it is read, so each is short.",
     ]
+    for name, place in PLACES.items():
+        entries = table(place)
+        lines += [] if lines[-1].startswith("//") else [""]
+        lines += [f"pub(crate) const {name}: [u32; {len(entries)}] = [", *(f"    {e}," for e in entries), "];"]
     out = Path(__file__).resolve().parent.parent / "crates/flux/src/decay.rt"
     out.write_text("\n".join(lines) + "\n")
 

@@ -41,21 +41,28 @@ def entry(tmin: int, topt: int, tmax: int, tenths: int) -> int:
     return root_down(numerators // denominators, q)
 
 
-def table(tmin: int, topt: int, tmax: int) -> list[int]:
-    return [entry(tmin, topt, tmax, tenths) for tenths in range(10 * tmin + 1, min(10 * tmax, HIGHEST + 1))]
+def tables(tmin: int, topt: int, tmax: int) -> dict[int, list[int]]:
+    """The entries by their ten degrees: 10 has those of 10.0 to 19.9 °C, and 50 those up to 60.0 °C."""
+    out: dict[int, list[int]] = {}
+    for tenths in range(10 * tmin + 1, min(10 * tmax, HIGHEST + 1)):
+        out.setdefault(min(tenths // 100 * 10, 50), []).append(entry(tmin, topt, tmax, tenths))
+    return out
 
 
 def main() -> None:
     lines = [
         "// f_temp's tables, made by tools/temperature_tables.py: for each tenth of a degree above Tmin, below Tmax and up to 60.0 °C, a·w^(p/q)",
-        "// rounded down to nine decimals.",
+        "// rounded down to nine decimals. TEMPERATURE_10 has the entries of 10.0 to 19.9 °C: a table is copied where it is read, so each is short.",
         *(f"use crate::{tree};" for tree in sorted(TREES)),
     ]
     for tree, degrees in TREES.items():
-        entries = table(*degrees)
-        lines += ["", f"impl {tree} {{", f"    pub const TEMPERATURE: [u32; {len(entries)}] = ["]
-        lines += [f"        {t}," for t in entries]
-        lines += ["    ];", "}"]
+        lines += ["", f"impl {tree} {{"]
+        for ten, entries in tables(*degrees).items():
+            lines += [] if lines[-1].endswith("{") else [""]
+            lines += [f"    pub const TEMPERATURE_{ten}: [u32; {len(entries)}] = ["]
+            lines += [f"        {t}," for t in entries]
+            lines += ["    ];"]
+        lines += ["}"]
     out = Path(__file__).resolve().parent.parent / "crates/trees/src/tables.rt"
     out.write_text("\n".join(lines) + "\n")
 

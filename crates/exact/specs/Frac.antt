@@ -18,6 +18,7 @@ infixl 65 _⊘_
 infixl 60 _⊕_
 infixl 60 _⊖_
 infix 50 _≼_
+infix 50 _≺_
 infix 50 _≈_
 -- n / d; a divisor 0 is read as 1
 abbrev pub _over_ : ℕ → ℕ → Frac
@@ -48,12 +49,13 @@ x ⊘ y = x ⊗ inverse y
 pub record _≼_ (x y : Frac) : Type 0 where
   pub cross : x .num * y .den ≤ y .num * x .den
 
--- the greater and the lesser of two
+-- x < y
+pub record _≺_ (x y : Frac) : Type 0 where
+  pub cross : x .num * y .den < y .num * x .den
+
+-- the greater of two
 abbrev pub greater : Frac → Frac → Frac
 greater x y = cond (leb (x .num * y .den) (y .num * x .den)) y x
-
-abbrev pub lesser : Frac → Frac → Frac
-lesser x y = cond (leb (x .num * y .den) (y .num * x .den)) x y
 
 -- the same number, whatever its terms
 pub record _≈_ (x y : Frac) : Type 0 where

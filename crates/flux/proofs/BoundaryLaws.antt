@@ -63,45 +63,42 @@ resistanceAt-anti leaf wind h =
 -- ---- the root between two numbers
 
 module _ (leaf wind : ℕ) where
-  rootLow-under : rootLow leaf wind * rootLow leaf wind * windRead wind ≤ leaf * 10 ^ 11
+  rootLow-under : rootLow leaf wind * rootLow leaf wind * windRead wind ≤ leaf * 10 ^ 13
   unfolding rootLow
   rootLow-under =
-      le-trans (mul-le-mul-right (windRead wind) (root-under (leaf * 10 ^ 11 / windRead wind)))
-      (div-mul-le-self (leaf * 10 ^ 11) (windRead wind))
+      le-trans (mul-le-mul-right (windRead wind) (root-under (leaf * 10 ^ 13 / windRead wind)))
+      (div-mul-le-self (leaf * 10 ^ 13) (windRead wind))
 
-  rootLow-over : leaf * 10 ^ 11 ≤ (rootLow leaf wind + 1) * (rootLow leaf wind + 1) * windRead wind
+  rootLow-over : leaf * 10 ^ 13 ≤ (rootLow leaf wind + 1) * (rootLow leaf wind + 1) * windRead wind
   unfolding rootLow
   rootLow-over =
-      let n : ℕ = leaf * 10 ^ 11 / windRead wind in
-      le-trans (omega (arith, lt-div-mul-add {a = leaf * 10 ^ 11} (wind-blows wind))) (mul-le-mul-right (windRead wind) (root-over n))
+      let n : ℕ = leaf * 10 ^ 13 / windRead wind in
+      le-trans (omega (arith, lt-div-mul-add {a = leaf * 10 ^ 13} (wind-blows wind))) (mul-le-mul-right (windRead wind) (root-over n))
 
-  between : (r s t : ℕ) → r * r * windRead wind ≤ leaf * 10 ^ 11 → t * t * leaf ≤ s * s * (10 * windRead wind) → r * t ≤ s * 10 ^ 6
+  between : (r s t : ℕ) → r * r * windRead wind ≤ leaf * 10 ^ 13 → t * t * leaf ≤ s * s * (10 * windRead wind) → r * t ≤ s * 10 ^ 7
   between r s t h k =
       square-le
-      (le-of-mul-le-mul-right {k = 10 * windRead wind} (omega (arith, mul-le-mul-right (10 * (t * t)) h, mul-le-mul-right (10 ^ 12) k)) (omega arith))
+      (le-of-mul-le-mul-right {k = 10 * windRead wind} (omega (arith, mul-le-mul-right (10 * (t * t)) h, mul-le-mul-right (10 ^ 14) k)) (omega arith))
 
-  pub rootLow-le : (k : ℕ) → rootLow leaf wind over 10 ^ 6 ≼ rootUpAt k leaf (windRead wind) over 10 ^ k
+  pub rootLow-le : (k : ℕ) → rootLow leaf wind over 10 ^ 7 ≼ rootUpAt k leaf (windRead wind) over 10 ^ k
   rootLow-le k =
-      over-le (ten-pos 6) (ten-pos k)
+      over-le (ten-pos 7) (ten-pos k)
       (between (rootLow leaf wind) (rootUpAt k leaf (windRead wind)) (10 ^ k) rootLow-under
       (rw (twice k) at (rootUpAt-reaches k leaf (windRead wind) (wind-blows wind))))
 
-  pub rootUpAt-le : rootUpAt 6 leaf (windRead wind) over 10 ^ 6 ≼ (rootLow leaf wind + 1) over 10 ^ 6
+  pub rootUpAt-le : rootUpAt 7 leaf (windRead wind) over 10 ^ 7 ≼ (rootLow leaf wind + 1) over 10 ^ 7
   rootUpAt-le =
-      over-le (ten-pos 6) (ten-pos 6)
-      (mul-le-mul-right (10 ^ 6) (rootUpAt-least 6 leaf (windRead wind) (rootLow leaf wind + 1) (omega (arith, rootLow-over))))
+      over-le (ten-pos 7) (ten-pos 7)
+      (mul-le-mul-right (10 ^ 7) (rootUpAt-least 7 leaf (windRead wind) (rootLow leaf wind + 1) (omega (arith, rootLow-over))))
 
   -- a wind is read as 10 cm/s at least
-  rootLow-lt : (top : ℕ) → leaf * 10 ^ 10 < top * top → rootLow leaf wind < top
+  rootLow-lt : (top : ℕ) → leaf * 10 ^ 12 < top * top → rootLow leaf wind < top
   rootLow-lt top h =
       let read : 10 ≤ windRead wind = omega arith in
       square-lt (omega (arith, rootLow-under, mul-le-mul-left (rootLow leaf wind * rootLow leaf wind) read))
 
-  pub rootLow-70 : leaf ≤ 70 → rootLow leaf wind + 1 ≤ 840000
-  rootLow-70 h = omega (arith, rootLow-lt 840000 (omega arith))
-
-  pub rootLow-200 : leaf ≤ 200 → rootLow leaf wind + 1 ≤ 1414214
-  rootLow-200 h = omega (arith, rootLow-lt 1414214 (omega arith))
+  pub rootLow-200 : leaf ≤ 200 → rootLow leaf wind + 1 ≤ 14142136
+  rootLow-200 h = omega (arith, rootLow-lt 14142136 (omega arith))
 
 -- up to 2²⁵ a square stays within 2⁵⁰
 pub square-small : (m : ℕ) → m ≤ 33554432 → m * m ≤ 1125899906842624

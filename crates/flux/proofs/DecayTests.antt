@@ -7,14 +7,14 @@ use Prim.Native.Nat.{ℕ, zero, suc, _+_, _*_, _/_, _^_, _≤_, _<_}
 use native.Mathlib.Nat.{add-zero, zero-add, add-suc, suc-add, le-of-suc-le-suc, not-suc-le-zero, eq-or-lt-of-le, mul-le-mul-left, one-mul}
 use native.Mathlib.Omega.{arith}
 use lib.Dec.{T, eqb, eqb→eq, lit<, lit≤}
-use lib.ListN.{length, getD}
+use lib.ListN.{getD}
 use Rattle.exact.specs.Frac.{_over_, _≼_}
 use Rattle.exact.specs.Series.{decayAt}
 use Rattle.exact.proofs.SeriesCommon.{commonDen, commonNum}
 use Rattle.exact.proofs.SeriesBounds.{decayAt-down, restTest, decayAt-ge}
 use Rattle.trees.proofs.TemperatureTable.{and-left, and-right}
 use Rattle.flux.specs.Light.{digitTerms, decayEntry}
-use Rattle.flux.specs.DecayTable.{weight, IsTable}
+use Rattle.flux.specs.DecayTable.{IsTable}
 
 -- an entry on the common denominator, where it is cheap
 abbrev rounded : ℕ → ℕ
@@ -24,32 +24,39 @@ pub decayEntry-is : (n : ℕ) → decayEntry n ≡ rounded n
 unfolding decayEntry
 decayEntry-is n = decayAt-down (10 ^ 9) digitTerms n 10000 (lit< tt)
 
--- ---- the table
+-- ---- a place's table: each digit from d on, m of them, 0 past its end
 
-abbrev everyTest : ℕ → List ℕ → Bool
-everyTest i [] = true
-everyTest i (e ∷ es) = eqb e (rounded (weight i)) && everyTest (suc i) es
+abbrev everyTest : ℕ → ℕ → ℕ → List ℕ → Bool
+everyTest place d zero es = true
+everyTest place d (suc m) [] = eqb 0 (rounded (place * d)) && everyTest place (suc d) m []
+everyTest place d (suc m) (e ∷ es) = eqb e (rounded (place * d)) && everyTest place (suc d) m es
 
-every-tested : (i : ℕ) (es : List ℕ) → T (everyTest i es) → (j : ℕ) → j < length es → getD es j 0 ≡ rounded (weight (i + j))
-every-tested i [] h j l = absurd (not-suc-le-zero l)
-every-tested i (e ∷ es) h zero l =
-    subst (λ (m : ℕ). e ≡ rounded (weight m)) (sym (add-zero i)) (eqb→eq e _ (and-left (eqb e (rounded (weight i))) (everyTest (suc i) es) h))
-every-tested i (e ∷ es) h (suc j) l =
-    subst (λ (m : ℕ). getD es j 0 ≡ rounded (weight m)) (suc-add i j ∙ sym (add-suc i j))
-    (every-tested (suc i) es (and-right (eqb e (rounded (weight i))) (everyTest (suc i) es) h) j (le-of-suc-le-suc l))
+every-tested :
+    (place d m : ℕ) (es : List ℕ) → T (everyTest place d m es) → (i : ℕ) → i < m → getD es i 0 ≡ rounded (place * (d + i))
+every-tested place d zero es h i l = absurd (not-suc-le-zero l)
+every-tested place d (suc m) [] h zero l =
+    subst (λ (k : ℕ). 0 ≡ rounded (place * k)) (sym (add-zero d))
+    (eqb→eq 0 _ (and-left (eqb 0 (rounded (place * d))) (everyTest place (suc d) m []) h))
+every-tested place d (suc m) [] h (suc i) l =
+    subst (λ (k : ℕ). 0 ≡ rounded (place * k)) (suc-add d i ∙ sym (add-suc d i))
+    (every-tested place (suc d) m [] (and-right (eqb 0 (rounded (place * d))) (everyTest place (suc d) m []) h) i (le-of-suc-le-suc l))
+every-tested place d (suc m) (e ∷ es) h zero l =
+    subst (λ (k : ℕ). e ≡ rounded (place * k)) (sym (add-zero d))
+    (eqb→eq e _ (and-left (eqb e (rounded (place * d))) (everyTest place (suc d) m es) h))
+every-tested place d (suc m) (e ∷ es) h (suc i) l =
+    subst (λ (k : ℕ). getD es i 0 ≡ rounded (place * k)) (suc-add d i ∙ sym (add-suc d i))
+    (every-tested place (suc d) m es (and-right (eqb e (rounded (place * d))) (everyTest place (suc d) m es) h) i (le-of-suc-le-suc l))
 
-module _ (table : List ℕ) where
+module _ (place : ℕ) (table : List ℕ) where
   abbrev pub tableTest : Bool
-  tableTest = eqb (length table) 300 && everyTest 0 table
+  tableTest = everyTest place 0 100 table
 
-  pub table-tested : T tableTest → IsTable table
+  pub table-tested : T tableTest → IsTable place table
   table-tested h = record {
-    whole = eqb→eq (length table) 300 (and-left (eqb (length table) 300) (everyTest 0 table) h);
     entries =
-        λ i l.
-        subst (λ (m : ℕ). getD table i 0 ≡ rounded (weight m)) (zero-add i)
-        (every-tested 0 table (and-right (eqb (length table) 300) (everyTest 0 table) h) i l)
-        ∙ sym (decayEntry-is (weight i));
+        λ d l.
+        subst (λ (k : ℕ). getD table d 0 ≡ rounded (place * k)) (zero-add d) (every-tested place 0 100 table h d l)
+        ∙ sym (decayEntry-is (place * d));
   }
 
 -- ---- each digit of a place, below m

@@ -1,5 +1,5 @@
 -- The hour's pair encloses its dose, and the sums of the pairs enclose the dose of a list of hours, for any sound figures of the six trees' limits.
-use Prim.Native.Nat.{ℕ, _+_, _*_, _<_, _≤_}
+use Prim.Native.Nat.{ℕ, _+_, _*_, _^_, _≤_}
 use mathlib.Core.Path.{_≡_}
 use mathlib.Core.Bool.{Bool, true, false, cond}
 use mathlib.Core.List.{List, [], _∷_}
@@ -10,10 +10,11 @@ use Rattle.trees.specs.Figures.{figuresOf}
 use Rattle.trees.proofs.SoundLaws.{figures-all, figures-sound}
 use Rattle.flux.specs.BoundaryLayer.{windRead}
 use Rattle.flux.specs.Light.{lightAt}
-use Rattle.flux.specs.Dose.{doseAt, isCounted, podAt}
-use Rattle.flux.specs.Pair.{lowerOf, upperOf, shareLow, shareUp, rootLow, quotient}
+use Rattle.flux.specs.Conductance.{shareAt}
+use Rattle.flux.specs.Dose.{fluxAt, doseAt, isCounted, podAt}
+use Rattle.flux.specs.Pair.{lowerOf, upperOf, shareLow, shareUp}
 use Rattle.flux.specs.Enclosure.{Limited, HourEnclosed, lowers, AllChecked, SeasonEnclosed, Limits, Enclosure}
-use Rattle.exact.specs.Frac.{Frac, natural, _⊕_, _≼_}
+use Rattle.exact.specs.Frac.{Frac, natural, _over_, _⊕_, _≼_}
 use Rattle.exact.proofs.FracLaws.{≼-refl, ≼-trans, ⊕-mono}
 use Rattle.frames.specs.declared.Hour.{Hour}
 use Rattle.frames.specs.declared.Record.{Record}
@@ -24,7 +25,7 @@ use Rattle.flux.proofs.LightLaws.{lightAt-mono, lightTerms, light-low, 
 use Rattle.flux.proofs.BoundaryLaws.{rootUpAt-anti}
 use Rattle.flux.proofs.FluxLaws.{doseAt-is, dose-mono}
 use Rattle.flux.proofs.ShareLaws.{shareAt-mono, share-low, share-high, share-order, share-gap, shareUp-le}
-use Rattle.flux.proofs.PairLaws.{lowerOf-under, upperOf-over, lowerOf-le, upperOf-le, upperOf-gap}
+use Rattle.flux.proofs.PairLaws.{lowerOf-under, upperOf-over, lowerOf-le, upperOf-le, upperOf-gap, pair-none}
 
 -- ---- one hour
 
@@ -45,10 +46,12 @@ module _ (f : Figures) (lim : Limited f) (first last : ℕ) (h : Hour) where
     steep : f .lighta ≤ 200
     steep = lim .sound .lighta .1
 
+    share-under : shareLow f first last h over 10 ^ 7 ≼ shareAt lightTerms f first last h
+    share-under =
+        share-low f (lim .sound) first last h light-mono lightTerms (light-low f (h .ppfd) steep (range .ppfd)) lightTerms (omega arith) (omega arith)
+
     pub lower-under : natural (lowerOf f first last h) ≼ doseAt lightTerms f first last h
-    lower-under =
-        lowerOf-under f first last h lightTerms (omega arith)
-        (share-low f (lim .sound) first last h light-mono lightTerms (light-low f (h .ppfd) steep (range .ppfd)) lightTerms (omega arith) (omega arith))
+    lower-under = lowerOf-under f first last h lightTerms (omega arith) share-under
 
     pub upper-over : (k : ℕ) → doseAt k f first last h ≼ natural (upperOf f first last h)
     upper-over k = upperOf-over f first last h k (share-high f (lim .sound) first last h (light-high f (h .ppfd) steep (range .ppfd)) k)
@@ -63,10 +66,9 @@ module _ (f : Figures) (lim : Limited f) (first last : ℕ) (h : Hour) where
     near = omega (arith, share-gap f (lim .sound) first last h (lightUp-le f (h .ppfd)) (light-gap f (h .ppfd)) (light-order f (h .ppfd)))
 
     no-dose :
-        quotient (f .gmax) (h .ozone) (shareUp f first last h) (rootLow (f .leaf) (h .wind)) 0 < 3600 →
-        (lowerOf f first last h ≡ 0) × (upperOf f first last h ≡ 0)
-    unfolding upperOf
-    no-dose j = (omega (arith, j, lowerOf-le f first last h order), omega (arith, j))
+        ((k : ℕ) → fluxAt k f first last h ≼ 3598 over 3600) → (lowerOf f first last h ≡ 0) × (upperOf f first last h ≡ 0)
+    no-dose few =
+        pair-none f first last h (lim .gmax) (range .ozone) top order near lightTerms (omega arith) share-under (few lightTerms)
 
     pub hour-enclosed : HourEnclosed f first last h
     hour-enclosed = record {

@@ -17,6 +17,12 @@ flux gmax ozone x r =
 unfoldable pub dose : ℕ → ℕ → Frac → Frac → Frac
 dose gmax ozone x r = natural 3600 ⊗ (flux gmax ozone x r ⊖ natural 1)
 
+pub fluxAt-is :
+    (k : ℕ) (f : Figures) (first last : ℕ) (h : Hour) →
+    fluxAt k f first last h ≡ flux (f .gmax) (h .ozone) (shareAt k f first last h) (rootUpAt k (f .leaf) (windRead (h .wind)) over 10 ^ k)
+unfolding fluxAt conductanceAt resistanceAt flux
+fluxAt-is k f first last h = refl
+
 pub doseAt-is :
     (k : ℕ) (f : Figures) (first last : ℕ) (h : Hour) →
     doseAt k f first last h ≡ dose (f .gmax) (h .ozone) (shareAt k f first last h) (rootUpAt k (f .leaf) (windRead (h .wind)) over 10 ^ k)

@@ -13,7 +13,7 @@ unfoldable pub part : ℕ → ℕ → ℕ → ℕ
 part gmax p s = 39 * s * (gmax * p + 164000000)
 
 unfoldable pub divisor : ℕ → ℕ → ℕ → ℕ → ℕ
-divisor gmax p s more = 2050000000000 + more + part gmax p s / 40000
+divisor gmax p s more = 2050000000000 + more + part gmax p s / 400000
 
 pub quotient-is : (g o p s m : ℕ) → quotient g o p s m ≡ dividend g o p / divisor g p s m
 unfolding quotient dividend part divisor
@@ -47,7 +47,7 @@ part-gap : (g p q s t : ℕ) → g ≤ 265 → p ≤ q → q ≤ 10000003 → t 
 unfolding part
 part-gap g p q s t h k l m = omega (arith, mul-le-mul m (mul-le-mul-left g k), product-le g q h l)
 
-divisor-gap : (g p q s t : ℕ) → g ≤ 265 → p ≤ q → q ≤ 10000003 → t ≤ s + 1 → divisor g p t 1 ≤ divisor g q s 0 + 2743653
+divisor-gap : (g p q s t : ℕ) → g ≤ 265 → p ≤ q → q ≤ 10000003 → t ≤ s + 1 → divisor g p t 1 ≤ divisor g q s 0 + 274367
 unfolding divisor
 divisor-gap g p q s t h k l m = omega (arith, part-gap g p q s t h k l m)
 
@@ -59,7 +59,7 @@ quotient-small g o p s m h k l =
 
 -- the room between the dividends, and between the divisors as often as the quotient has them, is below one divisor
 apart :
-    (a b d e q r : ℕ) → q * d ≤ b → a < r * e + e → b ≤ a + 297361800000 → e ≤ d + 2743653 → r ≤ 483516 → 2050000000000 ≤ d →
+    (a b d e q r : ℕ) → q * d ≤ b → a < r * e + e → b ≤ a + 297361800000 → e ≤ d + 274367 → r ≤ 483516 → 2050000000000 ≤ d →
     q < r + 2
 apart a b d e q r hq hr hb he hs hd = lt-of-mul-lt-mul-right d (omega (arith, mul-le-mul-left (r + 1) he))
 
@@ -68,11 +68,12 @@ module _ (g o q s : ℕ) (g-le : g ≤ 265) (o-le : o ≤ 5000) (q-le : q ≤ 10
   pub upper-le : quotient g o q s 0 - 3599 ≤ 600000
   upper-le = omega (arith, quotient-small g o q s 0 g-le o-le q-le)
 
-  pub quotient-gap : (p t : ℕ) → p ≤ q → q ≤ p + 3 → t ≤ s + 1 → quotient g o q s 0 - 3599 ≤ (quotient g o p t 1 - 3600) + 2
-  quotient-gap p t order near root =
-      omega (
-        arith,
+  module _ (p t : ℕ) (order : p ≤ q) (near : q ≤ p + 3) (root : t ≤ s + 1) where
+    pub quotient-near : quotient g o q s 0 < quotient g o p t 1 + 2
+    quotient-near =
         apart (dividend g o p) (dividend g o q) (divisor g q s 0) (divisor g p t 1) (quotient g o q s 0) (quotient g o p t 1)
-            (quotient-le g o q s 0) (quotient-lt g o p t 1) (dividend-gap g o p q g-le o-le near) (divisor-gap g p q s t g-le order q-le root)
-            (quotient-small g o p t 1 g-le o-le (omega arith)) (divisor-ge g q s 0),
-      )
+        (quotient-le g o q s 0) (quotient-lt g o p t 1) (dividend-gap g o p q g-le o-le near) (divisor-gap g p q s t g-le order q-le root)
+        (quotient-small g o p t 1 g-le o-le (omega arith)) (divisor-ge g q s 0)
+
+    pub quotient-gap : quotient g o q s 0 - 3599 ≤ (quotient g o p t 1 - 3600) + 2
+    quotient-gap = omega (arith, quotient-near)

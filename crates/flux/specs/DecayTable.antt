@@ -1,13 +1,9 @@
--- The table of exp(-n/10000): entry 100·p + d is that of n = d·100^p, the digit d at the place p of base 100.
+-- A table of exp(-n/10000) for a place of base 100: entry d is that of n = place·d, and 0 stands for what is past its end.
 use mathlib.Core.Path.{_≡_}
 use mathlib.Core.List.{List}
-use Prim.Native.Nat.{ℕ, _*_, _/_, _%_, _^_, _<_}
-use lib.ListN.{length, getD}
+use Prim.Native.Nat.{ℕ, _*_, _<_}
+use lib.ListN.{getD}
 use Rattle.flux.specs.Light.{decayEntry}
 
-abbrev pub weight : ℕ → ℕ
-weight i = i % 100 * 100 ^ (i / 100)
-
-pub record IsTable (table : List ℕ) : Type 0 where
-  pub whole : length table ≡ 300
-  pub entries : (i : ℕ) → i < length table → getD table i 0 ≡ decayEntry (weight i)
+pub record IsTable (place : ℕ) (table : List ℕ) : Type 0 where
+  pub entries : (d : ℕ) → d < 100 → getD table d 0 ≡ decayEntry (place * d)

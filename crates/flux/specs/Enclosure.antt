@@ -1,9 +1,9 @@
 -- What the hour's pair is worth (document 01, "The exact dose"), for any sound figures with gmax up to 265 and any hour that row 10 lets pass.
-use Prim.Native.Nat.{ℕ, _+_, _*_, _<_, _≤_}
+use Prim.Native.Nat.{ℕ, _+_, _*_, _≤_}
 use mathlib.Core.Path.{_≡_}
 use mathlib.Core.Bool.{true, false, cond}
 use mathlib.Core.List.{List, [], _∷_}
-use Rattle.exact.specs.Frac.{Frac, _≼_}
+use Rattle.exact.specs.Frac.{_over_, _≼_}
 use Rattle.trees.specs.declared.Figures.{Figures}
 use Rattle.trees.specs.declared.Choice.{Choice}
 use Rattle.trees.specs.Figures.{figuresOf}
@@ -12,8 +12,8 @@ use Rattle.frames.specs.declared.Hour.{Hour}
 use Rattle.frames.specs.declared.Record.{Record}
 use Rattle.frames.specs.Answers.{accepted}
 use Rattle.frames.specs.Ranges.{checked}
-use Rattle.flux.specs.Dose.{doseAt, isCounted, excess, podAt, NotAbove, NotBelow}
-use Rattle.flux.specs.Pair.{shareUp, rootLow, quotient, lowerOf, upperOf}
+use Rattle.flux.specs.Dose.{fluxAt, doseAt, isCounted, excess, podAt, NotAbove, NotBelow}
+use Rattle.flux.specs.Pair.{lowerOf, upperOf}
 
 -- sound, within the six trees' limits
 pub record Limited (f : Figures) : Type 0 where
@@ -27,10 +27,8 @@ pub record HourEnclosed (f : Figures) (first last : ℕ) (h : Hour) : Type 0 whe
   pub gap : upperOf f first last h ≤ lowerOf f first last h + 2
   pub most : upperOf f first last h ≤ 600000
   pub grows : (k l : ℕ) → k ≤ l → doseAt k f first last h ≼ doseAt l f first last h
-  -- (0, 0) where 3600·F is surely below 3600
-  pub none :
-      quotient (f .gmax) (h .ozone) (shareUp f first last h) (rootLow (f .leaf) (h .wind)) 0 < 3600 →
-      (lowerOf f first last h ≡ 0) × (upperOf f first last h ≡ 0)
+  -- (0, 0) where F is surely not above 1
+  pub none : ((k : ℕ) → fluxAt k f first last h ≼ 3598 over 3600) → (lowerOf f first last h ≡ 0) × (upperOf f first last h ≡ 0)
 
 -- over the hours that are counted: their number, and the sums of the lower and of the upper numbers
 abbrev pub counted : List Hour → ℕ

@@ -42,13 +42,13 @@ unfoldable pub shareUp : Figures → ℕ → ℕ → Hour → ℕ
 shareUp f first last h =
     (timesUp (lightUp f (h .ppfd)) (phenologyOf f first last (h .day) (aboveOf (h .temperature))) * openingUp f h + (10 ^ 11 - 1)) / 10 ^ 11
 
--- √(leaf/wind) in units of 10⁻⁶: at least this, and below one more
+-- √(leaf/wind) in units of 10⁻⁷: at least this, and below one more
 unfoldable pub rootLow : ℕ → ℕ → ℕ
-rootLow leaf wind = let square = leaf * 10 ^ 11 / windRead wind in greatest (λ r. leb (r * r) square) square
+rootLow leaf wind = let square = leaf * 10 ^ 13 / windRead wind in greatest (λ r. leb (r * r) square) square
 
--- 3600·F, rounded down, at x = p/10⁷ and √(leaf/wind) = s/10⁶, its divisor rounded down, or up where `more` is 1
+-- 3600·F, rounded down, at x = p/10⁷ and √(leaf/wind) = s/10⁷, its divisor rounded down, or up where `more` is 1
 unfoldable pub quotient : ℕ → ℕ → ℕ → ℕ → ℕ → ℕ
-quotient gmax ozone p s more = 74808 * ozone * (gmax * p) / (2050000000000 + more + 39 * s * (gmax * p + 164000000) / 40000)
+quotient gmax ozone p s more = 74808 * ozone * (gmax * p) / (2050000000000 + more + 39 * s * (gmax * p + 164000000) / 400000)
 
 unfoldable pub lowerOf : Figures → ℕ → ℕ → Hour → ℕ
 lowerOf f first last h = quotient (f .gmax) (h .ozone) (shareLow f first last h) (rootLow (f .leaf) (h .wind) + 1) 1 - 3600

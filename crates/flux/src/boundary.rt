@@ -1,6 +1,6 @@
 // √(leaf/wind), for Rb (document 01, "Factors").
 ghost use mathlib.Core.Path.{_≡_};
-ghost use Prim.Native.Nat.{_*_, _<_};
+ghost use Prim.Native.Nat.{_*_, _≤_, _<_};
 ghost use lib.Dec.{leb};
 ghost use Rattle.exact.specs.Root.{greatest};
 ghost use Rattle.flux.specs.BoundaryLayer.{windRead};
@@ -73,9 +73,10 @@ fn read(wind: u16) -> u16
     if wind < 10 { 10 } else { wind }
 }
 
-// √(leaf/wind) in units of 10⁻⁶, rounded down, for a leaf in mm and a wind in cm/s.
+// √(leaf/wind) in units of 10⁻⁷, rounded down, for a leaf in mm and a wind in cm/s.
 pub(crate) fn root_low(leaf: u16, wind: u16) -> u64
+    requires { ⌜ leaf ≤ 200 ⌝ }
     ensures { λ r. ⌜ r ≡ rootLow leaf wind ⌝ }
 {
-    root((leaf as u64) * 100000000000 / (read(wind) as u64))
+    root((leaf as u64) * 10000000000000 / (read(wind) as u64))
 }

@@ -1,10 +1,12 @@
 // f_light = 1 - exp(-light_a × PPFD) (document 01, "Factors"), the exponential by its argument's digits in base 100.
-use crate::decay::DECAY;
+use crate::decay::HUNDREDS;
+use crate::decay::MYRIADS;
+use crate::decay::ONES;
 use trees::temperature::Bounds;
 ghost use mathlib.Core.Path.{_≡_};
-ghost use Prim.Native.Nat.{_*_, _≤_, _<_};
+ghost use Prim.Native.Nat.{_*_, _/_, _%_, _≤_, _<_};
 ghost use Rattle.flux.specs.Light.{decayEntry, decayLow, lightLowOf, lightUpOf};
-ghost use Rattle.flux.specs.DecayTable.{IsTable, weight};
+ghost use Rattle.flux.specs.DecayTable.{IsTable};
 
 // 1 in units of 10⁻⁹.
 const ONE: u64 = 1000000000;
@@ -12,24 +14,17 @@ const ONE: u64 = 1000000000;
 // How far exp(-n/10000) may lie above what `decay` gives, in units of 10⁻⁹.
 const SLACK: u64 = 7;
 
-fn entry(table: &[u32], i: usize) -> u64
-    requires table { ⌜ IsTable (now table) ⌝ }
-    requires within { ⌜ i < 300 ⌝ }
-    ensures { λ r. ⌜ r ≡ decayEntry (weight i) ⌝ }
+// exp(-m/10000) for m = n's digit at a place of base 100, times that place.
+fn entry(table: &[u32], place: usize, n: usize) -> u64
+    requires table { ⌜ IsTable place (now table) ⌝ }
+    requires place { ⌜ 0 < place ⌝ }
+    ensures { λ r. ⌜ r ≡ decayEntry (place * (n / place % 100)) ⌝ }
 {
-    table[i] as u64
-}
-
-fn by_digits(table: &[u32], n: u32) -> u64
-    requires table { ⌜ IsTable (now table) ⌝ }
-    requires digits { ⌜ n < 1000000 ⌝ }
-    ensures { λ r. ⌜ r ≡ decayLow n ⌝ }
-{
-    let m = n as usize;
-    let a = entry(table, m % 100);
-    let b = entry(table, 100 + m / 100 % 100);
-    let c = entry(table, 200 + m / 10000);
-    a * b / ONE * c / ONE
+    let d = n / place % 100;
+    if table.len() <= d {
+        return 0;
+    }
+    table[d] as u64
 }
 
 // exp(-n/10000), rounded down at each digit.
@@ -37,8 +32,14 @@ pub(crate) fn decay(n: u32) -> u64
     requires { ⌜ n < 1000000 ⌝ }
     ensures { λ r. ⌜ r ≡ decayLow n ⌝ }
 {
-    let t = DECAY;
-    by_digits(&t, n)
+    let m = n as usize;
+    let ones = ONES;
+    let a = entry(&ones, 1, m);
+    let hundreds = HUNDREDS;
+    let b = entry(&hundreds, 100, m);
+    let myriads = MYRIADS;
+    let c = entry(&myriads, 10000, m);
+    a * b / ONE * c / ONE
 }
 
 // f_light of light_a, in ten-thousandths, and PPFD.

@@ -1,9 +1,9 @@
 -- A digit says a number below 16 and is the one digit that says it; a byte is below 256 and a number below 65536.
-use Prim.Native.Nat.{ℕ, _+_, _-_, _≤_, _<_}
-use mathlib.Core.Path.{_≡_, sym, _∙_}
+use Prim.Native.Nat.{ℕ, zero, suc, _+_, _-_, _*_, _/_, _%_, _≤_, _<_}
+use mathlib.Core.Path.{_≡_, refl, sym, _∙_}
 use mathlib.Core.Bool.{Bool, true, false, true≢false, _&&_}
 use mathlib.Core.Logic.{_⊎_, inl, inr, ⊎-elim}
-use mathlib.Core.List.{List}
+use mathlib.Core.List.{List, [], _∷_}
 use native.Mathlib.Decide.{decLe}
 use native.Mathlib.Numerals.{add-one}
 use native.Mathlib.Omega.{arith}
@@ -11,6 +11,7 @@ use borrow.Author.Tests.{le-leb, lt-leb, lt-ltb, le-ltb}
 use lib.ListN.{length, getD, drop}
 use lib.Seq.{drop-cons}
 use Rattle.frames.specs.Digits.{isDigit, valueOf, allDigits, byteAt, numberAt, digitOf}
+use Rattle.frames.proofs.AnswerLaws.{and-both}
 
 -- where a byte lies: a decimal digit, a letter, or one of the three gaps
 pub data Place (c : ℕ) : Type 0 where
@@ -79,6 +80,17 @@ pub number-lt : (at : ℕ) (l : List ℕ) → numberAt at l < 65536
 unfolding numberAt
 number-lt at l = omega (arith, byte-lt at l, byte-lt (at + 2) l)
 
+-- a digit's value by its bits: the low four, and 9 more from 64 on
+said-bits : (c : ℕ) (at : Place c) → isOne c at ≡ true → c % 16 + 9 * (c / 64) ≡ said c at
+said-bits c (decimal p q) e = omega arith
+said-bits c (letter p q) e = omega arith
+said-bits c (under p) e = absurd (true≢false (sym e))
+said-bits c (between p q) e = absurd (true≢false (sym e))
+said-bits c (over p) e = absurd (true≢false (sym e))
+
+pub value-bits : (c : ℕ) → isDigit c ≡ true → c % 16 + 9 * (c / 64) ≡ valueOf c
+value-bits c e = said-bits c (place c) (digit-is c (place c) ∙ e) ∙ value-is c (place c)
+
 -- ---- the digit that says a number
 
 pub digit-low : (d : ℕ) → d < 10 → d + 48 ≡ digitOf d
@@ -113,6 +125,14 @@ digit-value c e = rw (← value-is c (place c)) (digit-said c (place c) (digit-i
 
 -- ---- a line of digits, from a place on
 
-pub all-step : (s : List ℕ) (i : ℕ) → i < length s → allDigits (drop i s) ≡ (isDigit (getD s i 0) && allDigits (drop (i + 1) s))
+pub all-step : (all : Bool) (s : List ℕ) (i : ℕ) → i < length s
+    → (all && allDigits (drop i s)) ≡ ((all && isDigit (getD s i 0)) && allDigits (drop (i + 1) s))
 unfolding allDigits
-all-step s i h = rw (add-one, drop-cons s i 0)
+all-step true s i h = rw (add-one, drop-cons s i 0)
+all-step false s i h = refl
+
+pub digit-at : (l : List ℕ) (i : ℕ) → allDigits l ≡ true → i < length l → isDigit (getD l i 0) ≡ true
+unfolding allDigits
+digit-at [] i e h = absurd (omega arith)
+digit-at (c ∷ l) zero e h = and-both (isDigit c) (allDigits l) e .0
+digit-at (c ∷ l) (suc i) e h = digit-at l i (and-both (isDigit c) (allDigits l) e .1) (omega arith)

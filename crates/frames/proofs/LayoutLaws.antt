@@ -1,5 +1,5 @@
 -- Numbers that fit their widths are read back from their digits, at any place; a line of digits is written back from the numbers read out of it.
-use Prim.Native.Nat.{ℕ, zero, suc, _+_, _*_, _/_, _%_, _≤_, _<_}
+use Prim.Native.Nat.{ℕ, suc, _+_, _*_, _/_, _%_, _≤_, _<_}
 use mathlib.Core.Path.{_≡_, refl, sym, ap, ap₂, _∙_}
 use mathlib.Core.Bool.{true}
 use mathlib.Core.List.{List, [], _∷_}
@@ -8,10 +8,9 @@ use native.Mathlib.Numerals.{add-one, add-two}
 use native.Mathlib.Omega.{arith}
 use lib.ListN.{length, getD, drop, drop-of-length-le}
 use lib.Seq.{drop-cons, drop-drop, getD-drop}
-use Rattle.frames.specs.Digits.{isDigit, valueOf, allDigits, byteAt, numberAt, digitOf, byte, number}
+use Rattle.frames.specs.Digits.{valueOf, allDigits, byteAt, numberAt, digitOf, byte, number}
 use Rattle.frames.specs.Layout.{Width, one, two, numbersAt, digitsOf}
-use Rattle.frames.proofs.DigitLaws.{value-lt, byte-lt, value-digit, digit-valid, digit-value}
-use Rattle.frames.proofs.AnswerLaws.{and-both}
+use Rattle.frames.proofs.DigitLaws.{value-lt, byte-lt, value-digit, digit-valid, digit-value, digit-at}
 
 abbrev pub powerOf : Width → ℕ
 powerOf one = 256
@@ -74,12 +73,6 @@ digits-valid (two ∷ ws) (n ∷ ns) f =
     byte-valid (n / 256) (byte (n % 256) (digitsOf ws ns)) (omega arith) low
 
 -- ---- read, then written
-
-digit-at : (l : List ℕ) (i : ℕ) → allDigits l ≡ true → i < length l → isDigit (getD l i 0) ≡ true
-unfolding allDigits
-digit-at [] i e h = absurd (omega arith)
-digit-at (c ∷ l) zero e h = and-both (isDigit c) (allDigits l) e .0
-digit-at (c ∷ l) (suc i) e h = digit-at l i (and-both (isDigit c) (allDigits l) e .1) (omega arith)
 
 module _ (l : List ℕ) (valid : allDigits l ≡ true) where
   cells : (at : ℕ) → at + 2 ≤ length l → drop at l ≡ getD l at 0 ∷ getD l (at + 1) 0 ∷ drop (at + 2) l

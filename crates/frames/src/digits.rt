@@ -1,6 +1,7 @@
 // Capital hexadecimal digits, and the numbers that two and four of them say, high byte first.
 ghost use mathlib.Core.Path.{_≡_};
 ghost use Prim.Native.Nat.{_+_, _≤_, _<_};
+ghost use mathlib.Core.Bool.{true};
 ghost use mathlib.Core.List.{[]};
 ghost use lib.ListN.{length};
 ghost use lib.Seq.{sets};
@@ -16,31 +17,30 @@ fn is_digit(c: u8) -> bool
     }
 }
 
+// 0 is the byte 48 and A the byte 65: a digit's value is its low four bits, and 9 more for a letter.
 fn value(c: u8) -> u8
+    requires { ⌜ isDigit c ≡ true ⌝ }
     ensures { λ r. ⌜ r ≡ valueOf c ⌝ }
 {
-    match c {
-        48..=57 => c - 48,
-        65..=70 => c - 55,
-        _ => 0,
-    }
+    c % 16 + 9 * (c / 64)
 }
 
+// No way out at a byte that is no digit, and `&`, not `&&`: with no branch the bytes are tested many at a time.
 pub(crate) fn all_digits(s: &[u8]) -> bool
     ensures { λ r. ⌜ r ≡ allDigits (now (s .entry)) ⌝ }
 {
+    let mut all = true;
     let mut i = 0;
     while i < s.len() {
-        if !is_digit(s[i]) {
-            return false;
-        }
+        all = all & is_digit(s[i]);
         i += 1;
     }
-    true
+    all
 }
 
 pub(crate) fn byte_at(s: &[u8], at: usize) -> u8
-    requires { ⌜ at + 2 ≤ length (now s) ⌝ }
+    requires inside { ⌜ at + 2 ≤ length (now s) ⌝ }
+    requires digits { ⌜ allDigits (now s) ≡ true ⌝ }
     ensures { λ r. ⌜ r ≡ byteAt at (now (s .entry)) ⌝ }
 {
     let high = value(s[at]);
@@ -49,7 +49,8 @@ pub(crate) fn byte_at(s: &[u8], at: usize) -> u8
 }
 
 pub(crate) fn number_at(s: &[u8], at: usize) -> u16
-    requires { ⌜ at + 4 ≤ length (now s) ⌝ }
+    requires inside { ⌜ at + 4 ≤ length (now s) ⌝ }
+    requires digits { ⌜ allDigits (now s) ≡ true ⌝ }
     ensures { λ r. ⌜ r ≡ numberAt at (now (s .entry)) ⌝ }
 {
     let high = byte_at(s, at) as u16;

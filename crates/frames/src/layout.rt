@@ -10,15 +10,17 @@ use crate::digits::number_at;
 use crate::temperature;
 use trees::Measure;
 ghost use mathlib.Core.Path.{_≡_};
+ghost use mathlib.Core.Bool.{true};
 ghost use Prim.Native.Nat.{_≤_};
 ghost use lib.ListN.{length};
-ghost use Rattle.frames.specs.Digits.{byteAt};
+ghost use Rattle.frames.specs.Digits.{allDigits, byteAt};
 ghost use Rattle.frames.specs.Kinds.{lengthOf};
 ghost use Rattle.frames.specs.Layout.{headerAt, hourAt, endAt, frameAt, soilOf, hourOf};
 
 // 01 | tree 1 | days 2 | first 2 | last 2 | level 2      20 digits
 fn header_at(s: &[u8]) -> Header
-    requires { ⌜ 20 ≤ length (now s) ⌝ }
+    requires inside { ⌜ 20 ≤ length (now s) ⌝ }
+    requires digits { ⌜ allDigits (now s) ≡ true ⌝ }
     ensures { λ r. ⌜ r ≡ headerAt (now (s .entry)) ⌝ }
 {
     Header {
@@ -32,7 +34,8 @@ fn header_at(s: &[u8]) -> Header
 
 // 02 | day 2 | hour 1 | ozone 2 | PPFD 2 | G 2 | T 2 | VPD 2 | wind 2 | soil 2      36 digits
 fn hour_at(s: &[u8]) -> RawHour
-    requires { ⌜ 36 ≤ length (now s) ⌝ }
+    requires inside { ⌜ 36 ≤ length (now s) ⌝ }
+    requires digits { ⌜ allDigits (now s) ≡ true ⌝ }
     ensures { λ r. ⌜ r ≡ hourAt (now (s .entry)) ⌝ }
 {
     RawHour {
@@ -50,7 +53,8 @@ fn hour_at(s: &[u8]) -> RawHour
 
 // 03 | number of hour frames 2      6 digits
 fn end_at(s: &[u8]) -> End
-    requires { ⌜ 6 ≤ length (now s) ⌝ }
+    requires inside { ⌜ 6 ≤ length (now s) ⌝ }
+    requires digits { ⌜ allDigits (now s) ≡ true ⌝ }
     ensures { λ r. ⌜ r ≡ endAt (now (s .entry)) ⌝ }
 {
     End {
@@ -60,8 +64,9 @@ fn end_at(s: &[u8]) -> End
 
 // The frame of a line of one of the three kinds.
 pub(crate) fn frame_at(s: &[u8]) -> Raw
-    requires { ⌜ 6 ≤ length (now s) ⌝ }
-    requires { ⌜ lengthOf (byteAt 0 (now s)) ≡ length (now s) ⌝ }
+    requires inside { ⌜ 6 ≤ length (now s) ⌝ }
+    requires digits { ⌜ allDigits (now s) ≡ true ⌝ }
+    requires kind { ⌜ lengthOf (byteAt 0 (now s)) ≡ length (now s) ⌝ }
     ensures { λ r. ⌜ r ≡ frameAt (now (s .entry)) ⌝ }
 {
     let kind = byte_at(s, 0);

@@ -1,10 +1,10 @@
 -- A table's rule at each of its entries, out of one test that is computed over the whole table.
-use Prim.Native.Nat.{ℕ, zero, suc, _+_, _*_, _<_, min}
+use Prim.Native.Nat.{ℕ, zero, suc, _+_, _<_}
 use mathlib.Core.Path.{_∙_, subst, sym}
 use mathlib.Core.Bool.{Bool, true, false, _&&_}
 use mathlib.Core.List.{List, [], _∷_}
 use native.Mathlib.Nat.{add-zero, add-suc, suc-add, le-of-suc-le-suc, not-suc-le-zero}
-use lib.Dec.{T, leb, ltb, eqb, leb→le, ltb→lt, eqb→eq}
+use lib.Dec.{T, leb, ltb, leb→le, ltb→lt}
 use lib.ListN.{length, getD}
 use Rattle.trees.specs.declared.Figures.{Figures}
 use Rattle.trees.specs.Temperature.{tried, allowed, IsGreatest}
@@ -48,19 +48,11 @@ entry-tested f x (t ∷ ts) h (suc i) l =
     subst (λ (m : ℕ). IsGreatest 9 f m (getD ts i 0)) (suc-add x i ∙ sym (add-suc x i))
     (entry-tested f (suc x) ts (and-right (greatestTest f x t) (everyTest f (suc x) ts) h) i (le-of-suc-le-suc l))
 
-module _ (f : Figures) (ts : List ℕ) where
-  abbrev lengthTest : Bool
-  lengthTest = eqb (10 * f .tmin + 1 + length ts) (min (10 * f .tmax) 1101)
-
+module _ (f : Figures) (from : ℕ) (ts : List ℕ) where
   abbrev pub tableTest : Bool
   unfolding tried allowed
-  tableTest = lengthTest && everyTest f (10 * f .tmin + 1) ts
+  tableTest = everyTest f from ts
 
-  pub table-tested : T tableTest → IsTable f ts
+  pub table-tested : T tableTest → IsTable f from ts
   unfolding tried allowed
-  table-tested h = record {
-    whole =
-        eqb→eq (10 * f .tmin + 1 + length ts) (min (10 * f .tmax) 1101)
-        (and-left lengthTest (everyTest f (10 * f .tmin + 1) ts) h);
-    entries = entry-tested f (10 * f .tmin + 1) ts (and-right lengthTest (everyTest f (10 * f .tmin + 1) ts) h);
-  }
+  table-tested h = record { entries = entry-tested f from ts h }

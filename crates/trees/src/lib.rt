@@ -1,5 +1,6 @@
 // The tree table of document 01: each tree's figures, as constants that belong to that tree's type.
 pub mod factors;
+mod lookups;
 pub mod phen;
 mod tables;
 pub mod temperature;

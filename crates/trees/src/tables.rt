@@ -1,5 +1,5 @@
 // f_temp's tables, made by tools/temperature_tables.py: for each tenth of a degree above Tmin, below Tmax and up to 60.0 °C, a·w^(p/q)
-// rounded down to nine decimals.
+// rounded down to nine decimals. TEMPERATURE_10 has the entries of 10.0 to 19.9 °C: a table is copied where it is read, so each is short.
 use crate::Beech;
 use crate::Birch;
 use crate::BorealSpruce;
@@ -8,7 +8,7 @@ use crate::Evergreen;
 use crate::Oak;
 
 impl BorealSpruce {
-    pub const TEMPERATURE: [u32; 600] = [
+    pub const TEMPERATURE_0: [u32; 99] = [
         12847913,
         25580369,
         38198059,
@@ -108,6 +108,9 @@ impl BorealSpruce {
         800273225,
         804707682,
         809080445,
+    ];
+
+    pub const TEMPERATURE_10: [u32; 100] = [
         813391944,
         817642608,
         821832861,
@@ -208,6 +211,9 @@ impl BorealSpruce {
         999873884,
         999944114,
         999986069,
+    ];
+
+    pub const TEMPERATURE_20: [u32; 100] = [
         1000000000,
         999986152,
         999944772,
@@ -308,6 +314,9 @@ impl BorealSpruce {
         901998342,
         900263669,
         898519422,
+    ];
+
+    pub const TEMPERATURE_30: [u32; 100] = [
         896765734,
         895002737,
         893230562,
@@ -408,6 +417,9 @@ impl BorealSpruce {
         699374295,
         697209243,
         695044068,
+    ];
+
+    pub const TEMPERATURE_40: [u32; 100] = [
         692878832,
         690713596,
         688548420,
@@ -508,6 +520,9 @@ impl BorealSpruce {
         490348298,
         488400607,
         486456750,
+    ];
+
+    pub const TEMPERATURE_50: [u32; 101] = [
         484516748,
         482580623,
         480648394,
@@ -613,7 +628,7 @@ impl BorealSpruce {
 }
 
 impl Birch {
-    pub const TEMPERATURE: [u32; 550] = [
+    pub const TEMPERATURE_0: [u32; 49] = [
         17313335,
         34414075,
         51304014,
@@ -663,6 +678,9 @@ impl Birch {
         610944834,
         620020527,
         628955851,
+    ];
+
+    pub const TEMPERATURE_10: [u32; 100] = [
         637752097,
         646410545,
         654932467,
@@ -763,6 +781,9 @@ impl Birch {
         999780668,
         999902915,
         999975827,
+    ];
+
+    pub const TEMPERATURE_20: [u32; 100] = [
         1000000000,
         999976023,
         999904485,
@@ -863,6 +884,9 @@ impl Birch {
         847054606,
         844510453,
         841956763,
+    ];
+
+    pub const TEMPERATURE_30: [u32; 100] = [
         839393776,
         836821727,
         834240848,
@@ -963,6 +987,9 @@ impl Birch {
         575665791,
         573017736,
         570374485,
+    ];
+
+    pub const TEMPERATURE_40: [u32; 100] = [
         567736107,
         565102672,
         562474246,
@@ -1063,6 +1090,9 @@ impl Birch {
         342337101,
         340373613,
         338417901,
+    ];
+
+    pub const TEMPERATURE_50: [u32; 101] = [
         336469964,
         334529803,
         332597419,
@@ -1168,7 +1198,7 @@ impl Birch {
 }
 
 impl ContinentalSpruce {
-    pub const TEMPERATURE: [u32; 349] = [
+    pub const TEMPERATURE_0: [u32; 99] = [
         15303161,
         30474871,
         45515413,
@@ -1268,6 +1298,9 @@ impl ContinentalSpruce {
         916211077,
         920173896,
         924035803,
+    ];
+
+    pub const TEMPERATURE_10: [u32; 100] = [
         927797152,
         931458299,
         935019601,
@@ -1368,6 +1401,9 @@ impl ContinentalSpruce {
         875077252,
         870910635,
         866685477,
+    ];
+
+    pub const TEMPERATURE_20: [u32; 100] = [
         862402300,
         858061630,
         853663995,
@@ -1468,6 +1504,9 @@ impl ContinentalSpruce {
         268975842,
         262279472,
         255605076,
+    ];
+
+    pub const TEMPERATURE_30: [u32; 50] = [
         248954100,
         242328022,
         235728352,
@@ -1522,7 +1561,7 @@ impl ContinentalSpruce {
 }
 
 impl Beech {
-    pub const TEMPERATURE: [u32; 279] = [
+    pub const TEMPERATURE_0: [u32; 49] = [
         19548796,
         38881232,
         57997945,
@@ -1572,6 +1611,9 @@ impl Beech {
         695486521,
         705578415,
         715485520,
+    ];
+
+    pub const TEMPERATURE_10: [u32; 100] = [
         725208548,
         734748215,
         744105238,
@@ -1672,6 +1714,9 @@ impl Beech {
         914499343,
         910043657,
         905488016,
+    ];
+
+    pub const TEMPERATURE_20: [u32; 100] = [
         900833467,
         896081063,
         891231862,
@@ -1772,6 +1817,9 @@ impl Beech {
         178254751,
         170664207,
         163147696,
+    ];
+
+    pub const TEMPERATURE_30: [u32; 30] = [
         155708978,
         148351945,
         141080629,
@@ -1806,7 +1854,7 @@ impl Beech {
 }
 
 impl Oak {
-    pub const TEMPERATURE: [u32; 349] = [
+    pub const TEMPERATURE_0: [u32; 99] = [
         8147186,
         16266767,
         24358694,
@@ -1906,6 +1954,9 @@ impl Oak {
         653471229,
         658664809,
         663824361,
+    ];
+
+    pub const TEMPERATURE_10: [u32; 100] = [
         668949795,
         674041018,
         679097938,
@@ -2006,6 +2057,9 @@ impl Oak {
         985937143,
         987109600,
         988232967,
+    ];
+
+    pub const TEMPERATURE_20: [u32; 100] = [
         989306990,
         990331411,
         991305969,
@@ -2106,6 +2160,9 @@ impl Oak {
         794466721,
         788219572,
         781841831,
+    ];
+
+    pub const TEMPERATURE_30: [u32; 50] = [
         775330824,
         768683748,
         761897675,
@@ -2160,7 +2217,7 @@ impl Oak {
 }
 
 impl Evergreen {
-    pub const TEMPERATURE: [u32; 379] = [
+    pub const TEMPERATURE_0: [u32; 89] = [
         8510497,
         16988320,
         25433435,
@@ -2250,6 +2307,9 @@ impl Evergreen {
         614024588,
         619539998,
         625018897,
+    ];
+
+    pub const TEMPERATURE_10: [u32; 100] = [
         630461230,
         635866940,
         641235972,
@@ -2350,6 +2410,9 @@ impl Evergreen {
         974195394,
         975711736,
         977183511,
+    ];
+
+    pub const TEMPERATURE_20: [u32; 100] = [
         978610599,
         979992879,
         981330231,
@@ -2450,6 +2513,9 @@ impl Evergreen {
         879198275,
         875352113,
         871437384,
+    ];
+
+    pub const TEMPERATURE_30: [u32; 90] = [
         867453583,
         863400197,
         859276700,

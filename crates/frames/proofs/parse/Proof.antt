@@ -40,12 +40,12 @@ returns-2 : tie.Need-returns-2
 unfolding parsedOf
 returns-2 c = simp (sized (c .before .before), sym (c .before .all-digits .ensures) ∙ not-true _ (c .if2 .taken))
 
-byte-at-requires : tie.Need-byte-at-requires
-byte-at-requires c κs = omega (arith, enough (c .before .before))
-
 -- past row 2
 whole : (c : tie.Else2) → allDigits (line₁ (c .before .before)) ≡ true
 whole c = sym (c .before .all-digits .ensures) ∙ not-false _ (c .if2 .left)
+
+byte-at-requires : tie.Need-byte-at-requires
+byte-at-requires c κs = (omega (arith, enough (c .before .before)), whole c)
 
 length-of-requires : tie.Need-length-of-requires
 length-of-requires c κs = search needs
@@ -68,7 +68,7 @@ fit : (c : tie.Else3) → lengthOf (byteAt 0 (line₃ (c .before))) ≡ length (
 fit c = sym (span (c .before)) ∙ c .if3 .left
 
 frame-at-requires : tie.Need-frame-at-requires
-frame-at-requires c κs = (enough (c .before .before .before .before .before), fit c)
+frame-at-requires c κs = (enough (c .before .before .before .before .before), (whole (c .before .before .before), fit c))
 
 returns-4 : tie.Need-returns-4
 unfolding parsedOf

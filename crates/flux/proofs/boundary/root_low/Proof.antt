@@ -7,7 +7,7 @@ use Rattle.flux.specs.Pair.{rootLow}
 use Rattle.flux.proofs.boundary.root_low.Statement.{statement}
 use Rattle.flux.proofs.boundary.root_low.Tie as tie
 
-tenth-lt : (n d : ℕ) → n < 6553600000000000 → 10 ≤ d → n / d < 1125899906842624
+tenth-lt : (n d : ℕ) → n ≤ 2000000000000000 → 10 ≤ d → n / d < 1125899906842624
 tenth-lt n d h k = omega (arith, div-mul-le-self n d, mul-le-mul-left (n / d) k)
 
 mul-root : tie.Need-mul-root

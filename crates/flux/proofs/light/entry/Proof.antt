@@ -1,8 +1,19 @@
--- `flux::light::entry` meets its contract, from what the table is.
+-- `flux::light::entry` meets its contract, from what a table is.
+use Prim.Native.Nat.{_/_, _%_}
+use mathlib.Core.Path.{_∙_, sym}
 use native.Mathlib.Omega.{arith}
 use borrow.Author.Needs.{needs}
+use lib.ListN.{List·getD-eq-default}
 use Rattle.flux.proofs.light.entry.Statement.{statement}
 use Rattle.flux.proofs.light.entry.Tie as tie
+
+div-d : tie.Need-div-d
+div-d c = search needs
+
+returns : tie.Need-returns
+returns c =
+    let a = c .before .args in
+    sym (List·getD-eq-default (a .table .now) 0 (c .if1 .taken)) ∙ c .before .pre .0 .entries (a .n / a .place % 100) (omega arith)
 
 mul-result : tie.Need-mul-result
 mul-result c = search needs
@@ -11,10 +22,10 @@ shared-slice-read-result : tie.Need-shared-slice-read-result
 shared-slice-read-result c = search needs
 
 cast-result : tie.Need-cast-result
-cast-result c = omega (arith, c .shared-slice-known .given (c .before .args .i))
+cast-result c = let a = c .before .before .args in omega (arith, c .shared-slice-known .given (a .n / a .place % 100))
 
-returns : tie.Need-returns
-returns c = c .before .pre .0 .entries (c .before .args .i) (search needs)
+returns-2 : tie.Need-returns-2
+returns-2 c = let a = c .before .before .args in c .before .before .pre .0 .entries (a .n / a .place % 100) (omega arith)
 
 pub entry-spec : {M : Type 1} → statement M
-entry-spec = tie.close (tie.spec mul-result shared-slice-read-result cast-result returns)
+entry-spec = tie.close (tie.spec div-d returns mul-result shared-slice-read-result cast-result returns-2)

@@ -1,9 +1,9 @@
--- `frames::digits::all_digits` meets its contract: what is left of the slice has the answer of the whole.
+-- `frames::digits::all_digits` meets its contract: what is tested and what is left of the slice have the answer of the whole.
 use Prim.Native.Nat.{_≤_, _-_}
 use mathlib.Core.Path.{_≡_, sym, _∙_}
+use mathlib.Core.Bool.{_&&_, and-true}
 use native.Mathlib.Omega.{arith}
 use borrow.Author.Needs.{needs}
-use borrow.Author.Tests.{not-true, not-false}
 use lib.ListN.{length, drop, drop-of-length-le}
 use Rattle.frames.specs.Digits.{allDigits}
 use Rattle.frames.proofs.DigitLaws.{all-step}
@@ -11,10 +11,10 @@ use Rattle.frames.proofs.digits.all_digits.Statement.{statement}
 use Rattle.frames.proofs.digits.all_digits.Tie as tie
 
 abbrev Inv-loop : tie.InvT-loop
-Inv-loop s i₀ i = (i ≤ length s) × (allDigits (drop i s) ≡ allDigits s)
+Inv-loop s all₀ i₀ all i = (i ≤ length s) × ((all && allDigits (drop i s)) ≡ allDigits s)
 
 abbrev μ-loop : tie.MeasureT-loop
-μ-loop s i₀ i = length s - i
+μ-loop s all₀ i₀ all i = length s - i
 
 loop-holds : tie.Need-loop-holds Inv-loop μ-loop
 loop-holds c = search needs
@@ -25,12 +25,6 @@ shared-slice-read-is-digit c = search needs
 is-digit-requires : tie.Need-is-digit-requires Inv-loop μ-loop
 is-digit-requires c κs = search needs
 
-returns : tie.Need-returns Inv-loop μ-loop
-returns c =
-    let l = c .before .before .before .before .before .before .args .s .now in
-    let i = c .before .before .before .before .loop .i in
-    cc (rw (sym (c .before .is-digit .ensures) ∙ not-true _ (c .if1 .taken)) at (all-step l i (omega arith)))
-
 add-i : tie.Need-add-i Inv-loop μ-loop
 add-i c = search needs
 
@@ -39,13 +33,16 @@ loop-less c = search needs
 
 loop-again : tie.Need-loop-again Inv-loop μ-loop
 loop-again c =
-    let l = c .before .before .before .before .before .before .args .s .now in
-    let i = c .before .before .before .before .loop .i in
-    (search needs, cc (rw (sym (c .before .is-digit .ensures) ∙ not-false _ (c .if1 .left)) at (all-step l i (omega arith))))
+    let l = c .before .before .before .before .before .args .s .now in
+    let loop = c .before .before .before .loop in
+    (search needs, rw (c .is-digit .ensures) (sym (all-step (loop .all) l (loop .i) (omega arith)) ∙ loop .inv .1))
 
-returns-2 : tie.Need-returns-2 Inv-loop μ-loop
+returns : tie.Need-returns Inv-loop μ-loop
 unfolding allDigits
-returns-2 c = let l = c .before .before .before .args .s .now in rw (drop-of-length-le l {i = c .before .loop .i} (omega arith)) at (c .before .loop .inv .1)
+returns c =
+    let l = c .before .before .before .args .s .now in
+    let loop = c .before .loop in
+    sym (and-true (loop .all)) ∙ rw (drop-of-length-le l {i = loop .i} (omega arith)) at (loop .inv .1)
 
 pub all-digits-spec : {M : Type 1} → statement M
 all-digits-spec =
@@ -56,8 +53,7 @@ all-digits-spec =
     loop-holds
     shared-slice-read-is-digit
     is-digit-requires
-    returns
     add-i
     loop-less
     loop-again
-    returns-2)
+    returns)

@@ -1,27 +1,17 @@
--- `frames::digits::value` meets its contract, by where the byte lies.
-use native.Mathlib.Omega.{arith}
+-- `frames::digits::value` meets its contract, by the bits of a digit.
 use borrow.Author.Needs.{needs}
-use Rattle.frames.proofs.DigitLaws.{decimal, letter, under, between, over, value-is}
+use Rattle.frames.proofs.DigitLaws.{value-bits}
 use Rattle.frames.proofs.digits.value.Statement.{statement}
 use Rattle.frames.proofs.digits.value.Tie as tie
 
-sub-result : tie.Need-sub-result
-sub-result c = search needs
+mul-result : tie.Need-mul-result
+mul-result c = search needs
+
+add-result : tie.Need-add-result
+add-result c = search needs
 
 returns : tie.Need-returns
-returns c = value-is _ (decimal (omega arith) (omega arith))
-
-returns-2 : tie.Need-returns-2
-returns-2 c = value-is _ (letter (omega arith) (omega arith))
-
-returns-3 : tie.Need-returns-3
-returns-3 c = value-is _ (under (omega arith))
-
-returns-4 : tie.Need-returns-4
-returns-4 c = value-is _ (between (omega arith) (omega arith))
-
-returns-5 : tie.Need-returns-5
-returns-5 c = value-is _ (over (omega arith))
+returns c = value-bits (c .args .c) (c .pre)
 
 pub value-spec : {M : Type 1} → statement M
-value-spec = tie.close (tie.spec sub-result returns returns-2 returns-3 returns-4 returns-5)
+value-spec = tie.close (tie.spec mul-result add-result returns)

@@ -16,11 +16,11 @@ byte-at-requires c κs = search needs
 
 header-at-requires : tie.Need-header-at-requires
 unfolding lengthOf
-header-at-requires c κs = let e = rw (sym (c .before .byte-at .ensures) ∙ c .match .keys1) at (c .before .before .before .pre .1) in omega arith
+header-at-requires c κs = let e = rw (sym (c .before .byte-at .ensures) ∙ c .match .keys1) at (c .before .before .before .pre .1 .1) in (omega arith, c .before .before .before .pre .1 .0)
 
 hour-at-requires : tie.Need-hour-at-requires
 unfolding lengthOf
-hour-at-requires c κs = let e = rw (sym (c .before .byte-at .ensures) ∙ c .match .keys2) at (c .before .before .before .pre .1) in omega arith
+hour-at-requires c κs = let e = rw (sym (c .before .byte-at .ensures) ∙ c .match .keys2) at (c .before .before .before .pre .1 .1) in (omega arith, c .before .before .before .pre .1 .0)
 
 end-at-requires : tie.Need-end-at-requires
 end-at-requires c κs = search needs

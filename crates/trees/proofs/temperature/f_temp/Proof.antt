@@ -1,112 +1,69 @@
--- `trees::temperature::f_temp` meets its contract: each tree's table passes one computed test.
-use mathlib.Core.Path.{refl}
+-- `trees::temperature::f_temp` meets its contract: a tree's number picks its figures.
 use native.Mathlib.Omega.{arith}
 use borrow.Author.Needs.{needs}
 use borrow.Author.Tests.{ne-eqb}
 use Rattle.trees.specs.Figures.{borealSpruce, birch, continentalSpruce, beech, oak, evergreen, figuresOf}
-use Rattle.trees.specs.Temperature.{tried, allowed, temperatureOf}
-use Rattle.trees.proofs.TemperatureTrees.{picked, pair-of, too-high}
+use Rattle.trees.specs.Temperature.{temperatureOf}
+use Rattle.trees.proofs.TemperatureTrees.{pair-of, too-high}
 use Rattle.trees.proofs.temperature.f_temp.Statement.{statement}
 use Rattle.trees.proofs.temperature.f_temp.Tie as tie
 
 returns : tie.Need-returns
 returns c = too-high _ _ (search needs)
 
-slice-aggregate-entry : tie.Need-slice-aggregate-entry
-slice-aggregate-entry c = search needs
+boreal-spruce-at-requires : tie.Need-boreal-spruce-at-requires
+boreal-spruce-at-requires c κs = search needs
 
-figures-requires : tie.Need-figures-requires
-figures-requires c κs = search needs
+birch-at-requires : tie.Need-birch-at-requires
+birch-at-requires c κs = search needs
 
-entry-requires : tie.Need-entry-requires
-unfolding figuresOf tried allowed
-entry-requires c κs = picked 1 borealSpruce refl (c .figures .ensures) tt (search needs)
+continental-spruce-at-requires : tie.Need-continental-spruce-at-requires
+continental-spruce-at-requires c κs = search needs
 
-slice-aggregate-entry-2 : tie.Need-slice-aggregate-entry-2
-slice-aggregate-entry-2 c = search needs
+beech-at-requires : tie.Need-beech-at-requires
+beech-at-requires c κs = search needs
 
-figures-requires-2 : tie.Need-figures-requires-2
-figures-requires-2 c κs = search needs
+oak-at-requires : tie.Need-oak-at-requires
+oak-at-requires c κs = search needs
 
-entry-requires-2 : tie.Need-entry-requires-2
-unfolding figuresOf tried allowed
-entry-requires-2 c κs = picked 2 birch refl (c .figures2 .ensures) tt (search needs)
-
-slice-aggregate-entry-3 : tie.Need-slice-aggregate-entry-3
-slice-aggregate-entry-3 c = search needs
-
-figures-requires-3 : tie.Need-figures-requires-3
-figures-requires-3 c κs = search needs
-
-entry-requires-3 : tie.Need-entry-requires-3
-unfolding figuresOf tried allowed
-entry-requires-3 c κs = picked 3 continentalSpruce refl (c .figures3 .ensures) tt (search needs)
-
-slice-aggregate-entry-4 : tie.Need-slice-aggregate-entry-4
-slice-aggregate-entry-4 c = search needs
-
-figures-requires-4 : tie.Need-figures-requires-4
-figures-requires-4 c κs = search needs
-
-entry-requires-4 : tie.Need-entry-requires-4
-unfolding figuresOf tried allowed
-entry-requires-4 c κs = picked 4 beech refl (c .figures4 .ensures) tt (search needs)
-
-slice-aggregate-entry-5 : tie.Need-slice-aggregate-entry-5
-slice-aggregate-entry-5 c = search needs
-
-figures-requires-5 : tie.Need-figures-requires-5
-figures-requires-5 c κs = search needs
-
-entry-requires-5 : tie.Need-entry-requires-5
-unfolding figuresOf tried allowed
-entry-requires-5 c κs = picked 5 oak refl (c .figures5 .ensures) tt (search needs)
-
-slice-aggregate-entry-6 : tie.Need-slice-aggregate-entry-6
-slice-aggregate-entry-6 c = search needs
-
-figures-requires-6 : tie.Need-figures-requires-6
-figures-requires-6 c κs = search needs
-
-entry-requires-6 : tie.Need-entry-requires-6
-unfolding figuresOf tried allowed
-entry-requires-6 c κs = picked 6 evergreen refl (c .figures6 .ensures) tt (search needs)
+evergreen-at-requires : tie.Need-evergreen-at-requires
+evergreen-at-requires c κs = search needs
 
 returns-2 : tie.Need-returns-2
 unfolding figuresOf
 returns-2 c =
-    let m = c .before .before .before in
-    pair-of (m .before .before .args .tree) borealSpruce (rw (m .match .keys1)) (c .before .figures .ensures) (search needs) (c .entry .ensures)
+    let m = c .before in
+    pair-of (m .before .before .args .tree) borealSpruce (rw (m .match .keys1)) (search needs) (c .boreal-spruce-at .ensures)
 
 returns-3 : tie.Need-returns-3
 unfolding figuresOf
 returns-3 c =
-    let m = c .before .before .before in
-    pair-of (m .before .before .args .tree) birch (rw (m .match .keys2)) (c .before .figures2 .ensures) (search needs) (c .entry2 .ensures)
+    let m = c .before in
+    pair-of (m .before .before .args .tree) birch (rw (m .match .keys2)) (search needs) (c .birch-at .ensures)
 
 returns-4 : tie.Need-returns-4
 unfolding figuresOf
 returns-4 c =
-    let m = c .before .before .before in
-    pair-of (m .before .before .args .tree) continentalSpruce (rw (m .match .keys3)) (c .before .figures3 .ensures) (search needs) (c .entry3 .ensures)
+    let m = c .before in
+    pair-of (m .before .before .args .tree) continentalSpruce (rw (m .match .keys3)) (search needs) (c .continental-spruce-at .ensures)
 
 returns-5 : tie.Need-returns-5
 unfolding figuresOf
 returns-5 c =
-    let m = c .before .before .before in
-    pair-of (m .before .before .args .tree) beech (rw (m .match .keys4)) (c .before .figures4 .ensures) (search needs) (c .entry4 .ensures)
+    let m = c .before in
+    pair-of (m .before .before .args .tree) beech (rw (m .match .keys4)) (search needs) (c .beech-at .ensures)
 
 returns-6 : tie.Need-returns-6
 unfolding figuresOf
 returns-6 c =
-    let m = c .before .before .before in
-    pair-of (m .before .before .args .tree) oak (rw (m .match .keys5)) (c .before .figures5 .ensures) (search needs) (c .entry5 .ensures)
+    let m = c .before in
+    pair-of (m .before .before .args .tree) oak (rw (m .match .keys5)) (search needs) (c .oak-at .ensures)
 
 returns-7 : tie.Need-returns-7
 unfolding figuresOf
 returns-7 c =
-    let m = c .before .before .before in
-    pair-of (m .before .before .args .tree) evergreen (rw (m .match .keys6)) (c .before .figures6 .ensures) (search needs) (c .entry6 .ensures)
+    let m = c .before in
+    pair-of (m .before .before .args .tree) evergreen (rw (m .match .keys6)) (search needs) (c .evergreen-at .ensures)
 
 returns-8 : tie.Need-returns-8
 unfolding figuresOf temperatureOf
@@ -126,24 +83,12 @@ f-temp-spec =
     tie.close
     (tie.spec
     returns
-    slice-aggregate-entry
-    figures-requires
-    entry-requires
-    slice-aggregate-entry-2
-    figures-requires-2
-    entry-requires-2
-    slice-aggregate-entry-3
-    figures-requires-3
-    entry-requires-3
-    slice-aggregate-entry-4
-    figures-requires-4
-    entry-requires-4
-    slice-aggregate-entry-5
-    figures-requires-5
-    entry-requires-5
-    slice-aggregate-entry-6
-    figures-requires-6
-    entry-requires-6
+    boreal-spruce-at-requires
+    birch-at-requires
+    continental-spruce-at-requires
+    beech-at-requires
+    oak-at-requires
+    evergreen-at-requires
     returns-2
     returns-3
     returns-4

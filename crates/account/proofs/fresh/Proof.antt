@@ -1,0 +1,11 @@
+-- `account::fresh` meets its contract, the season's promise among it.
+use mathlib.Core.Path.{refl}
+use Rattle.account.proofs.RunLaws.{season}
+use Rattle.account.proofs.fresh.Statement.{statement}
+use Rattle.account.proofs.fresh.Tie as tie
+
+returns : tie.Need-returns
+returns c = (refl, season)
+
+pub fresh-spec : {M : Type 1} → statement M
+fresh-spec = tie.close (tie.spec returns)

@@ -1,0 +1,4 @@
+pub mod Account
+pub mod Rules
+pub mod Book
+pub mod Promise
