@@ -1,5 +1,5 @@
 #!/usr/bin/env python3
-"""Writes crates/trees/src/tables.rt: each tree's f_temp table (document 01, "Factors"), in whole-number arithmetic.
+"""Writes crates/tables/src/values.rt: each tree's f_temp table (document 01, "Factors"), in whole-number arithmetic.
 
 An entry is the greatest whole t with t/10^9 not above a·w^(p/q). The crate's proofs test every entry, so nothing rests on this script.
 """
@@ -53,17 +53,16 @@ def main() -> None:
     lines = [
         "// f_temp's tables, made by tools/temperature_tables.py: for each tenth of a degree above Tmin, below Tmax and up to 60.0 °C, a·w^(p/q)",
         "// rounded down to nine decimals. TEMPERATURE_10 has the entries of 10.0 to 19.9 °C: a table is copied where it is read, so each is short.",
-        *(f"use crate::{tree};" for tree in sorted(TREES)),
     ]
     for tree, degrees in TREES.items():
-        lines += ["", f"impl {tree} {{"]
+        lines += ["", f"pub(crate) struct {tree};", "", f"impl {tree} {{"]
         for ten, entries in tables(*degrees).items():
             lines += [] if lines[-1].endswith("{") else [""]
             lines += [f"    pub const TEMPERATURE_{ten}: [u32; {len(entries)}] = ["]
             lines += [f"        {t}," for t in entries]
             lines += ["    ];"]
         lines += ["}"]
-    out = Path(__file__).resolve().parent.parent / "crates/trees/src/tables.rt"
+    out = Path(__file__).resolve().parent.parent / "crates/tables/src/values.rt"
     out.write_text("\n".join(lines) + "\n")
 
 

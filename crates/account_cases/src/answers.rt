@@ -1,13 +1,10 @@
 // Answers as words.
 use crate::text::print;
 use crate::text::print_next;
-use crate::text::print_number;
 use account::Account;
 use account::Fed;
-use account::Reading;
-use account::Totals;
-use account::Verdict;
 use frames::Refusal;
+use frames::Written;
 
 fn print_refusal(refusal: Refusal) {
     print(b"refused");
@@ -31,29 +28,20 @@ pub(crate) fn print_fed(answer: Fed) -> Account {
     }
 }
 
-fn print_verdict(verdict: Verdict) {
-    match verdict {
-        Verdict::None => print(b" none"),
-        Verdict::Undecided => print(b" undecided"),
-        Verdict::Exceeded => print(b" exceeded"),
-        Verdict::Below => print(b" below"),
+// The account's line by the formatter, or row 13.
+fn print_line(held: Account, line: &mut [u8]) {
+    let written = report::format(held, line);
+    match written {
+        Written::Bytes(n) => print(&line[..n]),
+        Written::Refused(refusal) => {
+            print_refusal(refusal);
+            print(b"\n");
+        },
     }
 }
 
-fn print_totals(totals: Totals) {
-    print_number(totals.hours as u64);
-    print_next(totals.counted as u64);
-    print_next(totals.lower);
-    print_next(totals.upper);
-    print_next(totals.aot40 as u64);
-    let verdict = totals.verdict;
-    print_verdict(verdict);
-}
-
-// What a reading answers.
-pub(crate) fn print_reading(reading: Reading) {
-    match reading {
-        Reading::Given(totals) => print_totals(totals),
-        Reading::Refused(refusal) => print_refusal(refusal),
-    }
+// What reading an account gives.
+pub(crate) fn print_reading(held: Account) {
+    let mut line = [0; 128];
+    print_line(held, &mut line);
 }

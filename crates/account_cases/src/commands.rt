@@ -10,8 +10,7 @@ ghost use lib.ListN.{length};
 
 // The account's reading, and the account.
 fn shown(held: Account) -> Account {
-    print_reading(account::read(held));
-    print(b"\n");
+    print_reading(held);
     held
 }
 

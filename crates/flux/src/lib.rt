@@ -35,7 +35,7 @@ pub fn hour_dose(tree: u8, first: u16, last: u16, h: Hour) -> Dosed
     if let Checked::Refused(refusal) = answer {
         return Dosed::Refused(refusal);
     }
-    let t = trees::temperature::f_temp(tree, reading::above(h.temperature));
+    let t = tables::f_temp(tree, reading::above(h.temperature));
     let s = hour::dosed(f, t, first, last, h);
     Dosed::Pair {
         lower: s.low,

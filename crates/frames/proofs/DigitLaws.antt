@@ -1,4 +1,4 @@
--- A digit says a number below 16 and is the one digit that says it; a byte is below 256 and a number below 65536.
+-- A digit says a number below 16, and each place of a line of digits is one.
 use Prim.Native.Nat.{ℕ, zero, suc, _+_, _-_, _*_, _/_, _%_, _≤_, _<_}
 use mathlib.Core.Path.{_≡_, refl, sym, _∙_}
 use mathlib.Core.Bool.{Bool, true, false, true≢false, _&&_}
@@ -7,10 +7,10 @@ use mathlib.Core.List.{List, [], _∷_}
 use native.Mathlib.Decide.{decLe}
 use native.Mathlib.Numerals.{add-one}
 use native.Mathlib.Omega.{arith}
-use borrow.Author.Tests.{le-leb, lt-leb, lt-ltb, le-ltb}
+use borrow.Author.Tests.{le-leb, lt-leb}
 use lib.ListN.{length, getD, drop}
 use lib.Seq.{drop-cons}
-use Rattle.frames.specs.Digits.{isDigit, valueOf, allDigits, byteAt, numberAt, digitOf}
+use Rattle.frames.specs.Digits.{isDigit, valueOf, allDigits}
 use Rattle.frames.proofs.AnswerLaws.{and-both}
 
 -- where a byte lies: a decimal digit, a letter, or one of the three gaps
@@ -24,7 +24,7 @@ pub data Place (c : ℕ) : Type 0 where
 pub le-or-lt : (m n : ℕ) → (m ≤ n) ⊎ (n < m)
 le-or-lt m n = elim (decLe m n) [ yes p ↦ inl p | no q ↦ inr (omega arith) ]
 
-place : (c : ℕ) → Place c
+pub place : (c : ℕ) → Place c
 place c =
     ⊎-elim
     (λ p. ⊎-elim (λ q. decimal p q) (λ q. ⊎-elim (λ r. ⊎-elim (λ s. letter r s) over (le-or-lt c 70)) (λ r. between q r) (le-or-lt 65 c)) (le-or-lt c 57))
@@ -32,14 +32,14 @@ place c =
     (le-or-lt 48 c)
 
 -- what a byte says, by where it lies
-abbrev said : (c : ℕ) → Place c → ℕ
+abbrev pub said : (c : ℕ) → Place c → ℕ
 said c (decimal p q) = c - 48
 said c (letter p q) = c - 55
 said c (under p) = 0
 said c (between p q) = 0
 said c (over p) = 0
 
-abbrev isOne : (c : ℕ) → Place c → Bool
+abbrev pub isOne : (c : ℕ) → Place c → Bool
 isOne c (decimal p q) = true
 isOne c (letter p q) = true
 isOne c (under p) = false
@@ -72,14 +72,6 @@ said-lt c (over p) = omega arith
 pub value-lt : (c : ℕ) → valueOf c < 16
 value-lt c = rw (value-is c (place c)) at (said-lt c (place c))
 
-pub byte-lt : (at : ℕ) (l : List ℕ) → byteAt at l < 256
-unfolding byteAt
-byte-lt at l = omega (arith, value-lt (getD l at 0), value-lt (getD l (at + 1) 0))
-
-pub number-lt : (at : ℕ) (l : List ℕ) → numberAt at l < 65536
-unfolding numberAt
-number-lt at l = omega (arith, byte-lt at l, byte-lt (at + 2) l)
-
 -- a digit's value by its bits: the low four, and 9 more from 64 on
 said-bits : (c : ℕ) (at : Place c) → isOne c at ≡ true → c % 16 + 9 * (c / 64) ≡ said c at
 said-bits c (decimal p q) e = omega arith
@@ -90,38 +82,6 @@ said-bits c (over p) e = absurd (true≢false (sym e))
 
 pub value-bits : (c : ℕ) → isDigit c ≡ true → c % 16 + 9 * (c / 64) ≡ valueOf c
 value-bits c e = said-bits c (place c) (digit-is c (place c) ∙ e) ∙ value-is c (place c)
-
--- ---- the digit that says a number
-
-pub digit-low : (d : ℕ) → d < 10 → d + 48 ≡ digitOf d
-unfolding digitOf
-digit-low d h = simp (lt-ltb d 10 h)
-
-pub digit-high : (d : ℕ) → 10 ≤ d → d + 55 ≡ digitOf d
-unfolding digitOf
-digit-high d h = simp (le-ltb d 10 h)
-
-pub value-digit : (d : ℕ) → d < 16 → valueOf (digitOf d) ≡ d
-value-digit d h =
-    ⊎-elim (λ p. rw (← digit-high d p) (omega (arith, value-is (d + 55) (letter (omega arith) (omega arith)))))
-    (λ p. rw (← digit-low d p) (omega (arith, value-is (d + 48) (decimal (omega arith) (omega arith)))))
-    (le-or-lt 10 d)
-
-pub digit-valid : (d : ℕ) → d < 16 → isDigit (digitOf d) ≡ true
-digit-valid d h =
-    ⊎-elim (λ p. rw (← digit-high d p) (sym (digit-is (d + 55) (letter (omega arith) (omega arith)))))
-    (λ p. rw (← digit-low d p) (sym (digit-is (d + 48) (decimal (omega arith) (omega arith)))))
-    (le-or-lt 10 d)
-
-digit-said : (c : ℕ) (at : Place c) → isOne c at ≡ true → digitOf (said c at) ≡ c
-digit-said c (decimal p q) e = sym (digit-low (c - 48) (omega arith)) ∙ omega arith
-digit-said c (letter p q) e = sym (digit-high (c - 55) (omega arith)) ∙ omega arith
-digit-said c (under p) e = absurd (true≢false (sym e))
-digit-said c (between p q) e = absurd (true≢false (sym e))
-digit-said c (over p) e = absurd (true≢false (sym e))
-
-pub digit-value : (c : ℕ) → isDigit c ≡ true → digitOf (valueOf c) ≡ c
-digit-value c e = rw (← value-is c (place c)) (digit-said c (place c) (digit-is c (place c) ∙ e))
 
 -- ---- a line of digits, from a place on
 

@@ -1,11 +1,7 @@
 pub mod AnswerLaws
 pub mod DigitLaws
 pub mod KindLaws
+pub mod FrameLaws
 pub mod SignedLaws
-pub mod TemperatureLaws
-pub mod LayoutLaws
 pub mod RangeLaws
-pub mod LineLaws
-pub mod WriterLaws
 pub mod RowLaws
-pub mod RoundTrip

@@ -1,24 +1,20 @@
--- A record that rows 5 to 8 and 10 let pass is in range, and fits the widths of its line.
+-- A record that rows 5 to 8 and 10 let pass is in range.
 use Prim.Native.Nat.{ℕ, _≤_}
 use mathlib.Core.Path.{_≡_}
 use mathlib.Core.Bool.{false, _||_}
-use mathlib.Core.List.{List, [], _∷_}
 use native.Mathlib.Omega.{arith}
 use borrow.Author.Tests.{ltb-false}
 use lib.Dec.{ltb}
 use Rattle.frames.specs.Answers.{accepted}
 use Rattle.frames.specs.Temperature.{temperatureOut}
-use Rattle.frames.specs.Layout.{Width, headerWidths, hourWidths, endWidths, headerNumbers, hourNumbers, soilNumber}
+use Rattle.frames.specs.Layout.{soilNumber}
 use Rattle.frames.specs.Ranges.{isOutside, soilOut, periodOut, checked}
-use Rattle.frames.specs.RoundTrip.{InWidth}
 use Rattle.frames.specs.declared.Header.{Header}
 use Rattle.frames.specs.declared.Soil.{Soil}
 use Rattle.frames.specs.declared.Soil.the-variants.{Suction, Water}
 use Rattle.frames.specs.declared.Hour.{Hour}
 use Rattle.frames.specs.declared.Record.{Record}
 use Rattle.frames.proofs.AnswerLaws.{or-neither, row-passed}
-use Rattle.frames.proofs.LayoutLaws.{Fits}
-use Rattle.frames.proofs.TemperatureLaws.{complement-lt}
 
 -- from low to high
 pub record Inside (low high n : ℕ) : Type 0 where
@@ -97,20 +93,3 @@ pub checked-passed : (r : Record) → checked r ≡ accepted tt → InRange r
 checked-passed (Record.Header h) e = header-passed h e
 checked-passed (Record.Hour h) e = hour-passed h e
 checked-passed (Record.End end) e = tt
-
--- ---- a record's numbers and their widths
-
-abbrev pub widthsOf : Record → List Width
-widthsOf (Record.Header h) = headerWidths
-widthsOf (Record.Hour h) = hourWidths
-widthsOf (Record.End e) = endWidths
-
-abbrev pub numbersOf : Record → List ℕ
-numbersOf (Record.Header h) = headerNumbers h
-numbersOf (Record.Hour h) = hourNumbers h
-numbersOf (Record.End e) = e .hours ∷ []
-
-pub range-fits : (r : Record) → InRange r → InWidth r → Fits (widthsOf r) (numbersOf r)
-range-fits (Record.Header h) i w = omega arith
-range-fits (Record.Hour h) i w = let t = complement-lt (h .temperature) (i .temperature) in omega arith
-range-fits (Record.End e) i w = omega arith

@@ -1,4 +1,4 @@
--- The reader answers rows 1 to 3, 5 to 8 and 10 and no other, the writer rows 5 to 8, 10 and 12.
+-- The reader answers rows 1 to 3, 5 to 8 and 10 and no other.
 use Prim.Native.Nat.{ℕ}
 use mathlib.Core.Path.{_≡_, refl, subst}
 use mathlib.Core.Bool.{Bool, true, false, cond, not, _&&_, or-true}
@@ -9,12 +9,10 @@ use lib.ListN.{length}
 use Rattle.frames.specs.Answers.{Outcome, accepted, refused, onward}
 use Rattle.frames.specs.Digits.{within, allDigits, byteAt}
 use Rattle.frames.specs.Kinds.{among, isLength, lengthOf}
-use Rattle.frames.specs.Layout.{lineOf}
 use Rattle.frames.specs.Temperature.{temperatureOut}
 use Rattle.frames.specs.Ranges.{isOutside, periodOut, soilOut, checked}
 use Rattle.frames.specs.Frames.{parsedOf, soundOf, recordOf, readOf}
-use Rattle.frames.specs.Writer.{putOf, writeOf}
-use Rattle.frames.specs.RoundTrip.{oneOf}
+use Rattle.frames.specs.Rows.{oneOf, ReaderRows}
 use Rattle.frames.specs.declared.Raw.{Raw}
 use Rattle.frames.specs.declared.Record.{Record}
 
@@ -23,18 +21,18 @@ pub record Only {A : Type 0} (rows : List ℕ) (o : Outcome A) : Type 0 where
   pub only : (n f : ℕ) → o ≡ refused (n, f) → oneOf rows n f ≡ true
 
 module _ {A : Type 0} {rows : List ℕ} where
-  accepted-only : (a : A) → Only rows (accepted a)
+  pub accepted-only : (a : A) → Only rows (accepted a)
   accepted-only a = record { only = λ n f e. let z : _≡_ {A = ℕ} 0 1 = cc in absurd (omega arith) }
 
   refused-only : (n f : ℕ) → oneOf rows n f ≡ true → Only {A = A} rows (refused (n, f))
   refused-only n f h = record { only = λ m g e. let same : _≡_ {A = ℕ × ℕ} (n, f) (m, g) = cc in subst (λ (w : ℕ × ℕ). oneOf rows (w .0) (w .1) ≡ true) same h }
 
   -- `row` and `field`, by their test
-  row-only : (t : Bool) (n f : ℕ) (next : Outcome A) → oneOf rows n f ≡ true → Only rows next → Only rows (cond t (refused (n, f)) next)
+  pub row-only : (t : Bool) (n f : ℕ) (next : Outcome A) → oneOf rows n f ≡ true → Only rows next → Only rows (cond t (refused (n, f)) next)
   row-only true n f next h o = refused-only n f h
   row-only false n f next h o = o
 
-  onward-only : {B : Type 0} (o : Outcome B) (next : B → Outcome A) → Only rows o → ((b : B) → Only rows (next b)) → Only rows (onward o next)
+  pub onward-only : {B : Type 0} (o : Outcome B) (next : B → Outcome A) → Only rows o → ((b : B) → Only rows (next b)) → Only rows (onward o next)
   onward-only (accepted b) next p q = q b
   onward-only (refused w) next p q = refused-only (w .0) (w .1) (p .only (w .0) (w .1) refl)
 
@@ -42,13 +40,13 @@ field-in : (rows : List ℕ) (f : ℕ) → within 1 7 f ≡ true → oneOf rows 
 field-in rows f e = rw e (or-true (among rows 10 && eqb f 0))
 
 -- rows 5 to 8 are in the list
-record Ranged (rows : List ℕ) : Type 0 where
-  tree : oneOf rows 5 0 ≡ true
-  year : oneOf rows 6 0 ≡ true
-  period : oneOf rows 7 0 ≡ true
-  level : oneOf rows 8 0 ≡ true
+pub record Ranged (rows : List ℕ) : Type 0 where
+  pub tree : oneOf rows 5 0 ≡ true
+  pub year : oneOf rows 6 0 ≡ true
+  pub period : oneOf rows 7 0 ≡ true
+  pub level : oneOf rows 8 0 ≡ true
 
-checked-only : {rows : List ℕ} → Ranged rows → (r : Record) → Only rows (checked r)
+pub checked-only : {rows : List ℕ} → Ranged rows → (r : Record) → Only rows (checked r)
 unfolding checked
 checked-only a (Record.Header h) =
     row-only (isOutside 1 6 (h .tree)) _ _ _ (a .tree)
@@ -98,20 +96,5 @@ pub read-only : (tree : ℕ) (l : List ℕ) → Only readRows (readOf tree l)
 unfolding readOf
 read-only tree l = onward-only (parsedOf l) (recordOf tree) (parsed-only l) (record-only tree)
 
--- ---- the writer
-
-abbrev writeRows : List ℕ
-writeRows = 5 ∷ 6 ∷ 7 ∷ 8 ∷ 12 ∷ []
-
-write-ranged : Ranged writeRows
-unfolding among
-write-ranged = record { tree = refl; year = refl; period = refl; level = refl }
-
-put-only : (r : Record) (room : ℕ) → Only writeRows (putOf r room)
-unfolding putOf among
-put-only r room = row-only (ltb room (length (lineOf r))) _ _ _ refl (accepted-only _)
-
-pub write-only : (r : Record) (room : ℕ) → Only writeRows (writeOf r room)
-unfolding writeOf
-write-only r room =
-    onward-only (checked r) (λ _. putOf r room) (checked-only write-ranged r) (λ _. put-only r room)
+pub reader-rows : ReaderRows
+reader-rows = record { readRows = λ tree l. read-only tree l .only }

@@ -5,7 +5,7 @@ use mathlib.Core.Bool.{true, false, true≢false}
 use native.Mathlib.Omega.{arith}
 use borrow.Author.Tests.{ltb-true}
 use lib.Dec.{lit<}
-use lib.IntN.{ℤ, pos, negsuc, negℤ, _+ℤ_, _-ℤ_, +ℤ-idl, +ℤ-one, -ℤ-one, negℤ-negℤ}
+use lib.IntN.{ℤ, pos, negsuc, negℤ, _-ℤ_, +ℤ-idl, -ℤ-one}
 use lib.Signed.{ltZ}
 use mir.Syntax.{w16}
 use mir.Val.{SFits, toZ, ofZ}
@@ -19,7 +19,7 @@ module _ (t : ℤ) (f : SFits w16 t) where
   pub at-plain : {A : Type 0} {r : A} (g : ℤ → A) → r ≡ g (toZ w16 (ofZ w16 t)) → r ≡ g t
   at-plain g e = rw plain at e
 
-negated-fits : (m : ℕ) → m < 32768 → SFits w16 (negℤ (pos m))
+pub negated-fits : (m : ℕ) → m < 32768 → SFits w16 (negℤ (pos m))
 negated-fits zero h = record { sfits = lit< tt }
 negated-fits (suc k) h = record { sfits = omega arith }
 
@@ -42,28 +42,6 @@ module _ (m : ℕ) (h : m < 32768) where
 
   pub less-fits : SFits w16 (toZ w16 (ofZ w16 (pos 0 -ℤ toZ w16 m)) -ℤ pos 1)
   less-fits = rw less (record { sfits = h })
-
--- ---- to two bytes: -(t + 1), for t = -(k + 1)
-
-one-more : (k : ℕ) → negsuc k +ℤ pos 1 ≡ negℤ (pos k)
-one-more zero = refl
-one-more (suc k) = +ℤ-one (negsuc (suc k))
-
-module _ (k : ℕ) (h : k < 32768) where
-  raised : toZ w16 (ofZ w16 (negsuc k)) +ℤ pos 1 ≡ negℤ (pos k)
-  raised = ap (λ (z : ℤ). z +ℤ pos 1) (plain (negsuc k) (record { sfits = h })) ∙ one-more k
-
-  pub raised-fits : SFits w16 (toZ w16 (ofZ w16 (negsuc k)) +ℤ pos 1)
-  raised-fits = rw raised (negated-fits k h)
-
-  turned : pos 0 -ℤ toZ w16 (ofZ w16 (toZ w16 (ofZ w16 (negsuc k)) +ℤ pos 1)) ≡ pos k
-  turned = ap (λ (z : ℤ). pos 0 -ℤ z) (plain (toZ w16 (ofZ w16 (negsuc k)) +ℤ pos 1) raised-fits ∙ raised) ∙ +ℤ-idl (negℤ (negℤ (pos k))) ∙ negℤ-negℤ (pos k)
-
-  pub turned-fits : SFits w16 (pos 0 -ℤ toZ w16 (ofZ w16 (toZ w16 (ofZ w16 (negsuc k)) +ℤ pos 1)))
-  turned-fits = rw turned (record { sfits = h })
-
-  pub turned-is : toZ w16 (ofZ w16 (pos 0 -ℤ toZ w16 (ofZ w16 (toZ w16 (ofZ w16 (negsuc k)) +ℤ pos 1)))) ≡ pos k
-  turned-is = plain (pos 0 -ℤ toZ w16 (ofZ w16 (toZ w16 (ofZ w16 (negsuc k)) +ℤ pos 1))) turned-fits ∙ turned
 
 -- ---- the test t < 0
 

@@ -5,5 +5,4 @@ pub mod Temperature
 pub mod Layout
 pub mod Ranges
 pub mod Frames
-pub mod Writer
-pub mod RoundTrip
+pub mod Rows

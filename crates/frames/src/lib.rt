@@ -1,18 +1,17 @@
-// Frames (document 01, "Frames"): a line of capital hexadecimal digits, the record that it says, and the line that says a record.
-// A line goes to a frame (rows 1 to 3), a frame to a record (rows 5 to 8 and 10), a record to a line in a lent buffer (rows 5 to 8, 10 and 12).
+// Frames (document 01, "Frames"): a line of capital hexadecimal digits, and the record that it says.
+// A line goes to a frame (rows 1 to 3), a frame to a record (rows 5 to 8 and 10). The crate `writer` has the way back.
 mod digits;
 mod kinds;
 mod layout;
 mod ranges;
 mod temperature;
-mod writing;
 
 ghost use mathlib.Core.Path.{_≡_};
 ghost use Rattle.frames.specs.Answers.{rowOf, parsedAs, checkedAs, decodedAs};
+ghost use Rattle.frames.specs.Digits.{isDigit};
 ghost use Rattle.frames.specs.Frames.{parsedOf, soundOf, recordOf, readOf};
 ghost use Rattle.frames.specs.Ranges.{checked};
-ghost use Rattle.frames.specs.Writer.{Writes};
-ghost use Rattle.frames.specs.RoundTrip.{RoundTrip};
+ghost use Rattle.frames.specs.Rows.{ReaderRows};
 
 // The season's header: tree number, days in the year, first and last day of the accumulation period, critical level in hundredths of mmol m⁻².
 pub struct Header {
@@ -132,6 +131,13 @@ pub fn row_of(refusal: Refusal) -> u8
     }
 }
 
+// A capital hexadecimal digit.
+pub fn is_digit(c: u8) -> bool
+    ensures { λ r. ⌜ r ≡ isDigit c ⌝ }
+{
+    digits::is_digit(c)
+}
+
 // A line to a frame: rows 1 to 3, in that order.
 pub fn parse(line: &[u8]) -> Parsed
     ensures { λ r. ⌜ parsedAs r ≡ parsedOf (now (line .entry)) ⌝ }
@@ -193,23 +199,11 @@ pub fn record_of(tree: u8, frame: Raw) -> Decoded
 // A line read alone, its tree given.
 pub fn read_frame(tree: u8, line: &[u8]) -> Decoded
     ensures { λ r. ⌜ decodedAs r ≡ readOf tree (now (line .entry)) ⌝ }
-    ensures round_trip { λ _. ⌜ RoundTrip ⌝ }
+    ensures rows { λ _. ⌜ ReaderRows ⌝ }
 {
     let parsed = parse(line);
     match parsed {
         Parsed::Frame(frame) => record_of(tree, frame),
         Parsed::Refused(refusal) => Decoded::Refused(refusal),
     }
-}
-
-// A record's line into a lent buffer, without a line feed.
-pub fn write_frame(record: Record, buf: &mut [u8]) -> Written
-    ensures { λ r. ⌜ Writes «record» (now (buf .entry)) r (now (buf .exit)) ⌝ }
-    ensures round_trip { λ _. ⌜ RoundTrip ⌝ }
-{
-    let answer = check(record);
-    if let Checked::Refused(refusal) = answer {
-        return Written::Refused(refusal);
-    }
-    writing::put(record, buf)
 }

@@ -18,7 +18,7 @@ fn print_part(record: Record, buf: &mut [u8], room: usize) {
     print(b" into ");
     print_number(room as u64);
     print(b": ");
-    let written = frames::write_frame(record, &mut buf[0..room]);
+    let written = writer::write_frame(record, &mut buf[0..room]);
     print_written(written);
     print(b" ");
     print(&buf[..]);

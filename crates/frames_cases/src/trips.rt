@@ -131,7 +131,7 @@ fn print_line(record: Record, buf: &[u8], n: usize, first: u8, past: u8) {
 }
 
 fn print_in(record: Record, buf: &mut [u8], first: u8, past: u8) {
-    let written = frames::write_frame(record, buf);
+    let written = writer::write_frame(record, buf);
     match written {
         Written::Bytes(n) => print_line(record, &buf[..], n, first, past),
         Written::Refused(_) => print_written(written),

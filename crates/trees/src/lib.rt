@@ -1,8 +1,6 @@
 // The tree table of document 01: each tree's figures, as constants that belong to that tree's type.
 pub mod factors;
-mod lookups;
 pub mod phen;
-mod tables;
 pub mod temperature;
 
 ghost use mathlib.Core.Path.{_≡_};
@@ -97,7 +95,7 @@ impl BorealSpruce {
 
     pub const F4: u16 = 30;
 
-    fn figures() -> Figures
+    pub fn figures() -> Figures
         ensures { λ r. ⌜ r ≡ borealSpruce ⌝ }
     {
         Figures {
@@ -161,7 +159,7 @@ impl Birch {
 
     pub const F4: u16 = 30;
 
-    fn figures() -> Figures
+    pub fn figures() -> Figures
         ensures { λ r. ⌜ r ≡ birch ⌝ }
     {
         Figures {
@@ -225,7 +223,7 @@ impl ContinentalSpruce {
 
     pub const F4: u16 = 0;
 
-    fn figures() -> Figures
+    pub fn figures() -> Figures
         ensures { λ r. ⌜ r ≡ continentalSpruce ⌝ }
     {
         Figures {
@@ -289,7 +287,7 @@ impl Beech {
 
     pub const F4: u16 = 20;
 
-    fn figures() -> Figures
+    pub fn figures() -> Figures
         ensures { λ r. ⌜ r ≡ beech ⌝ }
     {
         Figures {
@@ -353,7 +351,7 @@ impl Oak {
 
     pub const F4: u16 = 20;
 
-    fn figures() -> Figures
+    pub fn figures() -> Figures
         ensures { λ r. ⌜ r ≡ oak ⌝ }
     {
         Figures {
@@ -417,7 +415,7 @@ impl Evergreen {
 
     pub const F4: u16 = 0;
 
-    fn figures() -> Figures
+    pub fn figures() -> Figures
         ensures { λ r. ⌜ r ≡ evergreen ⌝ }
     {
         Figures {

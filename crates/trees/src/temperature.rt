@@ -1,32 +1,7 @@
-// f_temp (document 01, "Factors"). A reading is tenths of a degree above -50.0 °C.
-use crate::lookups;
-ghost use mathlib.Core.Path.{_≡_};
-ghost use Rattle.trees.specs.Figures.{figuresOf};
-ghost use Rattle.trees.specs.Temperature.{temperatureOf};
+// Bounds of f_temp and of f_light (document 01, "Factors").
 
 // A factor lies from lower to upper, in units of 10⁻⁹.
 pub struct Bounds {
     pub lower: u32,
     pub upper: u32,
-}
-
-// 60.0 °C, the highest reading.
-const HIGHEST: u16 = 1100;
-
-// f_temp of the tree with a number, 1 to 6; 0 and 0 for a number that is no tree, and for a reading above 60.0 °C.
-pub fn f_temp(tree: u8, x: u16) -> Bounds
-    ensures { λ r. ⌜ r ≡ temperatureOf (figuresOf tree) x ⌝ }
-{
-    if HIGHEST < x {
-        return Bounds { lower: 0, upper: 0 };
-    }
-    match tree {
-        1 => lookups::boreal_spruce_at(x),
-        2 => lookups::birch_at(x),
-        3 => lookups::continental_spruce_at(x),
-        4 => lookups::beech_at(x),
-        5 => lookups::oak_at(x),
-        6 => lookups::evergreen_at(x),
-        _ => Bounds { lower: 0, upper: 0 },
-    }
 }

@@ -3,7 +3,7 @@ use mathlib.Core.Path.{sym, ap, _∙_}
 use borrow.Author.Needs.{needs}
 use Rattle.frames.specs.Frames.{readOf}
 use Rattle.frames.specs.Answers.{parsedAs}
-use Rattle.frames.proofs.RoundTrip.{round-trip}
+use Rattle.frames.proofs.RowLaws.{reader-rows}
 use Rattle.frames.proofs.read_frame.Statement.{statement}
 use Rattle.frames.proofs.read_frame.Tie as tie
 
@@ -21,11 +21,11 @@ enum-known-parsed-2 c = search needs
 
 returns : tie.Need-returns
 unfolding readOf
-returns c = (rw (sym (c .before .before .before .before .parse .ensures) ∙ ap parsedAs (c .before .before .parsed .given .1)) (c .record-of .ensures), round-trip)
+returns c = (rw (sym (c .before .before .before .before .parse .ensures) ∙ ap parsedAs (c .before .before .parsed .given .1)) (c .record-of .ensures), reader-rows)
 
 returns-2 : tie.Need-returns-2
 unfolding readOf
-returns-2 c = (rw (sym (c .before .before .before .parse .ensures) ∙ ap parsedAs (c .before .parsed2 .given .1)), round-trip)
+returns-2 c = (rw (sym (c .before .before .before .parse .ensures) ∙ ap parsedAs (c .before .parsed2 .given .1)), reader-rows)
 
 pub read-frame-spec : {M : Type 1} → statement M
 read-frame-spec =

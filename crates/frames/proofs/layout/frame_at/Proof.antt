@@ -7,7 +7,7 @@ use Rattle.frames.specs.Digits.{byteAt}
 use Rattle.frames.specs.Kinds.{lengthOf}
 use Rattle.frames.specs.Layout.{frameAt}
 use Rattle.frames.specs.declared.Raw.{Raw}
-use Rattle.frames.proofs.LineLaws.{frame-header, frame-hour}
+use Rattle.frames.proofs.FrameLaws.{frame-header, frame-hour}
 use Rattle.frames.proofs.layout.frame_at.Statement.{statement}
 use Rattle.frames.proofs.layout.frame_at.Tie as tie
 

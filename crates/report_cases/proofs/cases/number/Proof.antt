@@ -1,0 +1,56 @@
+-- `report_cases::cases::number` is safe and ends: i grows to the number of digits.
+use Prim.Native.Nat.{_-_, _≤_}
+use native.Mathlib.Omega.{arith}
+use lib.ListN.{length}
+use borrow.Author.Needs.{needs}
+use Rattle.report_cases.proofs.cases.number.Statement.{statement}
+use Rattle.report_cases.proofs.cases.number.Tie as tie
+
+abbrev Inv-loop : tie.InvT-loop
+Inv-loop digits n₀ i₀ n i = i ≤ length digits
+
+abbrev μ-loop : tie.MeasureT-loop
+μ-loop digits n₀ i₀ n i = length digits - i
+
+loop-holds : tie.Need-loop-holds Inv-loop μ-loop
+loop-holds c = search needs
+
+mul-n : tie.Need-mul-n Inv-loop μ-loop
+mul-n c = omega arith
+
+shared-slice-read-value : tie.Need-shared-slice-read-value Inv-loop μ-loop
+shared-slice-read-value c = search needs
+
+value-requires : tie.Need-value-requires Inv-loop μ-loop
+value-requires c κs = search needs
+
+add-n : tie.Need-add-n Inv-loop μ-loop
+add-n c = omega arith
+
+add-i : tie.Need-add-i Inv-loop μ-loop
+add-i c = search needs
+
+loop-less : tie.Need-loop-less Inv-loop μ-loop
+loop-less c = search needs
+
+loop-again : tie.Need-loop-again Inv-loop μ-loop
+loop-again c = search needs
+
+returns : tie.Need-returns Inv-loop μ-loop
+returns c = search needs
+
+pub number-spec : {M : Type 1} → statement M
+number-spec =
+    tie.close
+    (tie.spec
+    Inv-loop
+    μ-loop
+    loop-holds
+    mul-n
+    shared-slice-read-value
+    value-requires
+    add-n
+    add-i
+    loop-less
+    loop-again
+    returns)

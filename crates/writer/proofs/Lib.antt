@@ -1,0 +1,9 @@
+pub mod DigitLaws
+pub mod SignedLaws
+pub mod TemperatureLaws
+pub mod LayoutLaws
+pub mod WidthLaws
+pub mod LineLaws
+pub mod WriterLaws
+pub mod RowLaws
+pub mod RoundTrip

@@ -1,0 +1,200 @@
+//! The kinds of case: each makes a text by chance.
+
+use crate::damage::*;
+use crate::rng::Rng;
+use crate::season::*;
+use crate::turns::*;
+
+enum Maker {
+    Chance(fn(&mut Rng) -> Vec<u8>),
+    /// Goes through a list by the number of the turn.
+    InTurn(fn(&mut Rng, u64) -> Vec<u8>),
+}
+use Maker::{Chance, InTurn};
+
+const KINDS: [(&str, Maker); 22] = [
+    ("weather", Chance(weather)),
+    ("every reading", InTurn(every_reading)),
+    ("every field", InTurn(every_field)),
+    ("corners", Chance(corners)),
+    ("every byte", InTurn(every_byte)),
+    ("every length", InTurn(every_length)),
+    ("every kind", InTurn(every_kind)),
+    ("every temperature", InTurn(every_temperature)),
+    ("every bend", InTurn(every_bend)),
+    ("every ramp", InTurn(every_ramp)),
+    ("near the level", Chance(near)),
+    ("near the level, few hours", Chance(near_few)),
+    ("out of range", Chance(out_of_range)),
+    ("header", Chance(header)),
+    ("damaged", Chance(damaged)),
+    ("damaged, few lines", Chance(damaged_few)),
+    ("turns", Chance(turns)),
+    ("after the end", Chance(after)),
+    ("count", Chance(count)),
+    ("cut", Chance(cut_anywhere)),
+    ("disturbed", Chance(disturbed)),
+    ("noise", Chance(noise)),
+];
+
+/// A whole season instead, now and then.
+const WHOLE_EVERY: u64 = 150;
+
+/// The name and the text of a case; the kinds take turns, each seed starting elsewhere in their lists.
+pub fn make(seed: u64, case: u64) -> (&'static str, Vec<u8>) {
+    let mut rng = Rng::new(seed, case);
+    if case % WHOLE_EVERY == WHOLE_EVERY - 1 {
+        return ("whole season", whole(&mut rng));
+    }
+    let kinds = KINDS.len() as u64;
+    let (name, maker) = &KINDS[(case % kinds) as usize];
+    let text = match maker {
+        Chance(make) => make(&mut rng),
+        InTurn(make) => make(&mut rng, seed % 10000 + case / kinds),
+    };
+    (name, text)
+}
+
+fn season(rng: &mut Rng) -> Season {
+    let number = any_tree(rng);
+    let header = short_period(rng, number);
+    plausible(rng, header)
+}
+
+/// A season of few lines: trees without ramps.
+fn short_season(rng: &mut Rng) -> Season {
+    let number = rng.pick(&[3, 6]);
+    let header = short_period(rng, number);
+    plausible(rng, header)
+}
+
+fn season_text(rng: &mut Rng, season: &Season) -> Vec<u8> {
+    text(rng, &season.lines())
+}
+
+fn weather(rng: &mut Rng) -> Vec<u8> {
+    let season = season(rng);
+    season_text(rng, &season)
+}
+
+fn corners(rng: &mut Rng) -> Vec<u8> {
+    let mut season = season(rng);
+    let number = season.header.tree;
+    for readings in &mut season.hours {
+        if rng.one_in(3) {
+            light_up(rng, readings);
+        }
+        put_to_corners(rng, number, readings);
+    }
+    season_text(rng, &season)
+}
+
+fn near(rng: &mut Rng) -> Vec<u8> {
+    let mut season = season(rng);
+    near_level(rng, &mut season);
+    season_text(rng, &season)
+}
+
+/// With few counted hours lower and upper must lie close together.
+fn near_few(rng: &mut Rng) -> Vec<u8> {
+    let mut season = short_season(rng);
+    let days = [season.header.first, season.header.last];
+    few_lit(rng, &mut season, &days);
+    near_level(rng, &mut season);
+    season_text(rng, &season)
+}
+
+fn out_of_range(rng: &mut Rng) -> Vec<u8> {
+    let season = season(rng);
+    let mut lines = season.lines();
+    past_range(rng, season.header.tree, &mut lines);
+    text(rng, &lines)
+}
+
+fn header(rng: &mut Rng) -> Vec<u8> {
+    let season = season(rng);
+    let lines = damaged_header(rng, &season);
+    text(rng, &lines)
+}
+
+fn damaged(rng: &mut Rng) -> Vec<u8> {
+    let season = short_season(rng);
+    let lines = damage(rng, &season);
+    text(rng, &lines)
+}
+
+/// The damage in the first lines or the last, so that it meets the header and the end.
+fn damaged_few(rng: &mut Rng) -> Vec<u8> {
+    let season = season(rng);
+    let whole = season.lines();
+    let last = whole.len() - 1;
+    let mut lines = vec![whole[0].clone(), whole[1].clone(), whole[2].clone(), whole[last].clone()];
+    for _ in 0..rng.between(1, 2) {
+        match rng.below(5) {
+            0 => wrong_length(rng, &mut lines),
+            1 => wrong_digit(rng, &mut lines),
+            2 => wrong_kind(rng, &mut lines),
+            3 => wrong_hour(rng, &mut lines),
+            _ => wrong_turn(rng, &mut lines),
+        }
+    }
+    text(rng, &lines)
+}
+
+fn turns(rng: &mut Rng) -> Vec<u8> {
+    let mut lines = short_season(rng).lines();
+    for _ in 0..rng.between(1, 2) {
+        wrong_turn(rng, &mut lines);
+    }
+    text(rng, &lines)
+}
+
+fn after(rng: &mut Rng) -> Vec<u8> {
+    let season = short_season(rng);
+    let mut lines = season.lines();
+    if rng.one_in(3) {
+        let hour = hour_line(season.header.last + 1, 0, &season.hours[0]);
+        lines.insert(lines.len() - 1, hour.into_bytes()); // one hour too many, then the end
+    }
+    after_the_end(rng, &season, &mut lines);
+    text(rng, &lines)
+}
+
+fn count(rng: &mut Rng) -> Vec<u8> {
+    let mut lines = season(rng).lines();
+    wrong_count(rng, &mut lines);
+    text(rng, &lines)
+}
+
+fn cut_anywhere(rng: &mut Rng) -> Vec<u8> {
+    let whole = weather(rng);
+    cut(rng, whole)
+}
+
+fn disturbed(rng: &mut Rng) -> Vec<u8> {
+    let season = short_season(rng);
+    let whole = season_text(rng, &season);
+    disturb(rng, whole)
+}
+
+/// A growing season or a whole year, near the level or with corners; now and then with many lines after its end.
+fn whole(rng: &mut Rng) -> Vec<u8> {
+    let number = rng.between(1, 6);
+    let days = rng.between(365, 366);
+    let length = if rng.one_in(4) { days } else { rng.between(150, 220) };
+    let mut header = period(rng, number, length.min(days - 1));
+    if length == days {
+        (header.days, header.first, header.last) = (days, 1, days);
+    }
+    let mut season = plausible(rng, header);
+    if rng.one_in(2) {
+        season.hours.iter_mut().for_each(|readings| put_to_corners(rng, number, readings));
+    }
+    near_level(rng, &mut season);
+    let mut lines = season.lines();
+    if rng.one_in(8) {
+        let more = lines[1..].to_vec();
+        lines.extend(more);
+    }
+    text(rng, &lines)
+}

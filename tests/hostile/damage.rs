@@ -1,0 +1,277 @@
+//! Damaged texts: what a broken sender or a bad transmission leaves of a season, and texts that never were one.
+
+use crate::account::Header;
+use crate::rng::Rng;
+use crate::season::*;
+use crate::trees::*;
+
+pub type Lines = Vec<Vec<u8>>;
+
+/// The text of lines, with or without its last line feed.
+pub fn text(rng: &mut Rng, lines: &Lines) -> Vec<u8> {
+    let mut text = lines.join(&b'\n');
+    if !lines.is_empty() && !rng.one_in(3) {
+        text.push(b'\n');
+    }
+    text
+}
+
+/// One to three damages of any kind.
+pub fn damage(rng: &mut Rng, season: &Season) -> Lines {
+    let mut lines = season.lines();
+    for _ in 0..rng.pick(&[1, 1, 1, 2, 3]) {
+        match rng.below(8) {
+            0 => wrong_length(rng, &mut lines),
+            1 => wrong_digit(rng, &mut lines),
+            2 => wrong_kind(rng, &mut lines),
+            3 => wrong_turn(rng, &mut lines),
+            4 => wrong_hour(rng, &mut lines),
+            5 => past_range(rng, season.header.tree, &mut lines),
+            6 => wrong_count(rng, &mut lines),
+            _ => after_the_end(rng, season, &mut lines),
+        }
+    }
+    lines
+}
+
+/// The first or last line, or any.
+fn any_line(rng: &mut Rng, lines: &Lines) -> usize {
+    match rng.below(4) {
+        0 => 0,
+        1 => lines.len() - 1,
+        _ => rng.below(lines.len()),
+    }
+}
+
+fn any_digit(rng: &mut Rng) -> u8 {
+    rng.pick(b"0123456789ABCDEF")
+}
+
+pub fn wrong_length(rng: &mut Rng, lines: &mut Lines) {
+    let at = any_line(rng, lines);
+    let length = match rng.below(5) {
+        0 => rng.pick(&[0, 5, 6, 7, 19, 20, 21, 35, 36, 37]),
+        1 => lines[at].len() + 1,
+        2 => lines[at].len().saturating_sub(1),
+        3 => rng.below(80),
+        _ => return join_with_next(rng, lines),
+    };
+    let digit = any_digit(rng);
+    lines[at].resize(length, digit);
+}
+
+/// A line feed lost.
+fn join_with_next(rng: &mut Rng, lines: &mut Lines) {
+    if lines.len() > 1 {
+        let at = rng.below(lines.len() - 1);
+        let next = lines.remove(at + 1);
+        lines[at].extend(next);
+    }
+}
+
+pub fn wrong_digit(rng: &mut Rng, lines: &mut Lines) {
+    let at = any_line(rng, lines);
+    if lines[at].is_empty() {
+        return;
+    }
+    let place = rng.below(lines[at].len());
+    let old = lines[at][place];
+    lines[at][place] = match rng.below(4) {
+        0 => old.to_ascii_lowercase(),
+        1 => rng.pick(b"/:@Gafgx `~-+. \r\t\0\x7f"),
+        2 => old ^ 0x80,
+        _ => rng.below(256) as u8,
+    };
+}
+
+pub fn wrong_kind(rng: &mut Rng, lines: &mut Lines) {
+    let at = any_line(rng, lines);
+    let kind = if rng.one_in(4) { rng.between(0, 255) } else { rng.pick(&[0, 1, 2, 3, 4, 16, 255]) };
+    put(&mut lines[at], 0, &format!("{kind:02X}"));
+}
+
+/// Writes over a line's bytes, as far as the line goes.
+pub fn put(line: &mut [u8], at: usize, bytes: &str) {
+    for (old, new) in line.iter_mut().skip(at).zip(bytes.bytes()) {
+        *old = new;
+    }
+}
+
+/// Lines lost, doubled, swapped, moved.
+pub fn wrong_turn(rng: &mut Rng, lines: &mut Lines) {
+    let (at, other) = (any_line(rng, lines), any_line(rng, lines));
+    match rng.below(6) {
+        0 if lines.len() > 1 => {
+            lines.remove(at);
+        }
+        1 => lines.insert(at, lines[at].clone()),
+        2 => lines.swap(at, other),
+        3 => lines.insert(other, lines[at].clone()),
+        4 => lines.truncate(at + 1),
+        _ => lines.drain(..at).for_each(drop),
+    }
+}
+
+/// A day or an hour that is not due; now and then a reading out of range besides.
+pub fn wrong_hour(rng: &mut Rng, lines: &mut Lines) {
+    let at = rng.below(lines.len());
+    match rng.below(3) {
+        0 => put(&mut lines[at], 6, &format!("{:02X}", rng.pick(&[0, 1, 22, 23, 24, 25, 128, 255]))),
+        1 => put(&mut lines[at], 2, &pair(rng.between(0, 367))),
+        _ => put(&mut lines[at], 2, &pair(rng.next() as i64)),
+    }
+    if rng.one_in(4) {
+        put(&mut lines[at], 8, "FFFF");
+    }
+}
+
+/// A reading one past its range, or anywhere out of it.
+pub fn past_range(rng: &mut Rng, tree: i64, lines: &mut Lines) {
+    let at = rng.below(lines.len());
+    let reading = rng.below(7);
+    let (least, most) = range(tree, reading);
+    let value = match rng.below(4) {
+        0 => least - 1,
+        1 => most + 1,
+        2 => rng.pick(&[0x7FFF, 0x8000, 0xFFFF]),
+        _ => rng.between(most + 1, 0xFFFF),
+    };
+    put(&mut lines[at], 8 + 4 * reading, &pair(value));
+}
+
+pub fn wrong_count(rng: &mut Rng, lines: &mut Lines) {
+    let hours = lines.len() as i64 - 2;
+    let count = match rng.below(4) {
+        0 => hours - 1,
+        1 => hours + 1,
+        2 => rng.pick(&[0, 1, hours << 8, 0xFFFF]),
+        _ => hours,
+    };
+    let end = end_line(count).into_bytes();
+    if rng.one_in(2) {
+        lines.pop();
+        lines.push(end);
+    } else {
+        early_end(rng, lines);
+    }
+}
+
+/// An end frame before the last hour, its count right for its place or not.
+fn early_end(rng: &mut Rng, lines: &mut Lines) {
+    let at = rng.below(lines.len());
+    let count = at as i64 - rng.pick(&[1, 1, 0, 2]);
+    lines.insert(at, end_line(count).into_bytes());
+}
+
+pub fn after_the_end(rng: &mut Rng, season: &Season, lines: &mut Lines) {
+    let more = match rng.below(6) {
+        0 => vec![],
+        1 => header_line(&season.header).into_bytes(),
+        2 => hour_line(season.header.last + 1, 0, &season.hours[0]).into_bytes(),
+        3 => end_line(season.hours.len() as i64).into_bytes(),
+        4 => b" ".to_vec(),
+        _ => lines[rng.below(lines.len())].clone(),
+    };
+    lines.push(more);
+}
+
+/// One to three fields of the header at a corner or one past it; the hours are left as they were.
+pub fn damaged_header(rng: &mut Rng, season: &Season) -> Lines {
+    let mut header = season.header;
+    for _ in 0..rng.pick(&[1, 1, 2, 3]) {
+        change_field(rng, &mut header);
+    }
+    let mut lines = season.lines();
+    lines[0] = header_line(&header).into_bytes();
+    lines
+}
+
+fn change_field(rng: &mut Rng, header: &mut Header) {
+    match rng.below(8) {
+        0 => header.tree = rng.pick(&[0, 1, 2, 3, 4, 5, 6, 7, 8, 16, 128, 255]),
+        1 => header.days = rng.pick(&[0, 1, 364, 365, 366, 367, 0x6D01, 0xFFFF]),
+        2 => header.first = rng.pick(&[0, 1, header.last, header.last + 1, 365, 366, 367, 0xFFFF]),
+        3 => header.last = rng.pick(&[0, 1, header.first - 1, header.first, 365, 366, 367, 0xFFFF]).max(0),
+        4 | 5 => header.last = shortest_last(header) + rng.between(-1, 1),
+        _ => header.level = rng.pick(&[0, 1, 2, 9999, 10000, 10001, 0x8000, 0xFFFF]),
+    }
+}
+
+/// The earliest last day that the tree's ramps allow.
+fn shortest_last(header: &Header) -> i64 {
+    if (1..=6).contains(&header.tree) && header.first < 400 {
+        header.first + tree(header.tree).fewest_days() - 1
+    } else {
+        1
+    }
+}
+
+// ---- bytes
+
+/// A text cut at both ends, or at one.
+pub fn cut(rng: &mut Rng, mut text: Vec<u8>) -> Vec<u8> {
+    if rng.one_in(4) {
+        text.drain(..rng.below(text.len().min(100)));
+    }
+    let from_end = if rng.one_in(2) { rng.below(text.len() + 1) } else { rng.below(text.len().min(80)) };
+    text.truncate(text.len() - from_end);
+    text
+}
+
+/// A few bytes changed, lost or put in.
+pub fn disturb(rng: &mut Rng, mut text: Vec<u8>) -> Vec<u8> {
+    if rng.one_in(20) {
+        return with_carriage_returns(&text);
+    }
+    for _ in 0..rng.between(1, 3) {
+        let at = rng.below(text.len());
+        let byte = if rng.one_in(2) { rng.pick(b"\n\r 0F\0") } else { rng.below(256) as u8 };
+        match rng.below(4) {
+            0 => text[at] = byte,
+            1 => text.insert(at, byte),
+            2 => text[at] = any_digit(rng),
+            _ => {
+                text.remove(at);
+            }
+        }
+    }
+    text
+}
+
+fn with_carriage_returns(text: &[u8]) -> Vec<u8> {
+    let mut with = Vec::new();
+    for &byte in text {
+        if byte == b'\n' {
+            with.push(b'\r');
+        }
+        with.push(byte);
+    }
+    with
+}
+
+/// Bytes, digits or frames without a season.
+pub fn noise(rng: &mut Rng) -> Vec<u8> {
+    let size = rng.pick(&[0, 1, 2, 6, 7, 20, 36, 37, 200, 2000]);
+    match rng.below(3) {
+        0 => (0..size).map(|_| rng.below(256) as u8).collect(),
+        1 => (0..size).map(|_| rng.pick(b"0123456789ABCDEF\n\n")).collect(),
+        _ => {
+            let lines = (0..rng.between(0, 6)).map(|_| frame_noise(rng)).collect();
+            text(rng, &lines)
+        }
+    }
+}
+
+/// A line of one of the three lengths, mostly of its kind.
+fn frame_noise(rng: &mut Rng) -> Vec<u8> {
+    let (kind, length) = rng.pick(&[("01", 20), ("02", 36), ("03", 6)]);
+    let mut line: Vec<u8> = (0..length).map(|_| any_digit(rng)).collect();
+    if !rng.one_in(5) {
+        put(&mut line, 0, kind);
+    }
+    if kind == "01" && rng.one_in(2) {
+        let number = any_tree(rng);
+        line = header_line(&short_period(rng, number)).into_bytes();
+    }
+    line
+}

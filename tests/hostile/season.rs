@@ -1,0 +1,238 @@
+//! A season of hours and its text.
+
+use crate::account::Header;
+use crate::dose::hour_dose;
+use crate::rng::Rng;
+use crate::trees::*;
+
+pub struct Season {
+    pub header: Header,
+    pub hours: Vec<Readings>,
+}
+
+pub fn header_line(header: &Header) -> String {
+    let Header { tree, days, first, last, level } = *header;
+    let numbers: String = [days, first, last, level].map(pair).concat();
+    format!("01{tree:02X}{numbers}")
+}
+
+/// Two bytes of any number, two's complement below 0.
+pub fn pair(number: i64) -> String {
+    format!("{:04X}", number & 0xFFFF)
+}
+
+pub fn hour_line(day: i64, hour: i64, readings: &Readings) -> String {
+    let readings: String = readings.iter().map(|&reading| pair(reading)).collect();
+    format!("02{day:04X}{hour:02X}{readings}")
+}
+
+pub fn end_line(count: i64) -> String {
+    format!("03{}", pair(count))
+}
+
+impl Season {
+    pub fn day(&self, n: usize) -> i64 {
+        self.header.first + n as i64 / 24
+    }
+
+    pub fn lines(&self) -> Vec<Vec<u8>> {
+        let mut lines = vec![header_line(&self.header)];
+        for (n, readings) in self.hours.iter().enumerate() {
+            lines.push(hour_line(self.day(n), n as i64 % 24, readings));
+        }
+        lines.push(end_line(self.hours.len() as i64));
+        lines.into_iter().map(String::into_bytes).collect()
+    }
+
+    /// What an hour adds to the dose.
+    pub fn dose_of(&self, n: usize, readings: &Readings) -> f64 {
+        let Header { tree, first, last, .. } = self.header;
+        if readings[RADIATION] > 50 {
+            hour_dose(tree, first, last, self.day(n), readings)
+        } else {
+            0.0
+        }
+    }
+
+    pub fn dose(&self) -> f64 {
+        self.hours.iter().enumerate().map(|(n, readings)| self.dose_of(n, readings)).sum()
+    }
+}
+
+// ---- periods
+
+/// A tree; those without ramps, whose seasons may be short, more often.
+pub fn any_tree(rng: &mut Rng) -> i64 {
+    rng.pick(&[1, 2, 3, 3, 3, 3, 4, 5, 6, 6, 6, 6])
+}
+
+pub fn any_level(rng: &mut Rng) -> i64 {
+    match rng.below(4) {
+        0 => rng.pick(&[1, 2, 9999, 10000]),
+        1 => rng.between(1, 10000),
+        2 => rng.between(1, 60),
+        _ => 520,
+    }
+}
+
+/// A period of so many days, at an end of the year now and then.
+pub fn period(rng: &mut Rng, tree: i64, length: i64) -> Header {
+    let days = rng.between(365, 366);
+    let latest = days - length + 1;
+    let first = if rng.one_in(6) { rng.pick(&[1, latest]) } else { rng.between(1, latest) };
+    Header { tree, days, first, last: first + length - 1, level: any_level(rng) }
+}
+
+/// As short as the tree allows, or a day or two more.
+pub fn short_period(rng: &mut Rng, number: i64) -> Header {
+    let more = rng.pick(&[0, 0, 0, 1, 2]);
+    period(rng, number, tree(number).fewest_days() + more)
+}
+
+// ---- weather
+
+/// What stays over a season.
+struct Climate {
+    warmth: f64,
+    clouds: f64,
+    ozone: f64,
+    wind: f64,
+    dryness: f64,
+}
+
+fn climate(rng: &mut Rng, number: i64) -> Climate {
+    let warmth = [9.0, 11.0, 13.0, 14.0, 16.0, 19.0][number as usize - 1];
+    Climate {
+        warmth: warmth + 6.0 * rng.unit() - 3.0,
+        clouds: 0.2 + 0.8 * rng.unit(),
+        ozone: 250.0 + 400.0 * rng.unit(),
+        wind: 80.0 + 400.0 * rng.unit(),
+        dryness: rng.unit(),
+    }
+}
+
+/// The sun's height from 0 to 1, by hour and day of the year.
+fn sun(day: i64, hour: i64) -> f64 {
+    let summer = -(std::f64::consts::TAU * (day + 10) as f64 / 365.0).cos();
+    let half = 6.0 + 2.0 * summer; // hours from noon to sunset
+    let from_noon = hour as f64 - 12.0;
+    let height = (std::f64::consts::FRAC_PI_2 * from_noon / half).cos();
+    if from_noon.abs() < half { height * (0.7 + 0.3 * summer) } else { 0.0 }
+}
+
+/// Pa, over water.
+fn saturation(degrees: f64) -> f64 {
+    610.8 * (17.27 * degrees / (degrees + 237.3)).exp()
+}
+
+fn weather(rng: &mut Rng, climate: &Climate, number: i64, day: i64, hour: i64) -> Readings {
+    let sun = sun(day, hour);
+    let light = sun * climate.clouds * (0.7 + 0.3 * rng.unit());
+    let summer = -(std::f64::consts::TAU * (day - 20) as f64 / 365.0).cos();
+    let degrees = climate.warmth + 7.0 * summer + 8.0 * (sun - 0.4) + 2.0 * rng.unit();
+    let vpd = saturation(degrees) * (0.15 + 0.6 * light + 0.2 * climate.dryness);
+    let ozone = climate.ozone * (0.6 + 0.7 * sun + 0.1 * rng.unit());
+    let wind = climate.wind * (0.3 + sun + rng.unit());
+    let edges = tree(number).soil;
+    let soil = edges[0] as f64 + (edges[1] - edges[0]) as f64 * (1.4 * climate.dryness - 0.3 + 0.05 * rng.unit());
+    let exact = [ozone, 2000.0 * light, 1000.0 * light, 10.0 * degrees, vpd, wind, soil];
+    std::array::from_fn(|reading| {
+        let (least, most) = range(number, reading);
+        (exact[reading].round() as i64).clamp(least, most)
+    })
+}
+
+/// Plausible weather over a period.
+pub fn plausible(rng: &mut Rng, header: Header) -> Season {
+    let climate = climate(rng, header.tree);
+    let hours = (0..header.hours()).map(|n| weather(rng, &climate, header.tree, header.first + n / 24, n % 24)).collect();
+    Season { header, hours }
+}
+
+// ---- corners
+
+/// The values around which a reading changes its meaning.
+fn edges(number: i64, reading: usize) -> Vec<i64> {
+    let of = tree(number);
+    match reading {
+        OZONE => vec![400],
+        RADIATION => vec![50],
+        TEMPERATURE => of.temperature.iter().copied().chain([0]).collect(),
+        VPD => of.vpd.to_vec(),
+        WIND => vec![10],
+        SOIL => of.soil.to_vec(),
+        _ => vec![],
+    }
+}
+
+/// A value at most one from an edge or from an end of the range, within the range.
+fn corner(rng: &mut Rng, number: i64, reading: usize) -> i64 {
+    let (least, most) = range(number, reading);
+    let edges = edges(number, reading);
+    if edges.is_empty() || rng.one_in(2) {
+        return rng.pick(&[least, least + 1, most - 1, most]);
+    }
+    (rng.pick(&edges) + rng.between(-1, 1)).clamp(least, most)
+}
+
+/// Some of an hour's readings put to corners.
+pub fn put_to_corners(rng: &mut Rng, number: i64, readings: &mut Readings) {
+    let often = rng.between(2, 7) as usize;
+    for reading in 0..7 {
+        if rng.one_in(often) {
+            readings[reading] = corner(rng, number, reading);
+        }
+    }
+}
+
+/// Light and ozone enough that the hour adds to the dose, unless another reading stops it.
+pub fn light_up(rng: &mut Rng, readings: &mut Readings) {
+    readings[OZONE] = rng.between(300, 5000);
+    readings[PPFD] = rng.between(100, 3000);
+    readings[RADIATION] = if rng.one_in(3) { 51 } else { rng.between(51, 1500) };
+}
+
+/// Every hour dark, though ozone and PPFD may be high, but for a few of the days given.
+pub fn few_lit(rng: &mut Rng, season: &mut Season, days: &[i64]) {
+    for readings in &mut season.hours {
+        readings[RADIATION] = if rng.one_in(4) { 50 } else { rng.between(0, 50) };
+    }
+    for _ in 0..rng.between(1, 4) {
+        let n = (24 * (rng.pick(days) - season.header.first) + rng.between(0, 23)) as usize;
+        light_up(rng, &mut season.hours[n]);
+    }
+}
+
+// ---- doses near the level
+
+/// Changes readings until the dose lies near a multiple of 10000, and makes that the level.
+pub fn near_level(rng: &mut Rng, season: &mut Season) {
+    let nearness = rng.pick(&[0.01, 0.5, 2.0, 6.0, 50.0]);
+    let mut dose = season.dose();
+    let level = ((dose / 10000.0).round() as i64).clamp(1, 10000);
+    let target = level as f64 * 10000.0 + rng.between(-4, 4) as f64;
+    let lit: Vec<usize> = (0..season.hours.len()).filter(|&n| season.hours[n][RADIATION] > 50).collect();
+    for _ in 0..4000 {
+        if lit.is_empty() || (dose - target).abs() < nearness {
+            break;
+        }
+        let n = rng.pick(&lit);
+        let changed = one_changed(rng, season.header.tree, &season.hours[n]);
+        let new = dose - season.dose_of(n, &season.hours[n]) + season.dose_of(n, &changed);
+        if (new - target).abs() < (dose - target).abs() {
+            dose = new;
+            season.hours[n] = changed;
+        }
+    }
+    season.header.level = level;
+}
+
+/// One reading moved, by little or by much, within its range; the hour stays counted.
+fn one_changed(rng: &mut Rng, number: i64, readings: &Readings) -> Readings {
+    let mut changed = *readings;
+    let reading = rng.pick(&[OZONE, PPFD, TEMPERATURE, VPD, WIND, SOIL]);
+    let (least, most) = range(number, reading);
+    let far = rng.pick(&[1, 3, 10, 100, 1000]);
+    changed[reading] = (changed[reading] + rng.between(-far, far)).clamp(least, most);
+    changed
+}

@@ -1,0 +1,75 @@
+//! The tree table of document 01, in the units of the frames.
+
+pub struct Tree {
+    pub gmax: f64,
+    pub f_min: f64,
+    pub light_a: f64,
+    /// Tmin, Topt, Tmax in tenths of °C.
+    pub temperature: [i64; 3],
+    /// p/q.
+    pub power: f64,
+    /// VPD at which the factor is 1 and at which it is f_min, Pa.
+    pub vpd: [i64; 2],
+    /// The same of the soil: tenths of a percent (trees 1, 2) or kPa.
+    pub soil: [i64; 2],
+    /// The greatest soil reading.
+    pub soil_most: i64,
+    /// cm
+    pub leaf: f64,
+    /// f_phen on the first and on the last day.
+    pub ends: [f64; 2],
+    /// f1 and f4, days.
+    pub ramps: [i64; 2],
+}
+
+impl Tree {
+    /// The fewest days of a period: E - A is at least f1 + f4.
+    pub fn fewest_days(&self) -> i64 {
+        self.ramps[0] + self.ramps[1] + 1
+    }
+}
+
+/// The tree of a number from 1 to 6.
+pub fn tree(number: i64) -> &'static Tree {
+    &TREES[number as usize - 1]
+}
+
+#[rustfmt::skip]
+static TREES: [Tree; 6] = [
+    Tree { gmax: 125.0, f_min: 0.1, light_a: 0.006, temperature: [0, 200, 2000], power: 9.0, vpd: [800, 2800],
+           soil: [150, 10], soil_most: 1000, leaf: 0.8, ends: [0.0, 0.0], ramps: [20, 30] },
+    Tree { gmax: 240.0, f_min: 0.1, light_a: 0.0042, temperature: [50, 200, 2000], power: 12.0, vpd: [500, 2700],
+           soil: [150, 10], soil_most: 1000, leaf: 5.0, ends: [0.0, 0.0], ramps: [20, 30] },
+    Tree { gmax: 130.0, f_min: 0.16, light_a: 0.01, temperature: [0, 140, 350], power: 3.0 / 2.0, vpd: [500, 3000],
+           soil: [50, 500], soil_most: 10000, leaf: 0.8, ends: [1.0, 1.0], ramps: [0, 0] },
+    Tree { gmax: 155.0, f_min: 0.13, light_a: 0.006, temperature: [50, 160, 330], power: 17.0 / 11.0, vpd: [1000, 3100],
+           soil: [50, 1250], soil_most: 10000, leaf: 7.0, ends: [0.0, 0.4], ramps: [20, 20] },
+    Tree { gmax: 265.0, f_min: 0.13, light_a: 0.006, temperature: [0, 220, 350], power: 13.0 / 22.0, vpd: [1100, 3100],
+           soil: [1000, 2000], soil_most: 10000, leaf: 4.2, ends: [0.3, 0.3], ramps: [15, 20] },
+    Tree { gmax: 195.0, f_min: 0.02, light_a: 0.012, temperature: [10, 230, 390], power: 8.0 / 11.0, vpd: [2200, 4000],
+           soil: [1000, 4500], soil_most: 10000, leaf: 3.0, ends: [1.0, 1.0], ramps: [0, 0] },
+];
+
+pub const OZONE: usize = 0;
+pub const PPFD: usize = 1;
+pub const RADIATION: usize = 2;
+pub const TEMPERATURE: usize = 3;
+pub const VPD: usize = 4;
+pub const WIND: usize = 5;
+pub const SOIL: usize = 6;
+
+/// An hour's seven readings in the order of the frame.
+pub type Readings = [i64; 7];
+
+/// The least and greatest value of a reading.
+pub fn range(number: i64, reading: usize) -> (i64, i64) {
+    match reading {
+        OZONE => (0, 5000),
+        PPFD => (0, 3000),
+        RADIATION => (0, 1500),
+        TEMPERATURE => (-500, 600),
+        VPD => (0, 10000),
+        WIND => (0, 6000),
+        _ => (0, tree(number).soil_most),
+    }
+}

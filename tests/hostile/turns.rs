@@ -1,0 +1,149 @@
+//! Cases that go through a list in turn, so that none of it is left to chance: few lines each, the rest of them by chance.
+
+use crate::account::Header;
+use crate::damage::{put, text, Lines};
+use crate::rng::Rng;
+use crate::season::*;
+use crate::trees::*;
+
+/// A header and its first hours, in plausible weather or at corners.
+fn opening(rng: &mut Rng, number: i64) -> (Season, Lines) {
+    let header = short_period(rng, number);
+    let mut season = plausible(rng, Header { last: header.first, ..header });
+    season.header = header;
+    if rng.one_in(2) {
+        season.hours.iter_mut().for_each(|readings| put_to_corners(rng, number, readings));
+    }
+    let mut lines = season.lines();
+    lines.truncate(rng.pick(&[2, 2, 3, 25]));
+    (season, lines)
+}
+
+/// Every byte somewhere in a line.
+pub fn every_byte(rng: &mut Rng, turn: u64) -> Vec<u8> {
+    let number = any_tree(rng);
+    let (_, mut lines) = opening(rng, number);
+    lines.push(end_line(24).into_bytes());
+    let at = rng.below(lines.len());
+    let place = rng.below(lines[at].len());
+    lines[at][place] = turn as u8;
+    text(rng, &lines)
+}
+
+/// Every length from 0 to 80, with a kind's number or not.
+pub fn every_length(rng: &mut Rng, turn: u64) -> Vec<u8> {
+    let number = any_tree(rng);
+    let (_, mut lines) = opening(rng, number);
+    let mut line = vec![b'0'; (turn % 81) as usize];
+    let kind = rng.pick(&["01", "02", "03", "00", "G0"]);
+    put(&mut line, 0, kind);
+    lines.insert(rng.below(lines.len() + 1), line);
+    text(rng, &lines)
+}
+
+/// Every kind's number on a line of a right length.
+pub fn every_kind(rng: &mut Rng, turn: u64) -> Vec<u8> {
+    let number = any_tree(rng);
+    let (_, mut lines) = opening(rng, number);
+    lines.push(end_line(24).into_bytes());
+    let at = rng.pick(&[0, 1, lines.len() - 1]);
+    put(&mut lines[at], 0, &format!("{:02X}", turn as u8));
+    text(rng, &lines)
+}
+
+/// Every reading of every tree at both ends of its range and one past them.
+pub fn every_reading(rng: &mut Rng, turn: u64) -> Vec<u8> {
+    let (number, reading, place) = (turn % 6 + 1, turn / 6 % 7, turn / 42 % 4);
+    let (mut season, mut lines) = opening(rng, number as i64);
+    let (least, most) = range(number as i64, reading as usize);
+    season.hours[0][reading as usize] = [least, most, least - 1, most + 1][place as usize];
+    lines[1] = hour_line(season.header.first, 0, &season.hours[0]).into_bytes();
+    text(rng, &lines)
+}
+
+/// Every field of every tree's header at its corners and one past them.
+pub fn every_field(rng: &mut Rng, turn: u64) -> Vec<u8> {
+    let number = turn % 6 + 1;
+    let (season, mut lines) = opening(rng, number as i64);
+    let header = changed(&season.header, turn / 6);
+    lines[0] = header_line(&header).into_bytes();
+    lines[1] = hour_line(header.first, 0, &season.hours[0]).into_bytes();
+    text(rng, &lines)
+}
+
+fn changed(header: &Header, turn: u64) -> Header {
+    let mut new = *header;
+    let fewest = tree(header.tree).fewest_days();
+    match turn % 27 {
+        0 => new.tree = 0,
+        1 => new.tree = 7,
+        2 => new.tree = 255,
+        3 => new.tree += 128,
+        4 => new.days = 364,
+        5 => new.days = 367,
+        6 => new.days = 0xFFFF,
+        7 => (new.first, new.last) = (0, fewest - 1),
+        8 => (new.first, new.last) = (1, fewest),
+        9 => (new.first, new.last) = (1, fewest - 1),
+        10 => new.last = new.first + fewest - 2,
+        11 => new.last = new.first - 1,
+        12 => (new.first, new.last) = (new.last, new.first - 1),
+        13 => (new.days, new.first, new.last) = (365, 1, 365),
+        14 => (new.days, new.first, new.last) = (365, 1, 366),
+        15 => (new.days, new.first, new.last) = (366, 1, 366),
+        16 => (new.days, new.first, new.last) = (366, 1, 367),
+        17 => (new.first, new.last) = (0xFFFF, 0xFFFF),
+        18 => new.level = 0,
+        19 => new.level = 1,
+        20 => new.level = 10000,
+        21 => new.level = 10001,
+        22 => new.level = 0xFFFF,
+        // two faults: the first row is given
+        23 => (new.tree, new.days) = (7, 364),
+        24 => (new.tree, new.first) = (0, 0),
+        25 => (new.days, new.first) = (367, 0),
+        _ => (new.first, new.level) = (0, 0),
+    }
+    new
+}
+
+/// Tmin, Topt, Tmax and their neighbours of every tree in one lit hour, the other readings such that the leaf takes up ozone.
+pub fn every_temperature(rng: &mut Rng, turn: u64) -> Vec<u8> {
+    let number = (turn % 6 + 1) as i64;
+    let header = short_period(rng, number);
+    let mut season = plausible(rng, header);
+    let day = rng.between(header.first, header.last);
+    few_lit(rng, &mut season, &[day]);
+    let (of_three, off) = (turn / 6 % 3, (turn / 18 % 3) as i64 - 1);
+    let temperature = (tree(number).temperature[of_three as usize] + off).min(600);
+    for readings in season.hours.iter_mut().filter(|readings| readings[RADIATION] > 50) {
+        readings[TEMPERATURE] = temperature;
+        readings[OZONE] = rng.between(2000, 5000); // above 1 nmol m⁻² s⁻¹ even at f_min
+        readings[PPFD] = rng.between(300, 3000);
+    }
+    text(rng, &season.lines())
+}
+
+/// The days at which the evergreen's dip bends, and days between.
+pub fn every_bend(rng: &mut Rng, turn: u64) -> Vec<u8> {
+    const BENDS: [i64; 15] = [79, 80, 81, 82, 145, 209, 210, 211, 259, 260, 261, 290, 319, 320, 321];
+    let bend = BENDS[(turn % 15) as usize];
+    let mut header = short_period(rng, 6);
+    header.first = bend - rng.between(0, 1);
+    header.last = bend + rng.between(0, 1);
+    let mut season = plausible(rng, header);
+    few_lit(rng, &mut season, &[bend]);
+    text(rng, &season.lines())
+}
+
+/// The days at which a ramp starts or ends, and their neighbours, of every tree with ramps.
+pub fn every_ramp(rng: &mut Rng, turn: u64) -> Vec<u8> {
+    let number = [1, 2, 4, 5][(turn % 4) as usize];
+    let header = short_period(rng, number);
+    let mut season = plausible(rng, header);
+    let ramps = tree(number).ramps;
+    let bends = [header.first, header.first + ramps[0], header.last - ramps[1], header.last];
+    let day = bends[(turn / 4 % 4) as usize] + (turn / 16 % 3) as i64 - 1;
+    few_lit(rng, &mut season, &[day.clamp(header.first, header.last)]);
+    text(rng, &season.lines())
+}

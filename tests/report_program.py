@@ -1,0 +1,255 @@
+#!/usr/bin/env python3
+"""The report program target/bin/pod1 and the script ./pod1, held to the line that tests/report_cases.py expects of each text.
+
+    python3 tests/report_program.py [VECTORS]
+
+VECTORS is the folder of season texts, else ../shared/vectors beside the repository; without it those texts are left out. The program is built by
+`rt check pod1` where it is missing. Printed: the number of cases, the peak memory over a leap year, and ok; or the first case that differs.
+"""
+
+import os
+import re
+import signal
+import subprocess
+import sys
+import tempfile
+from pathlib import Path
+
+import report_cases
+from account_cases import end_line, header_line, hour_line
+
+REPOSITORY = Path(__file__).resolve().parent.parent
+PROGRAM = REPOSITORY / "target" / "bin" / "pod1"
+SCRIPT = REPOSITORY / "pod1"
+TIME = Path("/usr/bin/time")
+LONGEST = 325036  # bytes of a leap year's text, which no accepted text exceeds
+TAKEN = 327680  # bytes that the program reads
+MOST_MEMORY = 4096  # KiB
+SECONDS = 30  # for a run to end
+
+cases = 0
+
+
+def same(name, got, expected):
+    global cases
+    cases += 1
+    if got != expected:
+        print(f"{name}: got {got!r}, expected {expected!r}")
+        sys.exit(1)
+
+
+# ---- texts
+
+
+def leap_year():
+    """Evergreen, the hours from 9 to 14 counted."""
+    yield header_line(days=366, last=366)
+    for n in range(8784):
+        light = 500 if 9 <= n % 24 < 15 else 0
+        yield hour_line(1 + n // 24, n % 24, ppfd=light, radiation=light)
+    yield end_line(8784)
+
+
+def odd_texts(day, year):
+    """Texts on the edges of what a line is."""
+    yield "empty", b""
+    yield "line feeds", b"\n\n\n"
+    yield "carriage return", b"\r"
+    yield "carriage returns before the line feeds", day.replace(b"\n", b"\r\n")
+    yield "carriage returns for line feeds", day.replace(b"\n", b"\r")
+    yield "one carriage return after the season", day + b"\r\n"
+    yield "NUL bytes", bytes(40)
+    yield "lines of NUL bytes", b"\n".join([bytes(6), bytes(20), bytes(36)])
+    yield "NUL bytes after the season", day + bytes(36)
+    yield "NUL bytes for line feeds", day.replace(b"\n", b"\0")
+    yield "a digit made NUL", day[:60] + b"\0" + day[61:]
+    yield "every byte", bytes(range(256))
+    yield "leap year", year
+    yield "leap year without its last line feed", year[:-1]
+    yield "leap year twice", year + year
+
+
+def cut_texts(day):
+    """A day stopped at each byte."""
+    for n in range(len(day)):
+        yield f"day stopped at byte {n}", day[:n]
+
+
+def long_texts(day, year):
+    """Far more than the program takes."""
+    line, hour = b"A" * 10_000_000, hour_line() + b"\n"
+    yield "10 MB line", line
+    yield "10 MB line and line feed", line + b"\n"
+    yield "10 MB line after a day", day + line
+    yield "10 MB line after a leap year", year + line
+    yield "10 MB of line feeds after a leap year", year + b"\n" * 10_000_000
+    yield "100,000 lines after a day", day + hour * 100_000
+    yield "100,000 lines after a leap year", year + hour * 100_000
+    yield "100,000 empty lines", b"\n" * 100_000
+    yield "100,000 hours without a header", hour * 100_000
+    yield "100,000 equal hours", header_line() + b"\n" + hour * 100_000
+
+
+def padded(text, line, size):
+    """The text followed by copies of the line, cut to the size."""
+    return (text + line * size)[:size]
+
+
+def border_texts(year):
+    """Sizes around what the program takes, and around the longest season."""
+    lines = (b"\n", b"A\n", b"A", end_line(8784) + b"\n", hour_line() + b"\n", header_line() + b"\n")
+    for size in (TAKEN - 1, TAKEN, TAKEN + 1):
+        for line in lines:
+            yield f"leap year and {line!r} to {size} bytes", padded(year, line, size)
+        yield f"leap year open, to {size} bytes", padded(year[:-7], b"0", size)
+        yield f"line feeds to {size} bytes", b"\n" * size
+    for extra in (1, 6, 7, 20, 21, 36, 37, 38):
+        yield f"leap year and {extra} digits", year + b"0" * extra
+
+
+# ---- runs of the program
+
+
+def run(command, text=None, stdin=subprocess.PIPE, cwd=None):
+    """What it printed, its messages, its exit status; ended with all that it started where it takes too long."""
+    out = subprocess.PIPE
+    process = subprocess.Popen(command, stdin=stdin, stdout=out, stderr=out, cwd=cwd, start_new_session=True)
+    try:
+        printed, messages = process.communicate(text, timeout=SECONDS)
+    except subprocess.TimeoutExpired:
+        os.killpg(process.pid, signal.SIGKILL)
+        printed, messages = process.communicate()
+    return printed, messages, process.returncode
+
+
+def try_text(name, text):
+    same(name, run([PROGRAM], text), (report_cases.report(text), b"", 0))
+
+
+def try_file(path):
+    """A season text as a file, held to its .expect too."""
+    text = path.read_bytes()
+    report_cases.hold(path.name, text, path.with_suffix(".expect").read_text())
+    with path.open("rb") as file:
+        same(path.name, run([PROGRAM], stdin=file), (report_cases.report(text), b"", 0))
+    if text.endswith(b"\n"):
+        try_text(f"{path.name} without its last line feed", text[:-1])
+
+
+def pour(pipe, text, size):
+    """The text in pieces of the size, as far as they are read."""
+    try:
+        for at in range(0, len(text), size):
+            os.write(pipe, text[at : at + size])
+    except BrokenPipeError:
+        pass
+    os.close(pipe)
+
+
+def try_pieces(name, text, size):
+    """The text through a pipe of packets: each read gets one piece."""
+    end, start = os.pipe2(os.O_DIRECT | os.O_CLOEXEC)
+    with subprocess.Popen([PROGRAM], stdin=end, stdout=subprocess.PIPE) as process:
+        os.close(end)
+        pour(start, text, size)
+        same(f"{name} in pieces of {size}", process.stdout.read(), report_cases.report(text))
+
+
+def try_pieces_of(day, year):
+    try_pieces("day", day, 1)
+    try_pieces("day without its last line feed", day[:-1], 1)
+    try_pieces("day and a line feed", day + b"\n", 1)
+    try_pieces("leap year", year, 37)
+    try_pieces("leap year without its last line feed", year[:-1], 37)
+    try_pieces("leap year", year, 4096)
+
+
+def try_folder(command, message, status):
+    """Nothing is printed where standard input is a directory."""
+    folder = os.open(REPOSITORY, os.O_RDONLY)
+    same(f"{command.name}, a directory as standard input", run([command], stdin=folder), (b"", message, status))
+    os.close(folder)
+
+
+def try_closed(command, message, status):
+    """Nothing is printed where standard input is closed."""
+    closed = ["sh", "-c", 'exec "$0" <&-', command]
+    same(f"{command.name}, standard input closed", run(closed), (b"", message, status))
+
+
+# ---- the script
+
+
+def cannot(*names):
+    return b"".join(b"pod1: %s: cannot be read\n" % os.fsencode(name) for name in names)
+
+
+def try_script(day):
+    texts = {"day.txt": day, "a name with spaces": day[:-1], "-n": b"0104\n", "empty": b""}
+    with tempfile.TemporaryDirectory() as folder:
+        for name, text in texts.items():
+            Path(folder, name).write_bytes(text)
+        Path(folder, "folder").mkdir()
+        lines = [report_cases.report(text) for text in texts.values()]
+        same("script, files", run([SCRIPT, *texts], cwd=folder), (b"".join(lines), b"", 0))
+        first, *others = texts
+        mixed = [SCRIPT, "missing", first, "folder", *others]
+        same("script, a missing file and a folder", run(mixed, cwd=folder), (b"".join(lines), cannot("missing", "folder"), 1))
+        same("script, a missing file last", run([SCRIPT, first, "missing"], cwd=folder), (lines[0], cannot("missing"), 1))
+    same("script, no file", run([SCRIPT], day), (report_cases.report(day), b"", 0))
+    same("script, no file, empty", run([SCRIPT], b""), (report_cases.report(b""), b"", 0))
+    try_folder(SCRIPT, cannot("standard input"), 1)
+    try_closed(SCRIPT, cannot("standard input"), 1)
+
+
+# ---- memory
+
+
+def try_memory(year):
+    """The peak over a leap year. A child of this script would be counted with the script's own pages, hence the small program between."""
+    if not TIME.exists():
+        print(f"peak memory not measured: no {TIME}")
+        return
+    messages = run([TIME, "-v", PROGRAM], year)[1].decode()
+    peak = int(re.search(r"Maximum resident set size \(kbytes\): (\d+)", messages)[1])
+    print(f"peak memory {peak} KiB")
+    same("peak memory below 4 MiB", peak < MOST_MEMORY, True)
+
+
+# ---- the whole
+
+
+def build():
+    if not PROGRAM.exists():
+        subprocess.run(["rt", "check", "pod1"], cwd=REPOSITORY, check=True, stdout=subprocess.DEVNULL)
+
+
+def try_vectors(folder):
+    if not folder.is_dir():
+        print(f"no folder {folder}: its season texts are left out")
+        return
+    for path in sorted(folder.glob("*.txt")):
+        try_file(path)
+
+
+def main():
+    build()
+    day, year = report_cases.text_of(report_cases.day(True)), report_cases.text_of(leap_year())
+    assert len(year) == LONGEST
+    try_vectors(Path(sys.argv[1]) if len(sys.argv) > 1 else REPOSITORY.parent / "shared" / "vectors")
+    for texts in (odd_texts(day, year), cut_texts(day), long_texts(day, year), border_texts(year)):
+        for name, text in texts:
+            try_text(name, text)
+    for text in report_cases.written_by_hand():
+        try_text(repr(text[:60]), text)
+    try_pieces_of(day, year)
+    try_folder(PROGRAM, b"", 0)
+    try_closed(PROGRAM, b"", 0)
+    try_script(day)
+    try_memory(year)
+    print(f"{cases} cases")
+    print("ok")
+
+
+if __name__ == "__main__":
+    main()
