@@ -1,8 +1,16 @@
 #!/usr/bin/env python3
-"""What crates/frames_cases must print, reckoned from document 01 alone ("Frames", "Tree table", "Turned-back lines").
+"""The commands for crates/frames_cases and what it must print, reckoned from document 01 alone ("Frames", "Tree table", "Turned-back lines").
 
-    python3 tests/frames_cases.py > crates/frames_cases/stdout
+    python3 tests/frames_cases.py
+
+writes crates/frames_cases/stdin and stdout: document 01's examples, every length of line, every change of one character, every length of buffer,
+records on either side of each limit, and round trips.
 """
+
+from pathlib import Path
+
+CRATE = Path(__file__).resolve().parent.parent / "crates" / "frames_cases"
+PIECE = 65536  # bytes that the program reads
 
 DIGITS = b"0123456789ABCDEF"
 RAMPS = {1: 20 + 30, 2: 20 + 30, 3: 0, 4: 20 + 20, 5: 15 + 20, 6: 0}  # f1 + f4 of each tree, in days
@@ -10,9 +18,9 @@ WATER, SUCTION = (1, 2), (3, 4, 5, 6)  # trees by their soil measure
 KINDS = {20: 1, 36: 2, 6: 3}  # the kind that a line of so many digits has
 WIDTHS = {1: (1, 2, 2, 2, 2), 2: (2, 1, 2, 2, 2, 2, 2, 2, 2), 3: (2,)}  # bytes of the fields after the kind
 
-# A record is a tuple: ("header", tree, days, first, last, level), ("end", hours) or
-# ("hour", day, hour, ozone, ppfd, radiation, temperature, vpd, wind, measure, soil).
+# A record is a tuple: (1, tree, days, first, last, level), (3, hours) or (2, day, hour, ozone, ppfd, radiation, temperature, vpd, wind, measure, soil).
 # An answer is a record, a number of bytes, or a refusal: ("row", N) or ("row", 10, "field", F).
+HEADER_KIND, HOUR_KIND, END_KIND = 1, 2, 3
 
 
 def row(n):
@@ -21,7 +29,7 @@ def row(n):
 
 def refusal_of(record):
     """Rows 5 to 8 for a header, row 10 for an hour; None where none holds."""
-    if record[0] == "header":
+    if record[0] == HEADER_KIND:
         _, tree, days, first, last, level = record
         if tree not in RAMPS:
             return row(5)
@@ -31,7 +39,7 @@ def refusal_of(record):
             return row(7)
         if not 1 <= level <= 10000:
             return row(8)
-    if record[0] == "hour":
+    if record[0] == HOUR_KIND:
         most = 10000 if record[9] == "suction" else 1000
         limits = ((0, 5000), (0, 3000), (0, 1500), (-500, 600), (0, 10000), (0, 6000), (0, most))
         readings = record[3:9] + record[10:]
@@ -57,31 +65,31 @@ def parse(line):
     return tuple(numbers)
 
 
+def record_of(tree, kind, *numbers):
+    """The record that a frame's numbers say, its soil in the tree's measure."""
+    if kind != HOUR_KIND:
+        return (kind, *numbers)
+    day, hour, ozone, ppfd, radiation, temperature, vpd, wind, soil = numbers
+    signed = temperature - 65536 if temperature >= 32768 else temperature
+    measure = "water" if tree in WATER else "suction"
+    return (kind, day, hour, ozone, ppfd, radiation, signed, vpd, wind, measure, soil)
+
+
 def read(tree, line):
     """A frame read alone, its tree given: the record, or the row that refuses it."""
     frame = parse(line)
     if frame[0] == "row":
         return frame
-    kind, numbers = frame[0], frame[1:]
-    if kind == 1:
-        record = ("header",) + numbers
-    elif kind == 3:
-        record = ("end",) + numbers
-    else:
-        if tree not in RAMPS:
-            return row(5)
-        day, hour, ozone, ppfd, radiation, temperature, vpd, wind, soil = numbers
-        signed = temperature - 65536 if temperature >= 32768 else temperature
-        measure = "water" if tree in WATER else "suction"
-        record = ("hour", day, hour, ozone, ppfd, radiation, signed, vpd, wind, measure, soil)
+    if frame[0] == HOUR_KIND and tree not in RAMPS:
+        return row(5)
+    record = record_of(tree, *frame)
     return refusal_of(record) or record
 
 
 def line_of(record):
-    kind = {"header": 1, "hour": 2, "end": 3}[record[0]]
     numbers = [n for n in record[1:] if not isinstance(n, str)]
-    text = "%02X" % kind
-    for n, width in zip(numbers, WIDTHS[kind]):
+    text = "%02X" % record[0]
+    for n, width in zip(numbers, WIDTHS[record[0]]):
         text += "%0*X" % (2 * width, n % 256**width)
     return text.encode()
 
@@ -106,136 +114,154 @@ def mark(answer):
     return "abcdefg"[answer[3] - 1] if answer[1] == 10 else str(answer[1])
 
 
+# ---- commands, each with its answer
+
+ROOM = 40  # bytes of the buffer
+
+
+def command(letter, tree, n, line, answer):
+    text = b"%c%02X%02X%s" % (letter, tree, n, line)
+    return text, text + b" " + answer.encode()
+
+
+def reading(tree, line):
+    return command(ord("R"), tree, 0, line, words(read(tree, line)))
+
+
+def change(tree, place, line):
+    marks = (mark(read(tree, line[:place] + bytes([b]) + line[place + 1 :])) for b in range(256))
+    return command(ord("C"), tree, place, line, "".join(marks))
+
+
+def writing(tree, line, room=ROOM):
+    """Rows 1 to 3; else the frame's record, its own rows, what writing it into the first `room` bytes answers, and then the whole buffer."""
+    frame = parse(line)
+    if frame[0] == "row":
+        return command(ord("W"), tree, room, line, words(frame))
+    record = record_of(tree, *frame)
+    checked = refusal_of(record) or ("sound",)
+    answer = write(record, room)
+    written = b""
+    if isinstance(answer, int):
+        written = line_of(record)
+        assert len(written) == answer
+        answer = (written.decode(), *read(tree, written))
+    buffer = written + b"." * (ROOM - len(written))
+    return command(ord("W"), tree, room, line, words((*record, *checked, *answer, buffer.decode())))
+
+
+def writing_of(record, room=ROOM, tree=None):
+    """The same of a record, whose measure is that of the tree."""
+    if tree is None:
+        tree = WATER[0] if "water" in record else SUCTION[-1]
+    line = line_of(record)
+    assert record_of(tree, *parse(line)) == record
+    return writing(tree, line, room)
+
+
+# ---- the cases
+
 EVERGREEN = b"0106016D000100010208"
 BEECH = b"0104016D000100290208"
 HOUR = b"0200010001F40000000000E603E8012C03E8"
 NOON = b"0200010C01F401F4019000E603E8012C03E8"
 END = b"030018"
+EXAMPLES = (
+    b"0104",
+    b"03001g",
+    b"010018",
+    b"0107016D000100010208",
+    b"0106016C000100010208",
+    b"0104016D000100280208",
+    b"0106016D000100010000",
+    b"0200010013890000000000E603E8012C03E8",
+    EVERGREEN,
+    BEECH,
+    HOUR,
+    NOON,
+    END,
+    b"0200010001F400000000FFFF03E8012C03E8",
+    b"0200010001F400000000000003E8012C03E8",
+    b"0200010001F400000000FE0C03E8012C03E8",
+    b"0200010001F400000000FE0B03E8012C03E8",
+    b"0200010001F400000000025803E8012C03E8",
+    b"0200010001F400000000025903E8012C03E8",
+    b"0200010001F4000000007FFF03E8012C03E8",
+    b"0200010001F400000000800003E8012C03E8",
+    b"02FFFFFF01F40000000000E603E8012C03E8",
+    b"03FFFF",
+)
+
+
+def header(tree, days, first, last, level):
+    return (HEADER_KIND, tree, days, first, last, level)
 
 
 def hour(ozone, ppfd, radiation, temperature, vpd, wind, measure, soil, day=105, clock=12):
-    return ("hour", day, clock, ozone, ppfd, radiation, temperature, vpd, wind, measure, soil)
+    return (HOUR_KIND, day, clock, ozone, ppfd, radiation, temperature, vpd, wind, measure, soil)
 
 
-def print_reading(tree, line):
-    print(f"{line.decode()} for tree {tree}: {words(read(tree, line))}")
-
-
-def print_frame(line):
-    print(f"{line.decode()}: {words(parse(line))}")
-
-
-def print_writing(record, room, size=40):
-    """The record into the first `room` bytes of `size`; then all of them."""
-    answer = write(record, room)
-    buffer = b"." * size
-    if isinstance(answer, int):
-        line = line_of(record)
-        buffer = line + buffer[len(line) :]
-        answer = (answer, "bytes")
-    print(f"{words(record)} into {room}: {words(answer)} {buffer.decode()}")
+def end(hours):
+    return (END_KIND, hours)
 
 
 def examples():
-    print("examples")
-    for line in (
-        b"0104",
-        b"03001g",
-        b"010018",
-        b"0107016D000100010208",
-        b"0106016C000100010208",
-        b"0104016D000100280208",
-        b"0106016D000100010000",
-        b"0200010013890000000000E603E8012C03E8",
-        EVERGREEN,
-        BEECH,
-        HOUR,
-        NOON,
-        END,
-        b"0200010001F400000000FFFF03E8012C03E8",
-        b"0200010001F400000000000003E8012C03E8",
-        b"0200010001F400000000FE0C03E8012C03E8",
-        b"0200010001F400000000FE0B03E8012C03E8",
-        b"0200010001F400000000025803E8012C03E8",
-        b"0200010001F400000000025903E8012C03E8",
-        b"0200010001F4000000007FFF03E8012C03E8",
-        b"0200010001F400000000800003E8012C03E8",
-        b"02FFFFFF01F40000000000E603E8012C03E8",
-        b"03FFFF",
-    ):
-        print_reading(6, line)
-    for tree in range(9):
-        print_reading(tree, HOUR)
-    print_reading(255, HOUR)
-    print_reading(255, BEECH)
-    print_reading(0, END)
-    print_reading(2, b"0200010001F40000000000E603E8012C03E9")
-    print_reading(3, b"0200010001F40000000000E603E8012C03E9")
-    print_writing(("end", 24), 5)
+    yield from (reading(6, line) for line in EXAMPLES)
+    # the given tree matters for an hour frame only
+    yield from (reading(tree, HOUR) for tree in (*range(9), 255))
+    yield reading(255, BEECH)
+    yield reading(0, END)
+    yield reading(2, b"0200010001F40000000000E603E8012C03E9")
+    yield reading(3, b"0200010001F40000000000E603E8012C03E9")
+    yield writing_of(end(24), 5)
 
 
 def frames():
-    print("frames")
-    for line in (
-        b"",
-        b"03001g",
-        b"010018",
-        b"0107016D000100010208",
-        b"01FF000000000000FFFF",
-        b"02FFFFFFFFFFFFFFFFFFFFFFFFFFFFFFFFFF",
-        HOUR,
-        END,
-    ):
-        print_frame(line)
+    """Rows 1 to 3, and numbers that no row has tested."""
+    for line in (*EXAMPLES, b"", b"01FF000000000000FFFF", b"02FFFFFFFFFFFFFFFFFFFFFFFFFFFFFFFFFF"):
+        yield writing(6, line)
 
 
 def lengths():
     for line in (EVERGREEN, HOUR, END):
         text = (line + b"0123456789ABCDEF" * 5)[:80]
-        print(f"lengths {text.decode()}")
-        for n in range(81):
-            print(f"{n}: {words(read(6, text[:n]))}")
+        yield from (reading(6, text[:n]) for n in range(81))
 
 
 def changes():
     for tree, line in ((6, BEECH), (6, HOUR), (1, HOUR), (0, HOUR), (7, HOUR), (255, HOUR), (6, END)):
-        print(f"changes {line.decode()} for tree {tree}")
-        for place in range(len(line)):
-            marks = (mark(read(tree, line[:place] + bytes([b]) + line[place + 1 :])) for b in range(256))
-            print(f"{place} {''.join(marks)}")
+        yield from (change(tree, place, line) for place in range(len(line)))
 
 
 def buffers():
-    print("buffers")
     for record in (
-        ("header", 4, 365, 105, 297, 520),
+        header(4, 365, 105, 297, 520),
         hour(500, 1200, 600, -205, 1100, 250, "suction", 300),
         hour(500, 1200, 600, -205, 1100, 250, "water", 300),
-        ("end", 4632),
+        end(4632),
     ):
-        for room in range(41):
-            print_writing(record, room)
+        yield from (writing_of(record, room) for room in range(ROOM + 1))
 
 
 def header_edges():
-    yield from (("header", tree, 365, 105, 297, 520) for tree in (0, 7, 255))
-    yield from (("header", 4, days, 105, 297, 520) for days in (0, 364, 366, 367, 65535))
-    yield ("header", 4, 365, 0, 297, 520)
-    yield ("header", 6, 365, 100, 99, 520)
-    yield ("header", 6, 365, 65535, 0, 520)
-    yield ("header", 6, 365, 1, 366, 520)
-    yield ("header", 6, 366, 1, 366, 520)
-    yield ("header", 6, 366, 1, 367, 520)
-    yield ("header", 6, 365, 365, 365, 520)
+    yield from (header(tree, 365, 105, 297, 520) for tree in (0, 7, 255))
+    yield from (header(4, days, 105, 297, 520) for days in (0, 364, 366, 367, 65535))
+    yield header(4, 365, 0, 297, 520)
+    yield header(6, 365, 100, 99, 520)
+    yield header(6, 365, 65535, 0, 520)
+    yield header(6, 365, 1, 366, 520)
+    yield header(6, 366, 1, 366, 520)
+    yield header(6, 366, 1, 367, 520)
+    yield header(6, 365, 365, 365, 520)
     for tree in (1, 2, 3, 4, 5, 6):
-        yield ("header", tree, 365, 100, 100 + RAMPS[tree] - 1, 520)
-        yield ("header", tree, 365, 100, 100 + RAMPS[tree], 520)
-    yield from (("header", 4, 365, 105, 297, level) for level in (0, 1, 10000, 10001, 65535))
+        yield header(tree, 365, 100, 100 + RAMPS[tree] - 1, 520)
+        yield header(tree, 365, 100, 100 + RAMPS[tree], 520)
+    yield from (header(4, 365, 105, 297, level) for level in (0, 1, 10000, 10001, 65535))
     # the first row that holds
-    yield ("header", 0, 364, 0, 0, 0)
-    yield ("header", 4, 364, 0, 0, 0)
-    yield ("header", 4, 365, 0, 0, 0)
-    yield ("header", 4, 365, 1, 41, 0)
+    yield header(0, 364, 0, 0, 0)
+    yield header(4, 364, 0, 0, 0)
+    yield header(4, 365, 0, 0, 0)
+    yield header(4, 365, 1, 41, 0)
 
 
 def hour_edges():
@@ -264,64 +290,54 @@ def hour_edges():
 
 
 def edges():
-    print("edges")
     for record in (*header_edges(), *hour_edges()):
-        print(f"check {words(refusal_of(record) or record)}")
-        print_writing(record, 0)
-        print_writing(record, 40)
+        yield writing_of(record, 0)
+        yield writing_of(record)
 
 
-def print_trip(record, trees):
-    backs = ("same" if read(tree, line_of(record)) == record else "differs" for tree in trees)
-    print(f"{words(record)} as {line_of(record).decode()}: {' '.join(backs)}")
+def hour_trips(measure, most):
+    yield from (hour(ozone, 1200, 600, 205, 1100, 250, measure, 300) for ozone in (0, 5000))
+    yield from (hour(500, ppfd, 600, 205, 1100, 250, measure, 300) for ppfd in (0, 3000))
+    yield from (hour(500, 1200, radiation, 205, 1100, 250, measure, 300) for radiation in (0, 1500))
+    yield from (hour(500, 1200, 600, t, 1100, 250, measure, 300) for t in (-500, -1, 0, 600))
+    yield from (hour(500, 1200, 600, 205, vpd, 250, measure, 300) for vpd in (0, 10000))
+    yield from (hour(500, 1200, 600, 205, 1100, wind, measure, 300) for wind in (0, 6000))
+    yield from (hour(500, 1200, 600, 205, 1100, 250, measure, soil) for soil in (0, most))
+    yield hour(0, 0, 0, -500, 0, 0, measure, 0, day=0, clock=0)
+    yield hour(5000, 3000, 1500, 600, 10000, 6000, measure, most, day=65535, clock=255)
 
 
-def hour_trips(measure, most, trees):
-    for ozone in (0, 5000):
-        print_trip(hour(ozone, 1200, 600, 205, 1100, 250, measure, 300), trees)
-    for ppfd in (0, 3000):
-        print_trip(hour(500, ppfd, 600, 205, 1100, 250, measure, 300), trees)
-    for radiation in (0, 1500):
-        print_trip(hour(500, 1200, radiation, 205, 1100, 250, measure, 300), trees)
-    for t in (-500, -1, 0, 600):
-        print_trip(hour(500, 1200, 600, t, 1100, 250, measure, 300), trees)
-    for vpd in (0, 10000):
-        print_trip(hour(500, 1200, 600, 205, vpd, 250, measure, 300), trees)
-    for wind in (0, 6000):
-        print_trip(hour(500, 1200, 600, 205, 1100, wind, measure, 300), trees)
-    for soil in (0, most):
-        print_trip(hour(500, 1200, 600, 205, 1100, 250, measure, soil), trees)
-    print_trip(hour(0, 0, 0, -500, 0, 0, measure, 0, day=0, clock=0), trees)
-    print_trip(hour(5000, 3000, 1500, 600, 10000, 6000, measure, most, day=65535, clock=255), trees)
+def trip(record, tree):
+    """Written into 36 bytes and read back the same."""
+    assert read(tree, line_of(record)) == record
+    return writing_of(record, 36, tree)
 
 
 def trips():
-    print("round trips")
     for record in (
-        ("header", 1, 365, 1, 51, 1),
-        ("header", 2, 366, 316, 366, 10000),
-        ("header", 3, 365, 365, 365, 520),
-        ("header", 4, 365, 1, 41, 520),
-        ("header", 5, 365, 330, 365, 520),
-        ("header", 6, 366, 1, 366, 520),
-        ("end", 0),
-        ("end", 24),
-        ("end", 8784),
-        ("end", 65535),
+        header(1, 365, 1, 51, 1),
+        header(2, 366, 316, 366, 10000),
+        header(3, 365, 365, 365, 520),
+        header(4, 365, 1, 41, 520),
+        header(5, 365, 330, 365, 520),
+        header(6, 366, 1, 366, 520),
+        end(0),
+        end(24),
+        end(8784),
+        end(65535),
     ):
-        print_trip(record, range(8))
-    hour_trips("suction", 10000, SUCTION)
-    hour_trips("water", 1000, WATER)
+        yield from (trip(record, tree) for tree in range(8))
+    yield from (trip(record, tree) for record in hour_trips("suction", 10000) for tree in SUCTION)
+    yield from (trip(record, tree) for record in hour_trips("water", 1000) for tree in WATER)
 
 
 def main():
-    examples()
-    frames()
-    lengths()
-    changes()
-    buffers()
-    edges()
-    trips()
+    cases = [*examples(), *frames(), *lengths(), *changes(), *buffers(), *edges(), *trips()]
+    commands, answers = (b"".join(text + b"\n" for text in side) for side in zip(*cases))
+    assert len(commands) <= PIECE
+    (CRATE / "stdin").write_bytes(commands)
+    (CRATE / "stdout").write_bytes(answers)
 
 
-main()
+if __name__ == "__main__":
+    main()

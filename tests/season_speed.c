@@ -1,19 +1,15 @@
-// A season's lines fed to the account of crates/account and to the same account in C with doubles (tests/season.h); how their times compare.
+// A season's lines fed to the account of crates/account and to the same account in C with doubles (tests/bench/season.h); how their times compare.
 //     season_speed TEXT
 // Both are told where the lines are, so that feeding them is all that is timed.
-#include "season.h"
-#include <math.h>
-#include <pthread.h>
+#include "bench/doubles.h"
 #include <stdint.h>
 #include <stdio.h>
 #include <stdlib.h>
 #include <string.h>
 #include <time.h>
 
-// crates/probe, written by tests/season_speed.sh
+// tests/probe.sh
 uint64_t probe_season(const uint8_t *text, size_t n, const size_t *starts, size_t lines, const size_t *ends, size_t same_lines, uint64_t which);
-uint64_t probe_1000(uint64_t i, uint64_t j);
-uint64_t probe_2000(uint64_t i, uint64_t j);
 
 struct text {
     uint8_t *bytes;
@@ -34,39 +30,7 @@ static uint64_t probe_all(const struct text *t, uint64_t which)
     return probe_season(t->bytes, t->n, t->starts, t->lines, t->ends, t->lines, which);
 }
 
-// ---- the size of an account, by the stack that a thousand more of them take
-
-static uint8_t stack[1 << 20] __attribute__((aligned(4096)));
 static volatile uint64_t kept;
-
-static void *thousand(void *unused)
-{
-    kept = probe_1000(7, 7);
-    return unused;
-}
-
-static void *two_thousand(void *unused)
-{
-    kept = probe_2000(7, 7);
-    return unused;
-}
-
-static long stack_of(void *(*run)(void *))
-{
-    pthread_attr_t attributes;
-    pthread_t thread;
-    memset(stack, 0xA5, sizeof stack);
-    pthread_attr_init(&attributes);
-    if (pthread_attr_setstack(&attributes, stack, sizeof stack) || pthread_create(&thread, &attributes, run, NULL))
-        exit(2);
-    pthread_join(thread, NULL);
-    size_t untouched = 0;
-    while (untouched < sizeof stack && stack[untouched] == 0xA5)
-        untouched++;
-    return (long)(sizeof stack - untouched);
-}
-
-// ---- times
 
 static double now(void)
 {
@@ -126,6 +90,5 @@ int main(int argc, char **argv)
         least_c = fmin(least_c, ended - middle);
     }
     printf("account %.3f ms, C %.3f ms, ratio %.2f (least of 40 runs each, in turn)\n", 1e3 * least_account, 1e3 * least_c, least_account / least_c);
-    printf("an account takes %ld bytes\n", (stack_of(two_thousand) - stack_of(thousand)) / 1000);
     return 0;
 }

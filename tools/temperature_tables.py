@@ -1,22 +1,28 @@
 #!/usr/bin/env python3
-"""Writes crates/tables/src/values.rt: each tree's f_temp table (document 01, "Factors"), in whole-number arithmetic.
+"""Each tree's f_temp table (document 01, "Factors"), in whole-number arithmetic, and the function that reads it.
 
-An entry is the greatest whole t with t/10^9 not above a·w^(p/q). The crate's proofs test every entry, so nothing rests on this script.
+    python3 tools/temperature_tables.py
+
+writes crates/tables/src/values.rt, src/lookups.rt and proofs/lookups/. An entry is the greatest whole t with t/10^9 not above a·w^(p/q). The
+proofs test every entry, so nothing rests on this script.
 """
 from math import gcd
 from pathlib import Path
 
-# Tmin, Topt, Tmax in °C
+# number, Tmin, Topt, Tmax in °C
 TREES = {
-    "BorealSpruce": (0, 20, 200),
-    "Birch": (5, 20, 200),
-    "ContinentalSpruce": (0, 14, 35),
-    "Beech": (5, 16, 33),
-    "Oak": (0, 22, 35),
-    "Evergreen": (1, 23, 39),
+    "BorealSpruce": (1, 0, 20, 200),
+    "Birch": (2, 5, 20, 200),
+    "ContinentalSpruce": (3, 0, 14, 35),
+    "Beech": (4, 5, 16, 33),
+    "Oak": (5, 0, 22, 35),
+    "Evergreen": (6, 1, 23, 39),
 }
 HIGHEST = 600  # tenths of °C
+ZERO = 500  # a reading of 0.0 °C: tenths of a degree above -50.0 °C
 DECIMALS = 9
+PART = 100  # entries of one constant array
+CRATE = Path(__file__).resolve().parent.parent / "crates" / "tables"
 
 
 def root_down(n: int, q: int) -> int:
@@ -41,29 +47,153 @@ def entry(tmin: int, topt: int, tmax: int, tenths: int) -> int:
     return root_down(numerators // denominators, q)
 
 
-def tables(tmin: int, topt: int, tmax: int) -> dict[int, list[int]]:
-    """The entries by their ten degrees: 10 has those of 10.0 to 19.9 °C, and 50 those up to 60.0 °C."""
-    out: dict[int, list[int]] = {}
-    for tenths in range(10 * tmin + 1, min(10 * tmax, HIGHEST + 1)):
-        out.setdefault(min(tenths // 100 * 10, 50), []).append(entry(tmin, topt, tmax, tenths))
-    return out
+def parts(tree: str) -> dict[int, list[int]]:
+    """The entries of 10 degrees, by the first one's reading."""
+    _, tmin, topt, tmax = TREES[tree]
+    inside = range(10 * tmin + 1, min(10 * tmax, HIGHEST + 1))
+    return {ZERO + first: [entry(tmin, topt, tmax, tenths) for tenths in inside if first <= tenths < first + PART] for first in inside[::PART]}
 
 
-def main() -> None:
+def words(tree: str) -> list[str]:
+    """BorealSpruce: boreal, spruce."""
+    return "".join(" " + c.lower() if c.isupper() else c for c in tree).split()
+
+
+def snake(tree: str) -> str:
+    return "_".join(words(tree))
+
+
+def camel(tree: str) -> str:
+    return tree[0].lower() + tree[1:]
+
+
+# ---- src
+
+
+def values() -> list[str]:
     lines = [
         "// f_temp's tables, made by tools/temperature_tables.py: for each tenth of a degree above Tmin, below Tmax and up to 60.0 °C, a·w^(p/q)",
-        "// rounded down to nine decimals. TEMPERATURE_10 has the entries of 10.0 to 19.9 °C: a table is copied where it is read, so each is short.",
+        "// rounded down to nine decimals. TEMPERATURE_601 has the entries of the reading 601 and the 99 after it: a table is copied where it is read,",
+        "// so each is short.",
     ]
-    for tree, degrees in TREES.items():
+    for tree in TREES:
         lines += ["", f"pub(crate) struct {tree};", "", f"impl {tree} {{"]
-        for ten, entries in tables(*degrees).items():
+        for first, entries in parts(tree).items():
             lines += [] if lines[-1].endswith("{") else [""]
-            lines += [f"    pub const TEMPERATURE_{ten}: [u32; {len(entries)}] = ["]
+            lines += [f"    pub const TEMPERATURE_{first}: [u32; {len(entries)}] = ["]
             lines += [f"        {t}," for t in entries]
             lines += ["    ];"]
         lines += ["}"]
-    out = Path(__file__).resolve().parent.parent / "crates/tables/src/values.rt"
-    out.write_text("\n".join(lines) + "\n")
+    return lines
+
+
+def lookup(tree: str) -> list[str]:
+    found = parts(tree)
+    first, count = min(found), sum(len(entries) for entries in found.values())
+    lines = [
+        "",
+        f"pub(crate) fn {snake(tree)}_at(x: u16) -> Bounds",
+        "    requires { ⌜ x ≤ 1100 ⌝ }",
+        f"    ensures {{ λ r. ⌜ r ≡ temperaturePair {camel(tree)} x ⌝ }}",
+        "{",
+        f"    let fmin = trees::{tree}::FMIN;",
+        f"    if x < {first} {{",
+        "        return floor_of(fmin);",
+        "    }",
+    ]
+    if first + count <= ZERO + HIGHEST:
+        lines += [f"    if {first + count - 1} < x {{", "        return floor_of(fmin);", "    }"]
+    lines += [f"    match (x - {first}) / {PART} {{"]
+    for k, start in enumerate(found):
+        lines += [
+            f"        {k if k + 1 < len(found) else '_'} => {{",
+            f"            let t = {tree}::TEMPERATURE_{start};",
+            f"            entry(&t, {start}, fmin, x)",
+            "        },",
+        ]
+    return lines + ["    }", "}"]
+
+
+def lookups() -> list[str]:
+    lines = [
+        "// Each tree's f_temp at a reading, tenths of a degree above -50.0 °C, out of the part of its table where the reading lies.",
+        "// Made by tools/temperature_tables.py.",
+        "use crate::entries::entry;",
+        "use crate::entries::floor_of;",
+        *(f"use crate::values::{tree};" for tree in sorted(TREES)),
+        "use trees::temperature::Bounds;",
+        "ghost use mathlib.Core.Path.{_≡_};",
+        "ghost use Prim.Native.Nat.{_≤_};",
+        f"ghost use Rattle.trees.specs.Figures.{{{', '.join(camel(tree) for tree in TREES)}}};",
+        "ghost use Rattle.trees.specs.Temperature.{temperaturePair};",
+    ]
+    for tree in TREES:
+        lines += lookup(tree)
+    return lines
+
+
+# ---- proofs
+
+
+def nth(name: str, n: int) -> str:
+    return name if n == 1 else f"{name}-{n}"
+
+
+def needs(tree: str) -> dict[str, str]:
+    """Each thing that the function's proof must show, with its proof."""
+    number, figures = TREES[tree][0], camel(tree)
+    count = len(parts(tree))
+    floors = 1 if TREES[tree][3] > HIGHEST // 10 else 2
+    out: dict[str, str] = {}
+    for n in range(1, floors + 1):
+        call = "floor-of" if n == 1 else f"floor-of{n}"
+        out[nth("floor-of-requires", n)] = "c κs = search needs"
+        out[nth("returns", n)] = f"c = floor-pair {figures} (λ low. omega arith) (c .{call} .ensures)"
+    for n in range(1, count + 1):
+        out[nth("slice-aggregate-entry", n)] = "c = search needs"
+        out[nth("entry-requires", n)] = "c κs = readable tt (omega arith) (omega arith)"
+    for n in range(1, count + 1):
+        call = "entry" if n == 1 else f"entry{n}"
+        out[nth("returns", floors + n)] = f"c = read-pair {number} {figures} refl (c .{call} .ensures) tt"
+    return out
+
+
+def proof(tree: str) -> list[str]:
+    name, shown = snake(tree), needs(tree)
+    lines = [
+        f"-- `tables::lookups::{name}_at` meets its contract: each table passes one computed test. Made by tools/temperature_tables.py.",
+        "use mathlib.Core.Path.{refl}",
+        "use native.Mathlib.Omega.{arith}",
+        "use borrow.Author.Needs.{needs}",
+        f"use Rattle.trees.specs.Figures.{{{camel(tree)}, figuresOf}}",
+        "use Rattle.trees.specs.Temperature.{tried, allowed}",
+        "use Rattle.trees.proofs.TemperatureTrees.{floor-pair}",
+        "use Rattle.tables.proofs.EntryLaws.{readable, read-pair}",
+        f"use Rattle.tables.proofs.lookups.{name}_at.Statement.{{statement}}",
+        f"use Rattle.tables.proofs.lookups.{name}_at.Tie as tie",
+        "",
+    ]
+    for need, body in shown.items():
+        lines += [f"{need} : tie.Need-{need}"]
+        lines += ["unfolding figuresOf tried allowed"] if "read-pair" in body else []
+        lines += [f"{need} {body}", ""]
+    spec = "-".join(words(tree)) + "-at-spec"
+    lines += [f"pub {spec} : {{M : Type 1}} → statement M", f"{spec} =", "    tie.close", "    (tie.spec"]
+    lines += [f"    {need}" for need in shown]
+    lines[-1] += ")"
+    return lines
+
+
+def write(path: Path, lines: list[str]) -> None:
+    path.parent.mkdir(parents=True, exist_ok=True)
+    path.write_text("\n".join(lines) + "\n")
+
+
+def main() -> None:
+    write(CRATE / "src" / "values.rt", values())
+    write(CRATE / "src" / "lookups.rt", lookups())
+    for tree in TREES:
+        write(CRATE / "proofs" / "lookups" / f"{snake(tree)}_at" / "Proof.antt", proof(tree))
 
 
 if __name__ == "__main__":

@@ -4,7 +4,7 @@ use borrow.Fn.World.{ArgsD, ResD}
 use denote.Triple.Clauses.{AtExit}
 use borrow.Fn.Kinds.{endedOf}
 use denote.Ref.{now}
-use Rattle.account.specs.Rules.{Feeds, Reads}
+use Rattle.book.specs.Rules.{Feeds, Reads}
 use Rattle.account.proofs.feed
 use Rattle.account.proofs.feed.Kinds as feed-kinds
 use Rattle.account.proofs.feed.Reads as feed-reads

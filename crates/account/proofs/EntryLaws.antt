@@ -4,16 +4,16 @@ use mathlib.Core.Path.{_≡_, refl}
 use native.Mathlib.Omega.{arith}
 use Rattle.trees.specs.Figures.{figuresOf}
 use Rattle.trees.specs.declared.Choice.{Choice}
-use Rattle.frames.specs.declared.Header.{Header}
-use Rattle.frames.specs.declared.Hour.{Hour}
-use Rattle.frames.specs.declared.Record.{Record}
-use Rattle.frames.specs.declared.Refusal.{Refusal}
-use Rattle.frames.specs.Answers.{Outcome, accepted, refused}
-use Rattle.frames.specs.Ranges.{checked}
-use Rattle.flux.specs.HourDose.{hourDoseOf, dosedAs}
-use Rattle.flux.specs.declared.Dosed.{Dosed}
-use Rattle.flux.proofs.EnclosureLaws.{enclosure}
-use Rattle.account.specs.Rules.{pairOf}
+use Rattle.records.specs.declared.Header.{Header}
+use Rattle.records.specs.declared.Hour.{Hour}
+use Rattle.records.specs.declared.Record.{Record}
+use Rattle.records.specs.declared.Refusal.{Refusal}
+use Rattle.records.specs.Answers.{Outcome, accepted, refused}
+use Rattle.records.specs.Ranges.{checked}
+use Rattle.doses.specs.HourDose.{hourDoseOf, dosedAs}
+use Rattle.doses.specs.declared.Dosed.{Dosed}
+use Rattle.doses.proofs.EnclosureLaws.{enclosure}
+use Rattle.book.specs.Rules.{pairOf}
 
 -- ---- what `hour_dose` says
 

@@ -1,9 +1,2 @@
-pub mod PossibleLaws
 pub mod EntryLaws
-pub mod RuleLaws
-pub mod CountedLaws
-pub mod BookLaws
-pub mod TurnLaws
-pub mod SeasonLaws
-pub mod RunLaws
 pub mod Cited

@@ -7,10 +7,10 @@ use frames::Hour;
 use frames::Record;
 ghost use Prim.Native.Nat.{_<_};
 ghost use mathlib.Core.Path.{_≡_};
-ghost use Rattle.frames.specs.declared.Record.{Record};
-ghost use Rattle.flux.specs.Dose.{excess};
-ghost use Rattle.account.specs.Account.{Room};
-ghost use Rattle.account.specs.Rules.{pairOf, opening, counting, passing, closing, entered};
+ghost use Rattle.records.specs.declared.Record.{Record};
+ghost use Rattle.doses.specs.Dose.{excess};
+ghost use Rattle.book.specs.Account.{Room};
+ghost use Rattle.book.specs.Rules.{pairOf, opening, counting, passing, closing, entered};
 
 // The dose of an hour lies from lower to upper.
 struct Pair {

@@ -1,63 +1,20 @@
 // The season account (document 01, "Account"): a fresh one, feeding it a line, reading it.
 mod entry;
-mod figures;
-mod possible;
 mod rows;
 
+pub use book::Account;
+pub use book::Fed;
+pub use book::Phase;
+pub use book::Reading;
+pub use book::Totals;
+pub use book::Verdict;
 use frames::Decoded;
 use frames::Header;
 use frames::Refusal;
 ghost use mathlib.Core.Path.{_≡_};
-ghost use Rattle.account.specs.Account.{freshAccount};
-ghost use Rattle.account.specs.Rules.{Feeds, Reads};
-ghost use Rattle.account.specs.Promise.{SeasonPromise};
-
-pub enum Phase {
-    Fresh,
-    Open,
-    Closed,
-}
-
-// The season so far: hours accepted, counted hours, POD1 at least lower and at most upper nmol m⁻², AOT40 in tenths of ppb h.
-pub struct Account {
-    pub phase: Phase,
-    pub header: Header,
-    pub hours: u16,
-    pub counted: u16,
-    pub lower: u64,
-    pub upper: u64,
-    pub aot40: u32,
-}
-
-// Whether POD1 is above the critical level.
-pub enum Verdict {
-    None,
-    Undecided,
-    Exceeded,
-    Below,
-}
-
-// What reading an account gives.
-pub struct Totals {
-    pub hours: u16,
-    pub counted: u16,
-    pub lower: u64,
-    pub upper: u64,
-    pub aot40: u32,
-    pub verdict: Verdict,
-}
-
-// The answer to a line: the new account, or the row that refuses the line and the account as it was.
-pub enum Fed {
-    Accepted(Account),
-    Refused(Refusal, Account),
-}
-
-// The answer to a reading: the figures, or row 13.
-pub enum Reading {
-    Given(Totals),
-    Refused(Refusal),
-}
+ghost use Rattle.book.specs.Account.{freshAccount};
+ghost use Rattle.book.specs.Rules.{Feeds, Reads};
+ghost use Rattle.book.specs.Promise.{SeasonPromise};
 
 // An account before its season: header fields and figures 0.
 pub fn fresh() -> Account

@@ -1,7 +1,6 @@
 // Rows 1 to 11 for an account's phase, header and hours (document 01, "Turned-back lines").
 use crate::Account;
 use crate::Phase;
-use crate::possible;
 use frames::Decoded;
 use frames::Header;
 use frames::Parsed;
@@ -10,8 +9,8 @@ use frames::RawHour;
 use frames::Record;
 use frames::Refusal;
 ghost use mathlib.Core.Path.{_≡_};
-ghost use Rattle.frames.specs.Answers.{decodedAs};
-ghost use Rattle.account.specs.Rules.{outOfTurn, isDue, countWrong, dueOf, turnOf, answerOf, refusalIn};
+ghost use Rattle.records.specs.Answers.{decodedAs};
+ghost use Rattle.book.specs.Rules.{outOfTurn, isDue, countWrong, dueOf, turnOf, answerOf, refusalIn};
 
 // Row 4: second header; hour or end when fresh; any when closed.
 fn out_of_turn(phase: Phase, frame: Raw) -> bool

@@ -4,39 +4,23 @@ use account::Account;
 use account::Phase;
 use frames::Header;
 
-fn value(c: u8) -> u64 {
-    match c {
-        48..=57 => (c - 48) as u64,
-        65..=70 => (c - 55) as u64,
-        _ => 0,
-    }
-}
-
-// A number of at most 16 digits, with one digit more; the first of 16 is dropped.
-fn longer(n: u64, c: u8) -> u64 {
-    (n % 1152921504606846976) * 16 + value(c) % 16
-}
-
-fn number(digits: &[u8]) -> u64 {
-    let mut n = 0;
-    let mut i = 0;
-    while i < digits.len() {
-        n = longer(n, digits[i]);
+// The number that the hexadecimal digits from one place to another say; of more than 16 the last ones.
+fn number(digits: &[u8], from: usize, to: usize) -> u64 {
+    let mut n: u64 = 0;
+    let mut i = from;
+    while i < to {
+        if digits.len() <= i {
+            return n;
+        }
+        let c = digits[i];
+        n = (n % 1152921504606846976) * 16 + ((c % 16 + 9 * (c / 64 % 4)) % 16) as u64;
         i += 1;
     }
     n
 }
 
-fn byte(digits: &[u8]) -> u8 {
-    (number(digits) % 256) as u8
-}
-
-fn short(digits: &[u8]) -> u16 {
-    (number(digits) % 65536) as u16
-}
-
-fn long(digits: &[u8]) -> u32 {
-    (number(digits) % 4294967296) as u32
+fn short(digits: &[u8], from: usize, to: usize) -> u16 {
+    (number(digits, from, to) % 65536) as u16
 }
 
 fn phase_of(c: u8) -> Phase {
@@ -54,19 +38,19 @@ pub(crate) fn account_of(digits: &[u8]) -> Account {
     }
     let phase = phase_of(digits[0]);
     let header = Header {
-        tree: byte(&digits[1..3]),
-        days: short(&digits[3..7]),
-        first: short(&digits[7..11]),
-        last: short(&digits[11..15]),
-        level: short(&digits[15..19]),
+        tree: (number(digits, 1, 3) % 256) as u8,
+        days: short(digits, 3, 7),
+        first: short(digits, 7, 11),
+        last: short(digits, 11, 15),
+        level: short(digits, 15, 19),
     };
     Account {
         phase: phase,
         header: header,
-        hours: short(&digits[19..23]),
-        counted: short(&digits[23..27]),
-        lower: number(&digits[27..43]),
-        upper: number(&digits[43..59]),
-        aot40: long(&digits[59..67]),
+        hours: short(digits, 19, 23),
+        counted: short(digits, 23, 27),
+        lower: number(digits, 27, 43),
+        upper: number(digits, 43, 59),
+        aot40: (number(digits, 59, 67) % 4294967296) as u32,
     }
 }

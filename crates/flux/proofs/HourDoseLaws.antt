@@ -3,12 +3,12 @@ use Prim.Native.Nat.{ℕ}
 use mathlib.Core.Path.{_≡_}
 use Rattle.trees.specs.declared.Figures.{Figures}
 use Rattle.trees.specs.declared.Choice.{Choice}
-use Rattle.flux.specs.Pair.{lowerOf, upperOf}
-use Rattle.flux.specs.HourDose.{hourDoseOf}
-use Rattle.frames.specs.declared.Hour.{Hour}
-use Rattle.frames.specs.declared.Record.{Record}
-use Rattle.frames.specs.Answers.{accepted, refused}
-use Rattle.frames.specs.Ranges.{checked}
+use Rattle.doses.specs.Pair.{lowerOf, upperOf}
+use Rattle.doses.specs.HourDose.{hourDoseOf}
+use Rattle.records.specs.declared.Hour.{Hour}
+use Rattle.records.specs.declared.Record.{Record}
+use Rattle.records.specs.Answers.{accepted, refused}
+use Rattle.records.specs.Ranges.{checked}
 
 module _ (choice : Choice) (first last : ℕ) (h : Hour) where
   pub unknown-is : choice ≡ Choice.Unknown → refused (5, 0) ≡ hourDoseOf choice first last h

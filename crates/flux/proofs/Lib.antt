@@ -1,15 +1,4 @@
-pub mod BoundaryLaws
-pub mod FluxLaws
-pub mod QuotientSizes
-pub mod QuotientLaws
-pub mod PairLaws
-pub mod OpeningLaws
-pub mod ShareLaws
 pub mod NumberLaws
 pub mod ReadingLaws
-pub mod DecayTests
-pub mod DecayLaws
 pub mod DecayLookup
-pub mod LightLaws
-pub mod EnclosureLaws
 pub mod HourDoseLaws

@@ -14,13 +14,13 @@ use Rattle.trees.specs.SoilWater.{soilWaterOf}
 use Rattle.trees.proofs.FactorLaws.{deficit-limits, soilWater-limits, phenology-limits}
 use Rattle.trees.proofs.TermLaws.{Small, deficit-small, soilWater-small, phenology-small}
 use Rattle.flux.specs.Factor.{Factor}
-use Rattle.flux.specs.Light.{lightLow, lightUp}
-use Rattle.flux.specs.Conductance.{aboveOf}
-use Rattle.flux.specs.Pair.{openingLow, openingUp, shareLow, shareUp}
+use Rattle.doses.specs.Light.{lightLow, lightUp}
+use Rattle.doses.specs.Conductance.{aboveOf}
+use Rattle.doses.specs.Pair.{openingLow, openingUp, shareLow, shareUp}
 use Rattle.exact.specs.declared.Fraction.{Fraction}
 use Rattle.exact.specs.Frac.{Frac, Is, natural, _≼_}
 use Rattle.exact.proofs.RoundingLaws.{times-down-le, times-up-le}
-use Rattle.frames.specs.declared.Hour.{Hour}
+use Rattle.records.specs.declared.Hour.{Hour}
 use Rattle.frames.specs.Layout.{soilNumber}
 
 -- ---- a number times a factor

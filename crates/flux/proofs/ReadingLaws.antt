@@ -9,10 +9,10 @@ use lib.IntN.{ℤ, pos, negsuc, _+ℤ_}
 use lib.Signed.{ltZ}
 use mir.Syntax.{w16}
 use mir.Val.{SFits, toZ, ofZ}
-use Rattle.flux.specs.Conductance.{aboveOf}
-use Rattle.frames.specs.Temperature.{temperatureOut}
-use Rattle.frames.proofs.AnswerLaws.{or-neither}
-use Rattle.frames.proofs.SignedLaws.{plain}
+use Rattle.doses.specs.Conductance.{aboveOf}
+use Rattle.records.specs.Temperature.{temperatureOut}
+use Rattle.records.proofs.AnswerLaws.{or-neither}
+use Rattle.records.proofs.SignedLaws.{plain}
 
 low-at : (t : ℤ) → ltZ t (negsuc 499) ≡ true → 0 ≡ aboveOf t
 low-at (pos n) e = absurd (true≢false (sym e))

@@ -1,9 +1,1 @@
-pub mod Light
-pub mod DecayTable
-pub mod BoundaryLayer
-pub mod Conductance
-pub mod Dose
-pub mod Pair
 pub mod Factor
-pub mod HourDose
-pub mod Enclosure

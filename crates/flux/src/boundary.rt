@@ -1,10 +1,10 @@
 // √(leaf/wind), for Rb (document 01, "Factors").
 ghost use mathlib.Core.Path.{_≡_};
-ghost use Prim.Native.Nat.{_*_, _≤_, _<_};
+ghost use Prim.Native.Nat.{_+_, _*_, _≤_, _<_};
 ghost use lib.Dec.{leb};
 ghost use Rattle.exact.specs.Root.{greatest};
-ghost use Rattle.flux.specs.BoundaryLayer.{windRead};
-ghost use Rattle.flux.specs.Pair.{rootLow};
+ghost use Rattle.doses.specs.BoundaryLayer.{windRead};
+ghost use Rattle.doses.specs.Pair.{rootLow};
 
 // √n, rounded down: it lies from r to below r + gap, and each turn halves the gap.
 fn halving(n: u64) -> u64
@@ -40,7 +40,19 @@ fn nearer(n: u64, r: u64) -> u64 {
     std::num::wrapping_add_u64(r, n / r) / 2
 }
 
-// r where it is √n, rounded down.
+// r where it is √n, rounded down, and the next is known to be above it.
+fn under(n: u64, r: u64) -> u64
+    requires small { ⌜ (n < 1125899906842624) × (r ≤ 33554431) ⌝ }
+    requires next { ⌜ n < (r + 1) * (r + 1) ⌝ }
+    ensures { λ q. ⌜ q ≡ greatest (λ t. leb (t * t) n) n ⌝ }
+{
+    if n < r * r {
+        return halving(n);
+    }
+    r
+}
+
+// r or the one before it where that is √n, rounded down: Newton's steps come from above.
 fn tested(n: u64, r: u64) -> u64
     requires { ⌜ n < 1125899906842624 ⌝ }
     ensures { λ q. ⌜ q ≡ greatest (λ t. leb (t * t) n) n ⌝ }
@@ -49,7 +61,7 @@ fn tested(n: u64, r: u64) -> u64
         return halving(n);
     }
     if n < r * r {
-        return halving(n);
+        return under(n, r - 1);
     }
     if (r + 1) * (r + 1) <= n {
         return halving(n);

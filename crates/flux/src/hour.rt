@@ -11,12 +11,12 @@ ghost use mathlib.Core.Path.{_≡_};
 ghost use Prim.Native.Nat.{_+_, _-_, _≤_};
 ghost use Rattle.trees.specs.Sound.{Sound};
 ghost use Rattle.trees.specs.Temperature.{temperaturePair};
-ghost use Rattle.flux.specs.Conductance.{aboveOf};
-ghost use Rattle.flux.specs.Pair.{openingLow, openingUp, shareLow, shareUp, rootLow, quotient, lowerOf, upperOf};
-ghost use Rattle.flux.specs.Enclosure.{Limited};
-ghost use Rattle.frames.specs.Answers.{accepted};
-ghost use Rattle.frames.specs.Ranges.{checked};
-ghost use Rattle.frames.specs.declared.Record.{Record};
+ghost use Rattle.doses.specs.Conductance.{aboveOf};
+ghost use Rattle.doses.specs.Pair.{openingLow, openingUp, shareLow, shareUp, rootLow, quotient, lowerOf, upperOf};
+ghost use Rattle.doses.specs.Enclosure.{Limited};
+ghost use Rattle.records.specs.Answers.{accepted};
+ghost use Rattle.records.specs.Ranges.{checked};
+ghost use Rattle.records.specs.declared.Record.{Record};
 
 // A quantity lies from low to up.
 pub(crate) struct Span {

@@ -7,6 +7,7 @@ mod light;
 mod reading;
 mod share;
 
+pub use doses::Dosed;
 use frames::Checked;
 use frames::Hour;
 use frames::Record;
@@ -14,14 +15,8 @@ use frames::Refusal;
 use trees::Choice;
 ghost use mathlib.Core.Path.{_≡_};
 ghost use Rattle.trees.specs.Figures.{figuresOf};
-ghost use Rattle.flux.specs.HourDose.{hourDoseOf, dosedAs};
-ghost use Rattle.flux.specs.Enclosure.{Enclosure};
-
-// What an hour adds to POD1, in nmol m⁻²: at least lower and at most upper.
-pub enum Dosed {
-    Pair { lower: u64, upper: u64 },
-    Refused(Refusal),
-}
+ghost use Rattle.doses.specs.HourDose.{hourDoseOf, dosedAs};
+ghost use Rattle.doses.specs.Enclosure.{Enclosure};
 
 // An hour's pair, for the tree with a number and the first and the last day of the period.
 pub fn hour_dose(tree: u8, first: u16, last: u16, h: Hour) -> Dosed

@@ -5,8 +5,8 @@ use crate::decay::ONES;
 use trees::temperature::Bounds;
 ghost use mathlib.Core.Path.{_≡_};
 ghost use Prim.Native.Nat.{_*_, _/_, _%_, _≤_, _<_};
-ghost use Rattle.flux.specs.Light.{decayEntry, decayLow, lightLowOf, lightUpOf};
-ghost use Rattle.flux.specs.DecayTable.{IsTable};
+ghost use Rattle.doses.specs.Light.{decayEntry, decayLow, lightLowOf, lightUpOf};
+ghost use Rattle.doses.specs.DecayTable.{IsTable};
 
 // 1 in units of 10⁻⁹.
 const ONE: u64 = 1000000000;

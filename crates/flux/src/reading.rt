@@ -1,7 +1,7 @@
 // Readings as the factors take them.
 use frames::Soil;
 ghost use mathlib.Core.Path.{_≡_};
-ghost use Rattle.flux.specs.Conductance.{aboveOf};
+ghost use Rattle.doses.specs.Conductance.{aboveOf};
 ghost use Rattle.frames.specs.Layout.{soilNumber};
 
 // A temperature in tenths of a degree above -50.0 °C; 0 where it is lower.

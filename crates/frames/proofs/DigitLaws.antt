@@ -11,7 +11,7 @@ use borrow.Author.Tests.{le-leb, lt-leb}
 use lib.ListN.{length, getD, drop}
 use lib.Seq.{drop-cons}
 use Rattle.frames.specs.Digits.{isDigit, valueOf, allDigits}
-use Rattle.frames.proofs.AnswerLaws.{and-both}
+use Rattle.records.proofs.AnswerLaws.{and-both}
 
 -- where a byte lies: a decimal digit, a letter, or one of the three gaps
 pub data Place (c : ℕ) : Type 0 where

@@ -11,7 +11,7 @@ use lib.Dec.{eqb}
 use lib.ListN.{length, getD, drop}
 use lib.Seq.{drop-cons}
 use Rattle.frames.specs.Kinds.{among, isLength, lengthOf}
-use Rattle.frames.proofs.AnswerLaws.{or-either}
+use Rattle.records.proofs.AnswerLaws.{or-either}
 
 module _ (ms : List ℕ) (i n : ℕ) (h : i < length ms) where
   among-step : among (drop i ms) n ≡ (eqb (getD ms i 0) n || among (drop (i + 1) ms) n)
@@ -28,13 +28,19 @@ pub among-none : (n : ℕ) → among [] n ≡ false
 unfolding among
 among-none n = refl
 
--- the shortest line has 6 digits
-pub length-enough : (n : ℕ) → isLength n ≡ true → 6 ≤ n
+-- a line of some kind has 6 to 36 digits
+length-within : (n : ℕ) → isLength n ≡ true → (6 ≤ n) × (n ≤ 36)
 unfolding among
-length-enough n e =
-    ⊎-elim (λ p. omega (arith, eqb-true 20 n p))
-    (λ q. ⊎-elim (λ p. omega (arith, eqb-true 36 n p)) (λ r. omega (arith, eqb-true 6 n (sym (or-false (eqb 6 n)) ∙ r))) (or-either (eqb 36 n) (eqb 6 n || false) q))
+length-within n e =
+    ⊎-elim (λ p. let q = eqb-true 20 n p in (omega arith, omega arith))
+    (λ q. ⊎-elim (λ p. let r = eqb-true 36 n p in (omega arith, omega arith)) (λ r. let s = eqb-true 6 n (sym (or-false (eqb 6 n)) ∙ r) in (omega arith, omega arith)) (or-either (eqb 36 n) (eqb 6 n || false) q))
     (or-either (eqb 20 n) (eqb 36 n || (eqb 6 n || false)) e)
+
+pub length-enough : (n : ℕ) → isLength n ≡ true → 6 ≤ n
+length-enough n e = length-within n e .0
+
+pub length-most : (n : ℕ) → isLength n ≡ true → n ≤ 36
+length-most n e = length-within n e .1
 
 -- the three kinds, b with lines of n digits
 pub data KindCase (b n : ℕ) : Type 0 where
@@ -49,3 +55,11 @@ kind-cases (suc zero) n h e = header refl (sym e)
 kind-cases (suc (suc zero)) n h e = hour refl (sym e)
 kind-cases (suc (suc (suc zero))) n h e = end refl (sym e)
 kind-cases (suc (suc (suc (suc b)))) n h e = absurd (omega arith)
+
+pub no-kind : (b : ℕ) → (b ≡ 1 → ⊥) → (b ≡ 2 → ⊥) → (b ≡ 3 → ⊥) → 0 ≡ lengthOf b
+unfolding lengthOf
+no-kind zero one two three = refl
+no-kind (suc zero) one two three = absurd (one refl)
+no-kind (suc (suc zero)) one two three = absurd (two refl)
+no-kind (suc (suc (suc zero))) one two three = absurd (three refl)
+no-kind (suc (suc (suc (suc b)))) one two three = refl

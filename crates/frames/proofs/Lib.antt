@@ -1,7 +1,6 @@
-pub mod AnswerLaws
 pub mod DigitLaws
+pub mod ValueLaws
 pub mod KindLaws
 pub mod FrameLaws
-pub mod SignedLaws
 pub mod RangeLaws
 pub mod RowLaws

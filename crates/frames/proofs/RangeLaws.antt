@@ -5,16 +5,16 @@ use mathlib.Core.Bool.{false, _||_}
 use native.Mathlib.Omega.{arith}
 use borrow.Author.Tests.{ltb-false}
 use lib.Dec.{ltb}
-use Rattle.frames.specs.Answers.{accepted}
-use Rattle.frames.specs.Temperature.{temperatureOut}
+use Rattle.records.specs.Answers.{accepted}
+use Rattle.records.specs.Temperature.{temperatureOut}
 use Rattle.frames.specs.Layout.{soilNumber}
-use Rattle.frames.specs.Ranges.{isOutside, soilOut, periodOut, checked}
-use Rattle.frames.specs.declared.Header.{Header}
-use Rattle.frames.specs.declared.Soil.{Soil}
-use Rattle.frames.specs.declared.Soil.the-variants.{Suction, Water}
-use Rattle.frames.specs.declared.Hour.{Hour}
-use Rattle.frames.specs.declared.Record.{Record}
-use Rattle.frames.proofs.AnswerLaws.{or-neither, row-passed}
+use Rattle.records.specs.Ranges.{isOutside, soilOut, periodOut, checked}
+use Rattle.records.specs.declared.Header.{Header}
+use Rattle.records.specs.declared.Soil.{Soil}
+use Rattle.records.specs.declared.Soil.the-variants.{Suction, Water}
+use Rattle.records.specs.declared.Hour.{Hour}
+use Rattle.records.specs.declared.Record.{Record}
+use Rattle.records.proofs.AnswerLaws.{or-neither, row-passed}
 
 -- from low to high
 pub record Inside (low high n : ℕ) : Type 0 where

@@ -6,15 +6,15 @@ use mathlib.Core.List.{List, [], _∷_}
 use native.Mathlib.Omega.{arith}
 use lib.Dec.{eqb, ltb}
 use lib.ListN.{length}
-use Rattle.frames.specs.Answers.{Outcome, accepted, refused, onward}
+use Rattle.records.specs.Answers.{Outcome, accepted, refused, onward}
 use Rattle.frames.specs.Digits.{within, allDigits, byteAt}
 use Rattle.frames.specs.Kinds.{among, isLength, lengthOf}
-use Rattle.frames.specs.Temperature.{temperatureOut}
-use Rattle.frames.specs.Ranges.{isOutside, periodOut, soilOut, checked}
+use Rattle.records.specs.Temperature.{temperatureOut}
+use Rattle.records.specs.Ranges.{isOutside, periodOut, soilOut, checked}
 use Rattle.frames.specs.Frames.{parsedOf, soundOf, recordOf, readOf}
 use Rattle.frames.specs.Rows.{oneOf, ReaderRows}
-use Rattle.frames.specs.declared.Raw.{Raw}
-use Rattle.frames.specs.declared.Record.{Record}
+use Rattle.records.specs.declared.Raw.{Raw}
+use Rattle.records.specs.declared.Record.{Record}
 
 -- an outcome refused by no row but those of the list, and row 10 with its field
 pub record Only {A : Type 0} (rows : List ℕ) (o : Outcome A) : Type 0 where

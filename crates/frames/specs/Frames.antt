@@ -5,13 +5,13 @@ use mathlib.Core.List.{List}
 use lib.ListN.{length}
 use lib.Dec.{eqb}
 use Rattle.trees.specs.Figures.{figuresOf, measureOf}
-use Rattle.frames.specs.Answers.{Outcome, accepted, row, onward}
+use Rattle.records.specs.Answers.{Outcome, accepted, row, onward}
 use Rattle.frames.specs.Digits.{allDigits, byteAt}
 use Rattle.frames.specs.Kinds.{isLength, lengthOf}
 use Rattle.frames.specs.Layout.{frameAt, hourOf}
-use Rattle.frames.specs.Ranges.{isOutside, checked}
-use Rattle.frames.specs.declared.Raw.{Raw}
-use Rattle.frames.specs.declared.Record.{Record}
+use Rattle.records.specs.Ranges.{isOutside, checked}
+use Rattle.records.specs.declared.Raw.{Raw}
+use Rattle.records.specs.declared.Record.{Record}
 
 unfoldable pub parsedOf : List ℕ → Outcome Raw
 parsedOf l =

@@ -6,15 +6,15 @@ use lib.ListN.{getD}
 use lib.Dec.{eqb}
 use Rattle.trees.specs.declared.Measure.{Measure}
 use Rattle.frames.specs.Digits.{byteAt, numberAt, byte, number}
-use Rattle.frames.specs.Temperature.{signedOf, complementOf}
-use Rattle.frames.specs.declared.Header.{Header}
-use Rattle.frames.specs.declared.Soil.{Soil}
-use Rattle.frames.specs.declared.Soil.the-variants.{Suction, Water}
-use Rattle.frames.specs.declared.Hour.{Hour}
-use Rattle.frames.specs.declared.RawHour.{RawHour}
-use Rattle.frames.specs.declared.End.{End}
-use Rattle.frames.specs.declared.Raw.{Raw}
-use Rattle.frames.specs.declared.Record.{Record}
+use Rattle.records.specs.Temperature.{signedOf, complementOf}
+use Rattle.records.specs.declared.Header.{Header}
+use Rattle.records.specs.declared.Soil.{Soil}
+use Rattle.records.specs.declared.Soil.the-variants.{Suction, Water}
+use Rattle.records.specs.declared.Hour.{Hour}
+use Rattle.records.specs.declared.RawHour.{RawHour}
+use Rattle.records.specs.declared.End.{End}
+use Rattle.records.specs.declared.Raw.{Raw}
+use Rattle.records.specs.declared.Record.{Record}
 
 pub data Width : Type 0 where
   one two : Width

@@ -4,7 +4,7 @@ use mathlib.Core.Bool.{Bool, true, _&&_, _||_}
 use mathlib.Core.Path.{_≡_}
 use mathlib.Core.List.{List, [], _∷_}
 use lib.Dec.{eqb}
-use Rattle.frames.specs.Answers.{refused}
+use Rattle.records.specs.Answers.{refused}
 use Rattle.frames.specs.Digits.{within}
 use Rattle.frames.specs.Kinds.{among}
 use Rattle.frames.specs.Frames.{readOf}

@@ -3,7 +3,8 @@ ghost use mathlib.Core.Path.{_≡_};
 ghost use Prim.Native.Nat.{_+_, _≤_};
 ghost use mathlib.Core.Bool.{true};
 ghost use lib.ListN.{length};
-ghost use Rattle.frames.specs.Digits.{isDigit, valueOf, allDigits, byteAt, numberAt};
+ghost use Rattle.frames.specs.Digits.{isDigit, allDigits, byteAt, numberAt};
+ghost use Rattle.frames.specs.Values.{bitsOf, Values, Says, Reads};
 
 pub(crate) fn is_digit(c: u8) -> bool
     ensures { λ r. ⌜ r ≡ isDigit c ⌝ }
@@ -17,41 +18,54 @@ pub(crate) fn is_digit(c: u8) -> bool
 
 // 0 is the byte 48 and A the byte 65: a digit's value is its low four bits, and 9 more for a letter.
 fn value(c: u8) -> u8
-    requires { ⌜ isDigit c ≡ true ⌝ }
-    ensures { λ r. ⌜ r ≡ valueOf c ⌝ }
+    ensures { λ r. ⌜ r ≡ bitsOf c ⌝ }
 {
-    c % 16 + 9 * (c / 64)
+    (c % 16 + 9 * (c / 64)) % 16
 }
 
-// No way out at a byte that is no digit, and `&`, not `&&`: with no branch the bytes are tested many at a time.
-pub(crate) fn all_digits(s: &[u8]) -> bool
-    ensures { λ r. ⌜ r ≡ allDigits (now (s .entry)) ⌝ }
+// The values of a line's characters, and whether all are digits.
+pub(crate) struct Line {
+    pub digits: bool,
+    pub values: [u8; 36],
+}
+
+// No way out at a byte that is no digit, and `&`, not `&&`: with no branch the bytes are read many at a time.
+pub(crate) fn line_of(s: &[u8]) -> Line
+    requires { ⌜ length (now s) ≤ 36 ⌝ }
+    ensures digits { λ r. ⌜ r .digits ≡ allDigits (now (s .entry)) ⌝ }
+    ensures values { λ r. ⌜ Values (r .values) ⌝ }
+    ensures says { λ r. ⌜ (allDigits (now (s .entry)) ≡ true → Says (r .values) (now (s .entry))) ⌝ }
 {
-    let mut all = true;
+    let mut digits = true;
+    let mut values = [0; 36];
     let mut i = 0;
     while i < s.len() {
-        all = all & is_digit(s[i]);
+        digits = digits & is_digit(s[i]);
+        values[i] = value(s[i]);
         i += 1;
     }
-    all
+    Line {
+        digits: digits,
+        values: values,
+    }
 }
 
-pub(crate) fn byte_at(s: &[u8], at: usize) -> u8
-    requires inside { ⌜ at + 2 ≤ length (now s) ⌝ }
-    requires digits { ⌜ allDigits (now s) ≡ true ⌝ }
-    ensures { λ r. ⌜ r ≡ byteAt at (now (s .entry)) ⌝ }
+pub(crate) fn byte_at(values: &[u8], at: usize) -> u8
+    requires inside { ⌜ at + 2 ≤ 36 ⌝ }
+    requires values { ⌜ Values (now values) ⌝ }
+    ensures { λ r. ⌜ Reads (now (values .entry)) (at + 2) r (byteAt at) ⌝ }
 {
-    let high = value(s[at]);
-    let low = value(s[at + 1]);
+    let high = values[at];
+    let low = values[at + 1];
     high * 16 + low
 }
 
-pub(crate) fn number_at(s: &[u8], at: usize) -> u16
-    requires inside { ⌜ at + 4 ≤ length (now s) ⌝ }
-    requires digits { ⌜ allDigits (now s) ≡ true ⌝ }
-    ensures { λ r. ⌜ r ≡ numberAt at (now (s .entry)) ⌝ }
+pub(crate) fn number_at(values: &[u8], at: usize) -> u16
+    requires inside { ⌜ at + 4 ≤ 36 ⌝ }
+    requires values { ⌜ Values (now values) ⌝ }
+    ensures { λ r. ⌜ Reads (now (values .entry)) (at + 4) r (numberAt at) ⌝ }
 {
-    let high = byte_at(s, at) as u16;
-    let low = byte_at(s, at + 2) as u16;
+    let high = byte_at(values, at) as u16;
+    let low = byte_at(values, at + 2) as u16;
     high * 256 + low
 }

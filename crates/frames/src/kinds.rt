@@ -1,30 +1,29 @@
-// The number of digits of a line of each kind (rows 1 and 3), by the kind's number: a later kind is one more entry.
+// The number of digits of a line of each kind (rows 1 and 3), by the kind's number: a later kind is one more arm.
 ghost use mathlib.Core.Path.{_≡_};
 ghost use Rattle.frames.specs.Kinds.{isLength, lengthOf};
 
-// There is no kind 0.
-const LENGTHS: [usize; 4] = [0, 20, 36, 6];
+// The digits of a line of a kind, 0 where there is no such kind. No array: it would be copied at each call.
+pub(crate) fn length_of(kind: u8) -> usize
+    ensures { λ r. ⌜ r ≡ lengthOf kind ⌝ }
+{
+    match kind {
+        1 => 20,
+        2 => 36,
+        3 => 6,
+        _ => 0,
+    }
+}
 
 // Some kind has lines of so many digits.
 pub(crate) fn is_length(digits: usize) -> bool
     ensures { λ r. ⌜ r ≡ isLength digits ⌝ }
 {
-    let lengths = LENGTHS;
-    let mut i = 1;
-    while i < 4 {
-        if lengths[i] == digits {
+    let mut kind: u8 = 1;
+    while kind < 4 {
+        if length_of(kind) == digits {
             return true;
         }
-        i += 1;
+        kind += 1;
     }
     false
-}
-
-// The digits of a line of a kind, 0 where there is no such kind.
-pub(crate) fn length_of(kind: u8) -> usize
-    ensures { λ r. ⌜ r ≡ lengthOf kind ⌝ }
-{
-    let lengths = LENGTHS;
-    let i = kind as usize;
-    if i < 4 { lengths[i] } else { 0 }
 }

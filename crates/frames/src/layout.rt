@@ -10,70 +10,66 @@ use crate::digits::number_at;
 use crate::temperature;
 use trees::Measure;
 ghost use mathlib.Core.Path.{_≡_};
-ghost use mathlib.Core.Bool.{true};
-ghost use Prim.Native.Nat.{_≤_};
+ghost use mathlib.Core.List.{List};
+ghost use Prim.Native.Nat.{ℕ, _≤_};
 ghost use lib.ListN.{length};
-ghost use Rattle.frames.specs.Digits.{allDigits, byteAt};
+ghost use Rattle.frames.specs.Digits.{byteAt};
+ghost use Rattle.frames.specs.Values.{Values, Says, Reads};
 ghost use Rattle.frames.specs.Kinds.{lengthOf};
 ghost use Rattle.frames.specs.Layout.{headerAt, hourAt, endAt, frameAt, soilOf, hourOf};
 
 // 01 | tree 1 | days 2 | first 2 | last 2 | level 2      20 digits
-fn header_at(s: &[u8]) -> Header
-    requires inside { ⌜ 20 ≤ length (now s) ⌝ }
-    requires digits { ⌜ allDigits (now s) ≡ true ⌝ }
-    ensures { λ r. ⌜ r ≡ headerAt (now (s .entry)) ⌝ }
+fn header_at(values: &[u8]) -> Header
+    requires { ⌜ Values (now values) ⌝ }
+    ensures { λ r. ⌜ Reads (now (values .entry)) 20 r headerAt ⌝ }
 {
     Header {
-        tree: byte_at(s, 2),
-        days: number_at(s, 4),
-        first: number_at(s, 8),
-        last: number_at(s, 12),
-        level: number_at(s, 16),
+        tree: byte_at(values, 2),
+        days: number_at(values, 4),
+        first: number_at(values, 8),
+        last: number_at(values, 12),
+        level: number_at(values, 16),
     }
 }
 
 // 02 | day 2 | hour 1 | ozone 2 | PPFD 2 | G 2 | T 2 | VPD 2 | wind 2 | soil 2      36 digits
-fn hour_at(s: &[u8]) -> RawHour
-    requires inside { ⌜ 36 ≤ length (now s) ⌝ }
-    requires digits { ⌜ allDigits (now s) ≡ true ⌝ }
-    ensures { λ r. ⌜ r ≡ hourAt (now (s .entry)) ⌝ }
+fn hour_at(values: &[u8]) -> RawHour
+    requires { ⌜ Values (now values) ⌝ }
+    ensures { λ r. ⌜ Reads (now (values .entry)) 36 r hourAt ⌝ }
 {
     RawHour {
-        day: number_at(s, 2),
-        hour: byte_at(s, 6),
-        ozone: number_at(s, 8),
-        ppfd: number_at(s, 12),
-        radiation: number_at(s, 16),
-        temperature: number_at(s, 20),
-        vpd: number_at(s, 24),
-        wind: number_at(s, 28),
-        soil: number_at(s, 32),
+        day: number_at(values, 2),
+        hour: byte_at(values, 6),
+        ozone: number_at(values, 8),
+        ppfd: number_at(values, 12),
+        radiation: number_at(values, 16),
+        temperature: number_at(values, 20),
+        vpd: number_at(values, 24),
+        wind: number_at(values, 28),
+        soil: number_at(values, 32),
     }
 }
 
 // 03 | number of hour frames 2      6 digits
-fn end_at(s: &[u8]) -> End
-    requires inside { ⌜ 6 ≤ length (now s) ⌝ }
-    requires digits { ⌜ allDigits (now s) ≡ true ⌝ }
-    ensures { λ r. ⌜ r ≡ endAt (now (s .entry)) ⌝ }
+fn end_at(values: &[u8]) -> End
+    requires { ⌜ Values (now values) ⌝ }
+    ensures { λ r. ⌜ Reads (now (values .entry)) 6 r endAt ⌝ }
 {
     End {
-        hours: number_at(s, 2),
+        hours: number_at(values, 2),
     }
 }
 
 // The frame of a line of one of the three kinds.
-pub(crate) fn frame_at(s: &[u8]) -> Raw
-    requires inside { ⌜ 6 ≤ length (now s) ⌝ }
-    requires digits { ⌜ allDigits (now s) ≡ true ⌝ }
-    requires kind { ⌜ lengthOf (byteAt 0 (now s)) ≡ length (now s) ⌝ }
-    ensures { λ r. ⌜ r ≡ frameAt (now (s .entry)) ⌝ }
+pub(crate) fn frame_at(values: &[u8]) -> Raw
+    requires { ⌜ Values (now values) ⌝ }
+    ensures { λ r. ⌜ ((l : List ℕ) → Says (now (values .entry)) l → 6 ≤ length l → lengthOf (byteAt 0 l) ≡ length l → r ≡ frameAt l) ⌝ }
 {
-    let kind = byte_at(s, 0);
+    let kind = byte_at(values, 0);
     match kind {
-        1 => Raw::Header(header_at(s)),
-        2 => Raw::Hour(hour_at(s)),
-        _ => Raw::End(end_at(s)),
+        1 => Raw::Header(header_at(values)),
+        2 => Raw::Hour(hour_at(values)),
+        _ => Raw::End(end_at(values)),
     }
 }
 

@@ -3,133 +3,27 @@
 mod digits;
 mod kinds;
 mod layout;
-mod ranges;
 mod temperature;
 
+pub use records::Checked;
+pub use records::Decoded;
+pub use records::End;
+pub use records::Header;
+pub use records::Hour;
+pub use records::Parsed;
+pub use records::Raw;
+pub use records::RawHour;
+pub use records::Record;
+pub use records::Refusal;
+pub use records::Soil;
+pub use records::Written;
+pub use records::check;
+pub use records::row_of;
 ghost use mathlib.Core.Path.{_≡_};
-ghost use Rattle.frames.specs.Answers.{rowOf, parsedAs, checkedAs, decodedAs};
+ghost use Rattle.records.specs.Answers.{parsedAs, decodedAs};
 ghost use Rattle.frames.specs.Digits.{isDigit};
 ghost use Rattle.frames.specs.Frames.{parsedOf, soundOf, recordOf, readOf};
-ghost use Rattle.frames.specs.Ranges.{checked};
 ghost use Rattle.frames.specs.Rows.{ReaderRows};
-
-// The season's header: tree number, days in the year, first and last day of the accumulation period, critical level in hundredths of mmol m⁻².
-pub struct Header {
-    pub tree: u8,
-    pub days: u16,
-    pub first: u16,
-    pub last: u16,
-    pub level: u16,
-}
-
-// A soil reading: suction in kPa, or available water in tenths of a percent.
-pub enum Soil {
-    Suction(u16),
-    Water(u16),
-}
-
-// An hour's readings: ozone in tenths of ppb, PPFD in µmol m⁻² s⁻¹, global radiation in W m⁻², temperature in tenths of °C,
-// vapour pressure deficit in Pa, wind in cm/s, soil in its measure's unit.
-pub struct Hour {
-    pub day: u16,
-    pub hour: u8,
-    pub ozone: u16,
-    pub ppfd: u16,
-    pub radiation: u16,
-    pub temperature: i16,
-    pub vpd: u16,
-    pub wind: u16,
-    pub soil: Soil,
-}
-
-// The season's end: the number of hour frames.
-pub struct End {
-    pub hours: u16,
-}
-
-pub enum Record {
-    Header(Header),
-    Hour(Hour),
-    End(End),
-}
-
-// The numbers of an hour frame as they stand in its line: temperature in two's complement, soil in the measure of a tree not yet named.
-pub struct RawHour {
-    pub day: u16,
-    pub hour: u8,
-    pub ozone: u16,
-    pub ppfd: u16,
-    pub radiation: u16,
-    pub temperature: u16,
-    pub vpd: u16,
-    pub wind: u16,
-    pub soil: u16,
-}
-
-// A frame that rows 1 to 3 let pass.
-pub enum Raw {
-    Header(Header),
-    Hour(RawHour),
-    End(End),
-}
-
-// Why a call is refused: a case for each of document 01's rows 1 to 13, in that order. Range names the field, 1 to 7.
-pub enum Refusal {
-    Length,
-    Digit,
-    Kind,
-    Turn,
-    Tree,
-    Year,
-    Period,
-    Level,
-    Due,
-    Range(u8),
-    Count,
-    Buffer,
-    Account,
-}
-
-pub enum Parsed {
-    Frame(Raw),
-    Refused(Refusal),
-}
-
-pub enum Checked {
-    Sound,
-    Refused(Refusal),
-}
-
-pub enum Decoded {
-    Read(Record),
-    Refused(Refusal),
-}
-
-pub enum Written {
-    Bytes(usize),
-    Refused(Refusal),
-}
-
-// A refusal's row in document 01, 1 to 13.
-pub fn row_of(refusal: Refusal) -> u8
-    ensures { λ r. ⌜ r ≡ rowOf «refusal» .0 ⌝ }
-{
-    match refusal {
-        Refusal::Length => 1,
-        Refusal::Digit => 2,
-        Refusal::Kind => 3,
-        Refusal::Turn => 4,
-        Refusal::Tree => 5,
-        Refusal::Year => 6,
-        Refusal::Period => 7,
-        Refusal::Level => 8,
-        Refusal::Due => 9,
-        Refusal::Range(_) => 10,
-        Refusal::Count => 11,
-        Refusal::Buffer => 12,
-        Refusal::Account => 13,
-    }
-}
 
 // A capital hexadecimal digit.
 pub fn is_digit(c: u8) -> bool
@@ -145,24 +39,15 @@ pub fn parse(line: &[u8]) -> Parsed
     if !kinds::is_length(line.len()) {
         return Parsed::Refused(Refusal::Length);
     }
-    if !digits::all_digits(line) {
+    let read = digits::line_of(line);
+    if !read.digits {
         return Parsed::Refused(Refusal::Digit);
     }
-    if kinds::length_of(digits::byte_at(line, 0)) != line.len() {
+    let values = read.values;
+    if kinds::length_of(digits::byte_at(&values, 0)) != line.len() {
         return Parsed::Refused(Refusal::Kind);
     }
-    Parsed::Frame(layout::frame_at(line))
-}
-
-// A record's own rows: 5 to 8 for a header, 10 for an hour.
-pub fn check(record: Record) -> Checked
-    ensures { λ r. ⌜ checkedAs r ≡ checked «record» ⌝ }
-{
-    match record {
-        Record::Header(h) => ranges::check_header(h),
-        Record::Hour(h) => ranges::check_hour(h),
-        Record::End(_) => Checked::Sound,
-    }
+    Parsed::Frame(layout::frame_at(&values))
 }
 
 fn sound(record: Record) -> Decoded
@@ -179,7 +64,7 @@ fn sound(record: Record) -> Decoded
 fn hour_record(tree: u8, raw: RawHour) -> Decoded
     ensures { λ r. ⌜ decodedAs r ≡ recordOf tree (Raw.Hour raw) ⌝ }
 {
-    if ranges::outside(1, 6, tree as u16) {
+    if records::outside(1, 6, tree as u16) {
         return Decoded::Refused(Refusal::Tree);
     }
     sound(Record::Hour(layout::hour_of(raw, trees::measure_of(tree))))

@@ -1,22 +1,15 @@
-// Runs the reader and the writer of frames over document 01's examples, every length of line, every change of one character,
-// every length of buffer, records on either side of each limit, and round trips. What it must print is made by tests/frames_cases.py.
+// Reads, changes and writes frames as the commands on standard input say. What it must print is made by tests/frames_cases.py.
 mod answers;
-mod buffers;
 mod changes;
-mod edges;
-mod examples;
-mod lengths;
-mod records;
+mod commands;
 mod text;
-mod trips;
+mod unchecked;
+mod writing;
+
+use libc::STDIN_FILENO;
 
 fn main() {
-    examples::print_examples();
-    examples::print_trees();
-    examples::print_frames();
-    lengths::print_lengths();
-    changes::print_changes();
-    buffers::print_buffers();
-    edges::print_edges();
-    trips::print_trips();
+    let mut buf = io::large_buffer();
+    let n = io::read_full(STDIN_FILENO, &mut buf);
+    commands::run_lines(&mut buf[..n]);
 }

@@ -5,14 +5,10 @@ pub(crate) fn print(s: &[u8]) {
     io::write_all(STDOUT_FILENO, s);
 }
 
-pub(crate) fn print_number(n: u64) {
-    io::print_decimal(STDOUT_FILENO, n);
-}
-
 // A space and a number.
 pub(crate) fn print_next(n: u16) {
     print(b" ");
-    print_number(n as u64);
+    io::print_decimal(STDOUT_FILENO, n as u64);
 }
 
 fn magnitude(n: i16) -> u64 {
@@ -30,5 +26,5 @@ pub(crate) fn print_signed(n: i16) {
     } else {
         print(b" ");
     }
-    print_number(magnitude(n));
+    io::print_decimal(STDOUT_FILENO, magnitude(n));
 }

@@ -7,20 +7,13 @@ fn print(s: &[u8]) {
     io::write_all(STDOUT_FILENO, s);
 }
 
-fn value(c: u8) -> usize {
-    match c {
-        48..=57 => (c - 48) as usize,
-        65..=70 => (c - 55) as usize,
-        _ => 0,
-    }
-}
-
 // A number of at most 8 digits; of more the last ones.
 fn number(digits: &[u8]) -> usize {
-    let mut n = 0;
+    let mut n: usize = 0;
     let mut i = 0;
     while i < digits.len() {
-        n = (n % 268435456) * 16 + value(digits[i]) % 16;
+        let c = digits[i];
+        n = (n % 268435456) * 16 + ((c % 16 + 9 * (c / 64 % 4)) % 16) as usize;
         i += 1;
     }
     n
@@ -51,16 +44,11 @@ fn print_into(text: &[u8], room: usize, buf: &mut [u8]) {
     print(b"\n");
 }
 
-// The buffer holds 128 marks before.
-fn print_report(text: &[u8], room: usize) {
-    let mut buf = [b'#'; 128];
-    print_into(text, room, &mut buf);
-}
-
-// A text that fills the buffer.
+// A text that fills the buffer; its report goes into a buffer of 128 marks.
 fn print_text(text: &mut [u8], room: usize) {
     io::read_full(STDIN_FILENO, text);
-    print_report(text, room);
+    let mut buf = [b'#'; 128];
+    print_into(text, room, &mut buf);
 }
 
 fn print_case(buf: &mut [u8], n: usize, room: usize) {

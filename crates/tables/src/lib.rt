@@ -1,4 +1,5 @@
 // f_temp (document 01, "Factors"), out of each tree's table. A reading is tenths of a degree above -50.0 °C.
+mod entries;
 mod lookups;
 mod values;
 

@@ -1,10 +1,11 @@
 // f_temp's tables, made by tools/temperature_tables.py: for each tenth of a degree above Tmin, below Tmax and up to 60.0 °C, a·w^(p/q)
-// rounded down to nine decimals. TEMPERATURE_10 has the entries of 10.0 to 19.9 °C: a table is copied where it is read, so each is short.
+// rounded down to nine decimals. TEMPERATURE_601 has the entries of the reading 601 and the 99 after it: a table is copied where it is read,
+// so each is short.
 
 pub(crate) struct BorealSpruce;
 
 impl BorealSpruce {
-    pub const TEMPERATURE_0: [u32; 99] = [
+    pub const TEMPERATURE_501: [u32; 100] = [
         12847913,
         25580369,
         38198059,
@@ -104,10 +105,10 @@ impl BorealSpruce {
         800273225,
         804707682,
         809080445,
+        813391944,
     ];
 
-    pub const TEMPERATURE_10: [u32; 100] = [
-        813391944,
+    pub const TEMPERATURE_601: [u32; 100] = [
         817642608,
         821832861,
         825963129,
@@ -207,10 +208,10 @@ impl BorealSpruce {
         999873884,
         999944114,
         999986069,
+        1000000000,
     ];
 
-    pub const TEMPERATURE_20: [u32; 100] = [
-        1000000000,
+    pub const TEMPERATURE_701: [u32; 100] = [
         999986152,
         999944772,
         999876106,
@@ -310,10 +311,10 @@ impl BorealSpruce {
         901998342,
         900263669,
         898519422,
+        896765734,
     ];
 
-    pub const TEMPERATURE_30: [u32; 100] = [
-        896765734,
+    pub const TEMPERATURE_801: [u32; 100] = [
         895002737,
         893230562,
         891449339,
@@ -413,10 +414,10 @@ impl BorealSpruce {
         699374295,
         697209243,
         695044068,
+        692878832,
     ];
 
-    pub const TEMPERATURE_40: [u32; 100] = [
-        692878832,
+    pub const TEMPERATURE_901: [u32; 100] = [
         690713596,
         688548420,
         686383365,
@@ -516,10 +517,10 @@ impl BorealSpruce {
         490348298,
         488400607,
         486456750,
+        484516748,
     ];
 
-    pub const TEMPERATURE_50: [u32; 101] = [
-        484516748,
+    pub const TEMPERATURE_1001: [u32; 100] = [
         482580623,
         480648394,
         478720082,
@@ -626,7 +627,7 @@ impl BorealSpruce {
 pub(crate) struct Birch;
 
 impl Birch {
-    pub const TEMPERATURE_0: [u32; 49] = [
+    pub const TEMPERATURE_551: [u32; 100] = [
         17313335,
         34414075,
         51304014,
@@ -676,9 +677,6 @@ impl Birch {
         610944834,
         620020527,
         628955851,
-    ];
-
-    pub const TEMPERATURE_10: [u32; 100] = [
         637752097,
         646410545,
         654932467,
@@ -730,6 +728,9 @@ impl Birch {
         919510183,
         922892038,
         926188577,
+    ];
+
+    pub const TEMPERATURE_651: [u32; 100] = [
         929400683,
         932529231,
         935575089,
@@ -779,9 +780,6 @@ impl Birch {
         999780668,
         999902915,
         999975827,
-    ];
-
-    pub const TEMPERATURE_20: [u32; 100] = [
         1000000000,
         999976023,
         999904485,
@@ -833,6 +831,9 @@ impl Birch {
         954361897,
         952632752,
         950879007,
+    ];
+
+    pub const TEMPERATURE_751: [u32; 100] = [
         949101043,
         947299239,
         945473971,
@@ -882,9 +883,6 @@ impl Birch {
         847054606,
         844510453,
         841956763,
-    ];
-
-    pub const TEMPERATURE_30: [u32; 100] = [
         839393776,
         836821727,
         834240848,
@@ -936,6 +934,9 @@ impl Birch {
         709537673,
         706764532,
         703991256,
+    ];
+
+    pub const TEMPERATURE_851: [u32; 100] = [
         701217979,
         698444836,
         695671958,
@@ -985,9 +986,6 @@ impl Birch {
         575665791,
         573017736,
         570374485,
-    ];
-
-    pub const TEMPERATURE_40: [u32; 100] = [
         567736107,
         565102672,
         562474246,
@@ -1039,6 +1037,9 @@ impl Birch {
         447942588,
         445608174,
         443280930,
+    ];
+
+    pub const TEMPERATURE_951: [u32; 100] = [
         440960882,
         438648055,
         436342474,
@@ -1088,9 +1089,6 @@ impl Birch {
         342337101,
         340373613,
         338417901,
-    ];
-
-    pub const TEMPERATURE_50: [u32; 101] = [
         336469964,
         334529803,
         332597419,
@@ -1142,6 +1140,9 @@ impl Birch {
         252038809,
         250465650,
         248899893,
+    ];
+
+    pub const TEMPERATURE_1051: [u32; 50] = [
         247341523,
         245790526,
         244246887,
@@ -1198,7 +1199,7 @@ impl Birch {
 pub(crate) struct ContinentalSpruce;
 
 impl ContinentalSpruce {
-    pub const TEMPERATURE_0: [u32; 99] = [
+    pub const TEMPERATURE_501: [u32; 100] = [
         15303161,
         30474871,
         45515413,
@@ -1298,10 +1299,10 @@ impl ContinentalSpruce {
         916211077,
         920173896,
         924035803,
+        927797152,
     ];
 
-    pub const TEMPERATURE_10: [u32; 100] = [
-        927797152,
+    pub const TEMPERATURE_601: [u32; 100] = [
         931458299,
         935019601,
         938481415,
@@ -1401,10 +1402,10 @@ impl ContinentalSpruce {
         875077252,
         870910635,
         866685477,
+        862402300,
     ];
 
-    pub const TEMPERATURE_20: [u32; 100] = [
-        862402300,
+    pub const TEMPERATURE_701: [u32; 100] = [
         858061630,
         853663995,
         849209926,
@@ -1504,10 +1505,10 @@ impl ContinentalSpruce {
         268975842,
         262279472,
         255605076,
+        248954100,
     ];
 
-    pub const TEMPERATURE_30: [u32; 50] = [
-        248954100,
+    pub const TEMPERATURE_801: [u32; 49] = [
         242328022,
         235728352,
         229156635,
@@ -1563,7 +1564,7 @@ impl ContinentalSpruce {
 pub(crate) struct Beech;
 
 impl Beech {
-    pub const TEMPERATURE_0: [u32; 49] = [
+    pub const TEMPERATURE_551: [u32; 100] = [
         19548796,
         38881232,
         57997945,
@@ -1613,9 +1614,6 @@ impl Beech {
         695486521,
         705578415,
         715485520,
-    ];
-
-    pub const TEMPERATURE_10: [u32; 100] = [
         725208548,
         734748215,
         744105238,
@@ -1667,6 +1665,9 @@ impl Beech {
         989950698,
         991573019,
         993049815,
+    ];
+
+    pub const TEMPERATURE_651: [u32; 100] = [
         994381925,
         995570190,
         996615456,
@@ -1716,9 +1717,6 @@ impl Beech {
         914499343,
         910043657,
         905488016,
-    ];
-
-    pub const TEMPERATURE_20: [u32; 100] = [
         900833467,
         896081063,
         891231862,
@@ -1770,6 +1768,9 @@ impl Beech {
         583347577,
         575280713,
         567177452,
+    ];
+
+    pub const TEMPERATURE_751: [u32; 79] = [
         559039329,
         550867898,
         542664728,
@@ -1819,9 +1820,6 @@ impl Beech {
         178254751,
         170664207,
         163147696,
-    ];
-
-    pub const TEMPERATURE_30: [u32; 30] = [
         155708978,
         148351945,
         141080629,
@@ -1858,7 +1856,7 @@ impl Beech {
 pub(crate) struct Oak;
 
 impl Oak {
-    pub const TEMPERATURE_0: [u32; 99] = [
+    pub const TEMPERATURE_501: [u32; 100] = [
         8147186,
         16266767,
         24358694,
@@ -1958,10 +1956,10 @@ impl Oak {
         653471229,
         658664809,
         663824361,
+        668949795,
     ];
 
-    pub const TEMPERATURE_10: [u32; 100] = [
-        668949795,
+    pub const TEMPERATURE_601: [u32; 100] = [
         674041018,
         679097938,
         684120462,
@@ -2061,10 +2059,10 @@ impl Oak {
         985937143,
         987109600,
         988232967,
+        989306990,
     ];
 
-    pub const TEMPERATURE_20: [u32; 100] = [
-        989306990,
+    pub const TEMPERATURE_701: [u32; 100] = [
         990331411,
         991305969,
         992230399,
@@ -2164,10 +2162,10 @@ impl Oak {
         794466721,
         788219572,
         781841831,
+        775330824,
     ];
 
-    pub const TEMPERATURE_30: [u32; 50] = [
-        775330824,
+    pub const TEMPERATURE_801: [u32; 49] = [
         768683748,
         761897675,
         754969537,
@@ -2223,7 +2221,7 @@ impl Oak {
 pub(crate) struct Evergreen;
 
 impl Evergreen {
-    pub const TEMPERATURE_0: [u32; 89] = [
+    pub const TEMPERATURE_511: [u32; 100] = [
         8510497,
         16988320,
         25433435,
@@ -2313,9 +2311,6 @@ impl Evergreen {
         614024588,
         619539998,
         625018897,
-    ];
-
-    pub const TEMPERATURE_10: [u32; 100] = [
         630461230,
         635866940,
         641235972,
@@ -2327,6 +2322,9 @@ impl Evergreen {
         672676716,
         677787392,
         682860927,
+    ];
+
+    pub const TEMPERATURE_611: [u32; 100] = [
         687897261,
         692896335,
         697858087,
@@ -2416,9 +2414,6 @@ impl Evergreen {
         974195394,
         975711736,
         977183511,
-    ];
-
-    pub const TEMPERATURE_20: [u32; 100] = [
         978610599,
         979992879,
         981330231,
@@ -2430,6 +2425,9 @@ impl Evergreen {
         988403877,
         989423221,
         990396619,
+    ];
+
+    pub const TEMPERATURE_711: [u32; 100] = [
         991323938,
         992205043,
         993039798,
@@ -2519,9 +2517,6 @@ impl Evergreen {
         879198275,
         875352113,
         871437384,
-    ];
-
-    pub const TEMPERATURE_30: [u32; 90] = [
         867453583,
         863400197,
         859276700,
@@ -2533,6 +2528,9 @@ impl Evergreen {
         833032321,
         828402233,
         823697348,
+    ];
+
+    pub const TEMPERATURE_811: [u32; 79] = [
         818917013,
         814060557,
         809127294,

@@ -5,6 +5,7 @@ use mathlib.Core.Bool.{Bool, true, _&&_}
 use mathlib.Core.List.{List, [], _∷_}
 use native.Mathlib.Omega.{arith}
 use lib.Dec.{T, eqb, eqb→eq}
+use store.Enc.{and-l, and-r}
 use Rattle.trees.specs.Figures.{continentalSpruce, beech, figuresOf}
 use Rattle.trees.specs.Temperature.{tried, allowed, temperatureAt}
 use Rattle.trees.specs.Deficit.{deficitOf}
@@ -13,7 +14,7 @@ use Rattle.trees.specs.Phenology.{byRamps, byDip, phenologyOf}
 use Rattle.trees.specs.BenchCases.{cases, AllSame, BenchCases}
 use Rattle.trees.proofs.SoundLaws.{figures-sound}
 use Rattle.trees.proofs.TemperatureRoot.{rootAt-is}
-use Rattle.trees.proofs.TemperatureTable.{and-left, and-right, greatest-tested}
+use Rattle.trees.proofs.TemperatureTable.{greatest-tested}
 use Rattle.trees.proofs.TemperatureLaws.{temperatureAt-le, temperatureAt-optimum}
 use Rattle.exact.specs.Frac.{Frac, straight}
 use Rattle.exact.proofs.FracLaws.{≼-antisym}
@@ -28,7 +29,7 @@ allSame (pair ∷ rest) = same pair && allSame rest
 all-same : (l : List (Frac × Frac)) → T (allSame l) → AllSame l
 all-same [] h = tt
 all-same (pair ∷ rest) h =
-    (record { cross = eqb→eq _ _ (and-left (same pair) (allSame rest) h) }, all-same rest (and-right (same pair) (allSame rest) h))
+    (record { cross = eqb→eq _ _ (and-l (same pair) (allSame rest) h) }, all-same rest (and-r (same pair) (allSame rest) h))
 
 pub bench-cases : BenchCases
 unfolding phenologyOf byRamps byDip deficitOf soilWaterOf straight tried allowed temperatureAt figuresOf

@@ -1,8 +1,8 @@
 -- For any sound figures each factor lies between its limits and has its stated value at the ends of its straight pieces;
 -- f_VPD falls with the deficit, f_SW falls with suction and rises with water.
-use Prim.Native.Nat.{ℕ, _+_, _-_, _*_, _≤_, _<_}
+use Prim.Native.Nat.{ℕ, _+_, _-_, _≤_, _<_}
 use mathlib.Core.Path.{_≡_, refl}
-use mathlib.Core.Bool.{Bool, true, false, cond, _&&_}
+use mathlib.Core.Bool.{Bool, true, false, cond}
 use native.Mathlib.Omega.{arith}
 use lib.Dec.{ltb, leb}
 use Rattle.trees.specs.declared.Measure.{Measure}
@@ -14,6 +14,7 @@ use Rattle.trees.specs.Sound.{Sound, SoilSound}
 use Rattle.trees.specs.Deficit.{deficitOf}
 use Rattle.trees.specs.SoilWater.{drier, soilWaterOf}
 use Rattle.trees.specs.Phenology.{byRamps, byDip, byTemperature, phenologyOf}
+use Rattle.trees.specs.Temperature.{inside}
 use Rattle.trees.proofs.PhenologyLaws.{ramps-falling, ramps-rising, phenology-ramps, phenology-dip, phenology-temperature}
 use Rattle.exact.specs.Frac.{Frac, _over_, natural, straight, _≼_, _≈_}
 use Rattle.exact.proofs.FracLaws.{≼-trans, straight-start, straight-end, straight-le, straight-ge, straight-anti}
@@ -44,7 +45,7 @@ dip-le day =
 
 temperature-le : (tmin tmax temperature : ℕ) → byTemperature tmin tmax temperature ≼ natural 1
 unfolding byTemperature
-temperature-le tmin tmax temperature = cond-le (ltb (10 * tmin) temperature && ltb temperature (10 * tmax)) (omega arith) (omega arith)
+temperature-le tmin tmax temperature = cond-le (inside tmin tmax temperature) (omega arith) (omega arith)
 
 drier-none : (m : Measure) (x : ℕ) → drier m x x ≡ 0
 drier-none Suction x = omega arith

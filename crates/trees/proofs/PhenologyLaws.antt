@@ -1,13 +1,12 @@
 -- f_phen piece by piece: which straight line or constant it is, and where.
 use Prim.Native.Nat.{ℕ, _-_, _*_, _≤_, _<_}
-use mathlib.Core.Path.{_≡_, refl}
-use mathlib.Core.Bool.{Bool, true, false, _&&_}
+use mathlib.Core.Path.{_≡_}
 use native.Mathlib.Omega.{arith}
-use borrow.Author.Tests.{ltb-true, lt-ltb, le-ltb, le-leb, lt-leb}
-use lib.Dec.{ltb}
+use borrow.Author.Tests.{lt-ltb, le-ltb, le-leb, lt-leb}
 use Rattle.trees.specs.declared.Phenology.the-variants.{Ramps, Dip, Temperature}
 use Rattle.trees.specs.declared.Figures.{Figures}
 use Rattle.trees.specs.Phenology.{byRamps, byDip, byTemperature, phenologyOf}
+use Rattle.trees.proofs.TemperatureLookup.{inside-true, inside-false}
 use Rattle.exact.specs.Frac.{_over_, natural, straight}
 
 module _ (f : Figures) (first last day : ℕ) where
@@ -40,19 +39,14 @@ module _ (day : ℕ) where
   unfolding byDip
   dip-after p = simp (lt-leb day 80 (omega arith), le-ltb day 210 (omega arith), lt-leb day 260 (omega arith), le-ltb day 320 p)
 
-and-false : (x y : Bool) → (x ≡ true → y ≡ false) → x && y ≡ false
-and-false true y h = h refl
-and-false false y h = refl
-
 module _ (tmin tmax temperature : ℕ) where
   pub temperature-between : 10 * tmin < temperature → temperature < 10 * tmax → byTemperature tmin tmax temperature ≡ natural 1
   unfolding byTemperature
-  temperature-between p q = simp (lt-ltb (10 * tmin) temperature p, lt-ltb temperature (10 * tmax) q)
+  temperature-between p q = rw (inside-true tmin tmax temperature p q)
 
   pub temperature-outside : (10 * tmin < temperature → 10 * tmax ≤ temperature) → byTemperature tmin tmax temperature ≡ natural 0
   unfolding byTemperature
-  temperature-outside h =
-      rw (and-false (ltb (10 * tmin) temperature) (ltb temperature (10 * tmax)) (λ t. le-ltb temperature (10 * tmax) (h (ltb-true (10 * tmin) temperature t))))
+  temperature-outside h = rw (inside-false tmin tmax temperature h)
 
 -- ---- f_phen by the kind of phenology
 

@@ -7,13 +7,13 @@ use native.Mathlib.Omega.{arith}
 use borrow.Author.Tests.{leb-true, leb-false}
 use lib.Dec.{T, leb, ltb, ltb→lt}
 use lib.Pow.{pow-add}
+use store.Enc.{and-l, and-r}
 use Rattle.trees.specs.declared.Figures.{Figures}
 use Rattle.trees.specs.declared.temperature.Bounds.{Bounds}
 use Rattle.trees.specs.Sound.{Sound}
 use Rattle.trees.specs.Temperature.{rootAt, inside, temperatureAt, temperaturePair}
 use Rattle.trees.proofs.TemperatureRoot.{rootAt-greatest, rootAt-grows, rootAt-next, rootAt-optimum, greatest-le-one}
 use Rattle.trees.proofs.TemperatureLookup.{inside-true}
-use Rattle.trees.proofs.TemperatureTable.{and-left, and-right}
 use Rattle.exact.specs.Frac.{Frac, _over_, natural, _≼_, greater}
 use Rattle.exact.proofs.FracLaws.{≼-refl, ≼-trans, over-le}
 use Rattle.exact.proofs.GreaterLaws.{greater-left, greater-right, greater-least}
@@ -50,10 +50,10 @@ module _ (f : Figures) (s : Sound f) (x : ℕ) where
         mul-le-mul-right (10 ^ k) (rootAt-grows f x (s .q .0) k j),
       ))
 
-  root-le : (k : ℕ) → T (inside f x) → root k ≼ natural 1
+  root-le : (k : ℕ) → T (inside (f .tmin) (f .tmax) x) → root k ≼ natural 1
   root-le k h =
-      let low = ltb→lt (10 * f .tmin) x (and-left (ltb (10 * f .tmin) x) (ltb x (10 * f .tmax)) h) in
-      let high = ltb→lt x (10 * f .tmax) (and-right (ltb (10 * f .tmin) x) (ltb x (10 * f .tmax)) h) in
+      let low = ltb→lt (10 * f .tmin) x (and-l (ltb (10 * f .tmin) x) (ltb x (10 * f .tmax)) h) in
+      let high = ltb→lt x (10 * f .tmax) (and-r (ltb (10 * f .tmin) x) (ltb x (10 * f .tmax)) h) in
       record { cross = omega (arith, greatest-le-one f s x low high (rootAt-greatest f x (s .q .0) k)) }
 
   root-next : (k : ℕ) → root (k + 9) ≼ ((rootAt 9 f x + 1) over 10 ^ 9)
@@ -69,7 +69,7 @@ module _ (f : Figures) (s : Sound f) (x : ℕ) where
   pub temperatureAt-above : (k : ℕ) → fmin ≼ temperatureAt k f x
   unfolding temperatureAt
   temperatureAt-above k =
-      cases (λ v. fmin ≼ v) (inside f x) (greater fmin (root k)) fmin (λ h. greater-left fmin (root k)) (≼-refl fmin)
+      cases (λ v. fmin ≼ v) (inside (f .tmin) (f .tmax) x) (greater fmin (root k)) fmin (λ h. greater-left fmin (root k)) (≼-refl fmin)
 
   fmin-le : fmin ≼ natural 1
   fmin-le = record { cross = omega (arith, s .fmin) }
@@ -77,14 +77,14 @@ module _ (f : Figures) (s : Sound f) (x : ℕ) where
   pub temperatureAt-le : (k : ℕ) → temperatureAt k f x ≼ natural 1
   unfolding temperatureAt
   temperatureAt-le k =
-      cases (λ v. v ≼ natural 1) (inside f x) (greater fmin (root k)) fmin (λ h. greater-least fmin (root k) fmin-le (root-le k h))
+      cases (λ v. v ≼ natural 1) (inside (f .tmin) (f .tmax) x) (greater fmin (root k)) fmin (λ h. greater-least fmin (root k) fmin-le (root-le k h))
       fmin-le
 
   -- it never falls
   temperatureAt-step : (k j : ℕ) → temperatureAt k f x ≼ temperatureAt (k + j) f x
   unfolding temperatureAt
   temperatureAt-step k j =
-      cases₂ _≼_ (inside f x) (greater fmin (root k)) fmin (greater fmin (root (k + j))) fmin
+      cases₂ _≼_ (inside (f .tmin) (f .tmax) x) (greater fmin (root k)) fmin (greater fmin (root (k + j))) fmin
       (λ h.
       greater-least fmin (root k) (greater-left fmin (root (k + j)))
       (≼-trans (root-mono k j) (greater-right fmin (root (k + j)))))
@@ -111,7 +111,7 @@ module _ (f : Figures) (s : Sound f) (x : ℕ) where
   unfolding temperatureAt temperaturePair
   temperaturePair-low =
       let top = greater fmin (root 9) in
-      cases₂ (λ (p : Bounds) v. (p .lower over 10 ^ 9) ≼ v) (inside f x) found least top fmin
+      cases₂ (λ (p : Bounds) v. (p .lower over 10 ^ 9) ≼ v) (inside (f .tmin) (f .tmax) x) found least top fmin
       (λ h.
       max-case (λ m. (m over 10 ^ 9) ≼ top) floor (rootAt 9 f x) (leb floor (rootAt 9 f x)) refl
       (≼-trans floor-is (greater-left fmin (root 9))) (greater-right fmin (root 9)))
@@ -121,18 +121,18 @@ module _ (f : Figures) (s : Sound f) (x : ℕ) where
   unfolding temperatureAt temperaturePair
   temperaturePair-high k =
       let next : ((rootAt 9 f x + 1) over 10 ^ 9) ≼ (max floor (rootAt 9 f x + 1) over 10 ^ 9) = record { cross = omega arith } in
-      cases₂ (λ (p : Bounds) v. v ≼ (p .upper over 10 ^ 9)) (inside f x) found least (greater fmin (root k)) fmin
+      cases₂ (λ (p : Bounds) v. v ≼ (p .upper over 10 ^ 9)) (inside (f .tmin) (f .tmax) x) found least (greater fmin (root k)) fmin
       (λ h.
       greater-least fmin (root k) (record { cross = omega arith }) (≼-trans (≼-trans (root-mono k 9) (root-next k)) next))
       (record { cross = omega arith })
 
   pub temperaturePair-gap : temperaturePair f x .upper ≤ temperaturePair f x .lower + 1
   unfolding temperaturePair
-  temperaturePair-gap = cases (λ p. p .upper ≤ p .lower + 1) (inside f x) found least (λ h. omega arith) (omega arith)
+  temperaturePair-gap = cases (λ p. p .upper ≤ p .lower + 1) (inside (f .tmin) (f .tmax) x) found least (λ h. omega arith) (omega arith)
 
   pub temperaturePair-order : temperaturePair f x .lower ≤ temperaturePair f x .upper
   unfolding temperaturePair
-  temperaturePair-order = cases (λ p. p .lower ≤ p .upper) (inside f x) found least (λ h. omega arith) (omega arith)
+  temperaturePair-order = cases (λ p. p .lower ≤ p .upper) (inside (f .tmin) (f .tmax) x) found least (λ h. omega arith) (omega arith)
 
   pub temperaturePair-le : temperaturePair f x .lower ≤ 10 ^ 9
   temperaturePair-le = let l = ≼-trans temperaturePair-low (temperatureAt-le 9) in omega (arith, l .cross)
@@ -144,4 +144,4 @@ temperatureAt-optimum f s k =
     let fmin : Frac = f .fmin over 100 in
     let root : Frac = rootAt k f x over 10 ^ k in
     let one : natural 1 ≼ root = record { cross = omega (arith, rootAt-optimum f s k, ten-pos k) } in
-    rw (inside-true f x (omega (arith, s .topt)) (omega (arith, s .tmax))) (≼-trans one (greater-right fmin root))
+    rw (inside-true (f .tmin) (f .tmax) x (omega (arith, s .topt)) (omega (arith, s .tmax))) (≼-trans one (greater-right fmin root))

@@ -1,22 +1,15 @@
 -- A table's rule at each of its entries, out of one test that is computed over the whole table.
 use Prim.Native.Nat.{ℕ, zero, suc, _+_, _<_}
 use mathlib.Core.Path.{_∙_, subst, sym}
-use mathlib.Core.Bool.{Bool, true, false, _&&_}
+use mathlib.Core.Bool.{Bool, true, _&&_}
 use mathlib.Core.List.{List, [], _∷_}
 use native.Mathlib.Nat.{add-zero, add-suc, suc-add, le-of-suc-le-suc, not-suc-le-zero}
 use lib.Dec.{T, leb, ltb, leb→le, ltb→lt}
 use lib.ListN.{length, getD}
+use store.Enc.{and-l, and-r}
 use Rattle.trees.specs.declared.Figures.{Figures}
 use Rattle.trees.specs.Temperature.{tried, allowed, IsGreatest}
 use Rattle.trees.specs.TemperatureTable.{IsTable}
-
-pub and-left : (s t : Bool) → T (s && t) → T s
-and-left true t h = tt
-and-left false t h = h
-
-pub and-right : (s t : Bool) → T (s && t) → T t
-and-right true t h = h
-and-right false t h = absurd h
 
 abbrev pub greatestTest : Figures → ℕ → ℕ → Bool
 unfolding tried allowed
@@ -25,10 +18,10 @@ greatestTest f x t = leb (tried f x t) (allowed 9 f x) && ltb (allowed 9 f x) (t
 pub greatest-tested : (f : Figures) (x t : ℕ) → T (greatestTest f x t) → IsGreatest 9 f x t
 unfolding tried allowed
 greatest-tested f x t h = record {
-  under = leb→le (tried f x t) (allowed 9 f x) (and-left (leb (tried f x t) (allowed 9 f x)) (ltb (allowed 9 f x) (tried f x (t + 1))) h);
+  under = leb→le (tried f x t) (allowed 9 f x) (and-l (leb (tried f x t) (allowed 9 f x)) (ltb (allowed 9 f x) (tried f x (t + 1))) h);
   above =
       ltb→lt (allowed 9 f x) (tried f x (t + 1))
-      (and-right (leb (tried f x t) (allowed 9 f x)) (ltb (allowed 9 f x) (tried f x (t + 1))) h);
+      (and-r (leb (tried f x t) (allowed 9 f x)) (ltb (allowed 9 f x) (tried f x (t + 1))) h);
 }
 
 -- each entry is the greatest, the first one at x
@@ -43,10 +36,10 @@ unfolding tried allowed
 entry-tested f x [] h i l = absurd (not-suc-le-zero l)
 entry-tested f x (t ∷ ts) h zero l =
     subst (λ (m : ℕ). IsGreatest 9 f m t) (sym (add-zero x))
-    (greatest-tested f x t (and-left (greatestTest f x t) (everyTest f (suc x) ts) h))
+    (greatest-tested f x t (and-l (greatestTest f x t) (everyTest f (suc x) ts) h))
 entry-tested f x (t ∷ ts) h (suc i) l =
     subst (λ (m : ℕ). IsGreatest 9 f m (getD ts i 0)) (suc-add x i ∙ sym (add-suc x i))
-    (entry-tested f (suc x) ts (and-right (greatestTest f x t) (everyTest f (suc x) ts) h) i (le-of-suc-le-suc l))
+    (entry-tested f (suc x) ts (and-r (greatestTest f x t) (everyTest f (suc x) ts) h) i (le-of-suc-le-suc l))
 
 module _ (f : Figures) (from : ℕ) (ts : List ℕ) where
   abbrev pub tableTest : Bool

@@ -1,37 +1,33 @@
 -- What the tree's number picks: its figures with its table, and the pair that the definition gives to that number.
-use Prim.Native.Nat.{ℕ, _+_, _*_, _<_, _≤_}
+use Prim.Native.Nat.{ℕ, _+_, _-_, _*_, _<_, _≤_, max}
 use mathlib.Core.Path.{_≡_, refl, sym, _∙_}
 use mathlib.Core.List.{List}
 use borrow.Author.Tests.{le-leb, lt-leb}
 use lib.Dec.{T}
-use lib.ListN.{length}
+use lib.ListN.{length, getD}
 use Rattle.trees.specs.declared.Figures.{Figures}
 use Rattle.trees.specs.declared.Choice.{Choice}
 use Rattle.trees.specs.declared.Choice.the-variants.{Tree, Unknown}
 use Rattle.trees.specs.declared.temperature.Bounds.{Bounds}
 use Rattle.trees.specs.Figures.{figuresOf}
-use Rattle.trees.specs.Sound.{Sound}
 use Rattle.trees.specs.Temperature.{temperaturePair, temperatureOf}
-use Rattle.trees.specs.TemperatureTable.{IsTable}
 use Rattle.trees.proofs.SoundLaws.{figures-sound}
-use Rattle.trees.proofs.TemperatureLookup.{pair-outside}
+use Rattle.trees.proofs.TemperatureLookup.{pair-outside, pair-read}
 use Rattle.trees.proofs.TemperatureTable.{tableTest, table-tested}
 
-pub sound-of : (tree : ℕ) (f : Figures) {g : Figures} → figuresOf tree ≡ Tree f → g ≡ f → Sound g
-sound-of tree f chosen e = rw e (figures-sound tree f chosen)
-
--- what `entry` asks for
-pub picked :
-    (tree : ℕ) (f : Figures) {g : Figures} {from x : ℕ} {ts : List ℕ} → figuresOf tree ≡ Tree f → g ≡ f → T (tableTest f from ts) →
+-- what reading an entry gives is the tree's pair
+pub table-pair :
+    (tree : ℕ) (f : Figures) (from : ℕ) (ts : List ℕ) {x : ℕ} {r : Bounds} → figuresOf tree ≡ Tree f → T (tableTest f from ts) →
     10 * f .tmin < x → x < 10 * f .tmax → from ≤ x → x < from + length ts →
-    Sound g × (IsTable g from ts × (((10 * g .tmin < x) × (x < 10 * g .tmax)) × ((from ≤ x) × (x < from + length ts))))
-picked tree f {g} {from} {x} {ts} chosen e tested low high first short =
-    rw e (figures-sound tree f chosen, (table-tested f from ts tested, ((low, high), (first, short))))
+    (r .lower ≡ max (f .fmin * 10000000) (getD ts (x - from) 0)) × (r .upper ≡ max (f .fmin * 10000000) (getD ts (x - from) 0 + 1)) →
+    r ≡ temperaturePair f x
+table-pair tree f from ts {x} chosen tested low high first short h =
+    pair-read (figures-sound tree f chosen) (table-tested f from ts tested) low high first short h
 
-pub not-found :
-    {f g : Figures} {x : ℕ} {r : Bounds} → g ≡ f → (r .lower ≡ g .fmin * 10000000) × (r .upper ≡ g .fmin * 10000000) →
-    (10 * f .tmin < x → 10 * f .tmax ≤ x) → r ≡ temperaturePair f x
-not-found {f} {g} {x} e h outside = pair-outside f x outside (rw e at h)
+pub floor-pair :
+    (f : Figures) {x : ℕ} {r : Bounds} → (10 * f .tmin < x → 10 * f .tmax ≤ x) →
+    (r .lower ≡ f .fmin * 10000000) × (r .upper ≡ f .fmin * 10000000) → r ≡ temperaturePair f x
+floor-pair f {x} outside h = pair-outside f x outside h
 
 pub temperatureOf-is : (choice : Choice) (f : Figures) (x : ℕ) → choice ≡ Tree f → x ≤ 1100 → temperatureOf choice x ≡ temperaturePair f x
 unfolding temperatureOf

@@ -1,7 +1,7 @@
 -- The denominators of f_VPD, f_SW and f_phen as they are worked out are at most 1,000,000, for any sound figures.
 use Prim.Native.Nat.{ℕ, _+_, _-_, _*_, _^_, _≤_}
 use mathlib.Core.Path.{_≡_, refl}
-use mathlib.Core.Bool.{Bool, true, false, cond, _&&_}
+use mathlib.Core.Bool.{Bool, true, false, cond}
 use native.Mathlib.Omega.{arith}
 use lib.Dec.{ltb, leb}
 use Rattle.exact.specs.Frac.{Frac, _over_, natural, straight}
@@ -14,6 +14,7 @@ use Rattle.trees.specs.Sound.{Sound, SoilSound}
 use Rattle.trees.specs.Deficit.{deficitOf}
 use Rattle.trees.specs.SoilWater.{drier, soilWaterOf}
 use Rattle.trees.specs.Phenology.{byRamps, byDip, byTemperature, phenologyOf}
+use Rattle.trees.specs.Temperature.{inside}
 use Rattle.trees.proofs.PhenologyLaws.{phenology-ramps, phenology-dip, phenology-temperature}
 
 pub record Small (x : Frac) : Type 0 where
@@ -44,8 +45,7 @@ dip-small day =
 
 temperature-small : (tmin tmax temperature : ℕ) → Small (byTemperature tmin tmax temperature)
 unfolding byTemperature
-temperature-small tmin tmax temperature =
-    cond-small (ltb (10 * tmin) temperature && ltb temperature (10 * tmax)) (record { den = omega arith }) (record { den = omega arith })
+temperature-small tmin tmax temperature = cond-small (inside tmin tmax temperature) (record { den = omega arith }) (record { den = omega arith })
 
 module _ (f : Figures) (sound : Sound f) where
   pub deficit-small : (vpd : ℕ) → Small (deficitOf f vpd)

@@ -1,10 +1,11 @@
 -- f_phen (document 01, "Factors"): by ramps, by the evergreen dip, or by temperature (tree 3).
-use Prim.Native.Nat.{ℕ, _-_, _*_}
-use mathlib.Core.Bool.{cond, _&&_}
+use Prim.Native.Nat.{ℕ, _-_}
+use mathlib.Core.Bool.{cond}
 use lib.Dec.{ltb, leb}
 use Rattle.trees.specs.declared.Phenology.{Phenology}
 use Rattle.trees.specs.declared.Phenology.the-variants.{Ramps, Dip, Temperature}
 use Rattle.trees.specs.declared.Figures.{Figures}
+use Rattle.trees.specs.Temperature.{inside}
 use Rattle.exact.specs.Frac.{Frac, _over_, natural, straight}
 
 -- a at the first day, rising straight to 1 in f1 days, 1 until f4 days are left, falling straight to e at the last day;
@@ -23,9 +24,9 @@ byDip day =
     (cond (ltb day 320) (straight 30 100 (day - 260) (320 - 260))
     (natural 1))))
 
--- 1 where Tmin < T < Tmax, else 0; T in tenths, Tmin and Tmax in whole degrees above -50 °C
+-- 1 where Tmin < T < Tmax, else 0
 unfoldable pub byTemperature : ℕ → ℕ → ℕ → Frac
-byTemperature tmin tmax temperature = cond (ltb (10 * tmin) temperature && ltb temperature (10 * tmax)) (natural 1) (natural 0)
+byTemperature tmin tmax temperature = cond (inside tmin tmax temperature) (natural 1) (natural 0)
 
 abbrev byKind : Phenology → Figures → ℕ → ℕ → ℕ → ℕ → Frac
 byKind Ramps f first last day temperature = byRamps f first last day

@@ -32,13 +32,13 @@ pub record IsGreatest (k : ℕ) (f : Figures) (x t : ℕ) : Type 0 where
 unfoldable pub rootAt : ℕ → Figures → ℕ → ℕ
 rootAt k f x = greatest (λ t. leb (tried f x t) (allowed k f x)) (allowed k f x)
 
--- Tmin < T < Tmax
-abbrev pub inside : Figures → ℕ → Bool
-inside f x = ltb (10 * f .tmin) x && ltb x (10 * f .tmax)
+-- Tmin < T < Tmax, with Tmin and Tmax in whole degrees above -50 °C
+abbrev pub inside : ℕ → ℕ → ℕ → Bool
+inside tmin tmax x = ltb (10 * tmin) x && ltb x (10 * tmax)
 
 -- f_temp with a·w^(p/q) rounded down to k decimals
 unfoldable pub temperatureAt : ℕ → Figures → ℕ → Frac
-temperatureAt k f x = cond (inside f x) (greater (f .fmin over 100) (rootAt k f x over 10 ^ k)) (f .fmin over 100)
+temperatureAt k f x = cond (inside (f .tmin) (f .tmax) x) (greater (f .fmin over 100) (rootAt k f x over 10 ^ k)) (f .fmin over 100)
 
 -- the larger of f_min and t, in units of 10⁻⁹
 abbrev atLeast : Figures → ℕ → ℕ
@@ -47,7 +47,7 @@ atLeast f t = max (f .fmin * 10 ^ 7) t
 -- f_temp lies from lower to upper, in units of 10⁻⁹
 unfoldable pub temperaturePair : Figures → ℕ → Bounds
 temperaturePair f x =
-    cond (inside f x) (record { lower = atLeast f (rootAt 9 f x); upper = atLeast f (rootAt 9 f x + 1) })
+    cond (inside (f .tmin) (f .tmax) x) (record { lower = atLeast f (rootAt 9 f x); upper = atLeast f (rootAt 9 f x + 1) })
     (record { lower = f .fmin * 10 ^ 7; upper = f .fmin * 10 ^ 7 })
 
 -- the pair of a tree; 0 and 0 for a number that is no tree, and above 60.0 °C, where no reading lies

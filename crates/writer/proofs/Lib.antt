@@ -4,6 +4,7 @@ pub mod TemperatureLaws
 pub mod LayoutLaws
 pub mod WidthLaws
 pub mod LineLaws
+pub mod PutLaws
 pub mod WriterLaws
 pub mod RowLaws
 pub mod RoundTrip

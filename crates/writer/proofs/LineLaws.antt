@@ -7,14 +7,14 @@ use native.Mathlib.Omega.{arith}
 use borrow.Author.Tests.{not-false, eq-eqb, eqb-true}
 use lib.Dec.{lit<, eqb}
 use lib.ListN.{length}
-use Rattle.frames.specs.Answers.{accepted}
+use Rattle.records.specs.Answers.{accepted}
 use Rattle.frames.specs.Digits.{allDigits, byteAt, byte}
 use Rattle.frames.specs.Kinds.{among, isLength, lengthOf}
 use Rattle.frames.specs.Layout.{Width, numbersAt, digitsOf, headerOf, rawHourOf, endOf, headerAt, hourAt, endAt, frameAt, hourNumbers, lineOf}
 use Rattle.frames.specs.Frames.{parsedOf}
-use Rattle.frames.specs.declared.Raw.{Raw}
-use Rattle.frames.specs.declared.Record.{Record}
-use Rattle.frames.proofs.AnswerLaws.{row-passed, accepted-same}
+use Rattle.records.specs.declared.Raw.{Raw}
+use Rattle.records.specs.declared.Record.{Record}
+use Rattle.records.proofs.AnswerLaws.{row-passed, accepted-same}
 use Rattle.frames.proofs.FrameLaws.{frame-header, frame-hour, frame-end}
 use Rattle.writer.proofs.LayoutLaws.{Fits, span, byte-read, byte-valid, byte-written, digits-valid, numbers-digits, digits-numbers}
 use Rattle.writer.proofs.WidthLaws.{widthsOf, numbersOf}

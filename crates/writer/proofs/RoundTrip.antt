@@ -9,21 +9,22 @@ use lib.ListN.{length, take, drop}
 use lib.Seq.{take-at}
 use Rattle.trees.specs.Figures.{figuresOf, measureOf}
 use Rattle.trees.specs.declared.Measure.{Measure}
-use Rattle.frames.specs.Answers.{accepted}
+use Rattle.records.specs.Answers.{accepted}
 use Rattle.frames.specs.Digits.{allDigits, byteAt, byte}
-use Rattle.frames.specs.Temperature.{temperatureOut}
+use Rattle.records.specs.Temperature.{temperatureOut}
 use Rattle.frames.specs.Layout.{numbersAt, digitsOf, headerWidths, hourWidths, endWidths, soilNumber, hourNumbers, rawHourOf, headerAt, hourAt, endAt, frameAt, soilOf, hourOf, lineOf}
-use Rattle.frames.specs.Ranges.{isOutside, checked}
+use Rattle.records.specs.Ranges.{isOutside, checked}
 use Rattle.frames.specs.Frames.{parsedOf, soundOf, recordOf, readOf}
-use Rattle.writer.specs.Writer.{putOf, writeOf, bufferAfter}
+use Rattle.records.specs.Buffer.{putOf, bufferAfter}
+use Rattle.writer.specs.Writer.{textOf, writeOf}
 use Rattle.writer.specs.RoundTrip.{InWidth, measureIn, OfMeasure, RoundTrip}
-use Rattle.frames.specs.declared.Soil.{Soil}
-use Rattle.frames.specs.declared.Soil.the-variants.{Suction, Water}
-use Rattle.frames.specs.declared.Hour.{Hour}
-use Rattle.frames.specs.declared.Raw.{Raw}
-use Rattle.frames.specs.declared.Record.{Record}
+use Rattle.records.specs.declared.Soil.{Soil}
+use Rattle.records.specs.declared.Soil.the-variants.{Suction, Water}
+use Rattle.records.specs.declared.Hour.{Hour}
+use Rattle.records.specs.declared.Raw.{Raw}
+use Rattle.records.specs.declared.Record.{Record}
 use Rattle.writer.proofs.DigitLaws.{number-lt}
-use Rattle.frames.proofs.AnswerLaws.{row-passed, onward-passed, accepted-same}
+use Rattle.records.proofs.AnswerLaws.{row-passed, onward-passed, accepted-same}
 use Rattle.writer.proofs.TemperatureLaws.{complement-signed, signed-complement}
 use Rattle.frames.proofs.RangeLaws.{InRange, checked-passed}
 use Rattle.writer.proofs.WidthLaws.{range-fits}
@@ -61,15 +62,15 @@ record Writable (r : Record) (n : ℕ) : Type 0 where
   size : length (lineOf r) ≡ n
 
 write-passed : (r : Record) (room n : ℕ) → writeOf r room ≡ accepted n → Writable r n
-unfolding writeOf putOf
+unfolding writeOf textOf
 write-passed r room n e =
-    let p = onward-passed (checked r) (λ _. putOf r room) n e in
-    let q = row-passed (ltb room (length (lineOf r))) _ _ n (p .2) in
-    record { passes = p .1; size = accepted-same (q .1) }
+    let p = onward-passed (textOf r) (λ t. putOf t room) n e in
+    let q = onward-passed (checked r) (λ _. accepted (lineOf r)) (p .0) (p .1) in
+    let s = row-passed (ltb room (length (p .0))) _ _ n (p .2) in
+    record { passes = q .1; size = ap length (accepted-same (q .2)) ∙ accepted-same (s .1) }
 
 read-back : (r : Record) (buffer : List ℕ) (n tree : ℕ) → InWidth r → OfMeasure tree r → writeOf r (length buffer) ≡ accepted n
-    → readOf tree (take n (bufferAfter (accepted n) r buffer)) ≡ accepted r
-unfolding bufferAfter
+    → readOf tree (take n (bufferAfter (accepted n) (lineOf r) buffer)) ≡ accepted r
 read-back r buffer n tree w m e =
     let p = write-passed r (length buffer) n e in
     rw (take-at (lineOf r) (drop n buffer) n (p .size)) (read-line tree r w m (p .passes))
@@ -120,8 +121,8 @@ line-read tree l r e =
     line-back tree l r (q .digits) (ap (recordOf tree) (sym (q .same)) ∙ p .2) (kind-cases (byteAt 0 l) (length l) (length-enough (length l) (q .sized)) (q .kind))
 
 written-back : (tree : ℕ) (l : List ℕ) (r : Record) (buffer : List ℕ) → readOf tree l ≡ accepted r → length l ≤ length buffer
-    → (writeOf r (length buffer) ≡ accepted (length l)) × (bufferAfter (accepted (length l)) r buffer ≡ l ++ drop (length l) buffer)
-unfolding writeOf putOf bufferAfter
+    → (writeOf r (length buffer) ≡ accepted (length l)) × (bufferAfter (accepted (length l)) (lineOf r) buffer ≡ l ++ drop (length l) buffer)
+unfolding writeOf textOf
 written-back tree l r buffer e h =
     let p = line-read tree l r e in
     (simp (p .passes, p .line, le-ltb (length buffer) (length l) h), rw (p .line))

@@ -4,7 +4,7 @@ use mathlib.Core.Path.{_≡_, refl, ap, _∙_}
 use lib.IntN.{ℤ, pos, negsuc, negℤ, _+ℤ_, _-ℤ_, +ℤ-idl, +ℤ-one, negℤ-negℤ}
 use mir.Syntax.{w16}
 use mir.Val.{SFits, toZ, ofZ}
-use Rattle.frames.proofs.SignedLaws.{plain, negated-fits}
+use Rattle.records.proofs.SignedLaws.{plain, negated-fits}
 
 one-more : (k : ℕ) → negsuc k +ℤ pos 1 ≡ negℤ (pos k)
 one-more zero = refl

@@ -7,7 +7,7 @@ use native.Mathlib.Omega.{arith}
 use borrow.Author.Tests.{lt-ltb, le-ltb, ltb-false}
 use lib.Dec.{ltb}
 use lib.IntN.{ℤ, pos, negsuc}
-use Rattle.frames.specs.Temperature.{signedOf, complementOf, temperatureOut}
+use Rattle.records.specs.Temperature.{signedOf, complementOf, temperatureOut}
 use Rattle.frames.proofs.DigitLaws.{le-or-lt}
 
 signed-low : (n : ℕ) → n < 32768 → signedOf n ≡ pos n

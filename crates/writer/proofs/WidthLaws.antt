@@ -3,7 +3,7 @@ use Prim.Native.Nat.{ℕ}
 use mathlib.Core.List.{List, [], _∷_}
 use native.Mathlib.Omega.{arith}
 use Rattle.frames.specs.Layout.{Width, headerWidths, hourWidths, endWidths, headerNumbers, hourNumbers}
-use Rattle.frames.specs.declared.Record.{Record}
+use Rattle.records.specs.declared.Record.{Record}
 use Rattle.frames.proofs.RangeLaws.{InRange}
 use Rattle.writer.specs.RoundTrip.{InWidth}
 use Rattle.writer.proofs.LayoutLaws.{Fits}

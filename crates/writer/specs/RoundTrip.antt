@@ -6,14 +6,16 @@ use mathlib.Core.List.{List, [], _∷_, _++_}
 use lib.ListN.{length, take, drop}
 use Rattle.trees.specs.Figures.{figuresOf, measureOf}
 use Rattle.trees.specs.declared.Measure.{Measure}
-use Rattle.frames.specs.Answers.{accepted, refused}
-use Rattle.frames.specs.Ranges.{isOutside}
+use Rattle.records.specs.Answers.{accepted, refused}
+use Rattle.records.specs.Buffer.{bufferAfter}
+use Rattle.records.specs.Ranges.{isOutside}
+use Rattle.frames.specs.Layout.{lineOf}
 use Rattle.frames.specs.Frames.{readOf}
 use Rattle.frames.specs.Rows.{oneOf}
-use Rattle.writer.specs.Writer.{writeOf, bufferAfter}
-use Rattle.frames.specs.declared.Soil.{Soil}
-use Rattle.frames.specs.declared.Soil.the-variants.{Suction, Water}
-use Rattle.frames.specs.declared.Record.{Record}
+use Rattle.writer.specs.Writer.{writeOf}
+use Rattle.records.specs.declared.Soil.{Soil}
+use Rattle.records.specs.declared.Soil.the-variants.{Suction, Water}
+use Rattle.records.specs.declared.Record.{Record}
 
 -- day, hour and count are numbers of their width
 abbrev pub InWidth : Record → Type 0
@@ -34,9 +36,9 @@ OfMeasure tree (Record.End e) = Unit
 pub record RoundTrip : Type 0 where
   -- a record that the writer accepts is read back as itself
   pub readBack : (r : Record) (buffer : List ℕ) (n tree : ℕ) → InWidth r → OfMeasure tree r → writeOf r (length buffer) ≡ accepted n
-      → readOf tree (take n (bufferAfter (accepted n) r buffer)) ≡ accepted r
+      → readOf tree (take n (bufferAfter (accepted n) (lineOf r) buffer)) ≡ accepted r
   -- a line that is read as a record is written back as the same line
   pub writtenBack : (tree : ℕ) (l : List ℕ) (r : Record) (buffer : List ℕ) → readOf tree l ≡ accepted r → length l ≤ length buffer
-      → (writeOf r (length buffer) ≡ accepted (length l)) × (bufferAfter (accepted (length l)) r buffer ≡ l ++ drop (length l) buffer)
+      → (writeOf r (length buffer) ≡ accepted (length l)) × (bufferAfter (accepted (length l)) (lineOf r) buffer ≡ l ++ drop (length l) buffer)
   -- the writer answers no other row
   pub writeRows : (r : Record) (room n f : ℕ) → writeOf r room ≡ refused (n, f) → oneOf (5 ∷ 6 ∷ 7 ∷ 8 ∷ 12 ∷ []) n f ≡ true

@@ -6,12 +6,13 @@ mod writing;
 use frames::Checked;
 use frames::Record;
 use frames::Written;
-ghost use Rattle.writer.specs.Writer.{Writes};
+ghost use Rattle.records.specs.Buffer.{Prints};
+ghost use Rattle.writer.specs.Writer.{textOf};
 ghost use Rattle.writer.specs.RoundTrip.{RoundTrip};
 
 // A record's line into a lent buffer, without a line feed.
 pub fn write_frame(record: Record, buf: &mut [u8]) -> Written
-    ensures { λ r. ⌜ Writes «record» (now (buf .entry)) r (now (buf .exit)) ⌝ }
+    ensures { λ r. ⌜ Prints (textOf «record») (now (buf .entry)) r (now (buf .exit)) ⌝ }
     ensures round_trip { λ _. ⌜ RoundTrip ⌝ }
 {
     let answer = frames::check(record);

@@ -15,11 +15,12 @@ ghost use Prim.Native.Nat.{_≤_};
 ghost use lib.ListN.{length, drop};
 ghost use lib.Seq.{sets};
 ghost use Rattle.frames.specs.Layout.{soilNumber, lineOf};
-ghost use Rattle.writer.specs.Writer.{Puts};
-ghost use Rattle.frames.specs.declared.Record.{Record};
+ghost use Rattle.records.specs.Answers.{accepted};
+ghost use Rattle.records.specs.Buffer.{Prints};
+ghost use Rattle.records.specs.declared.Record.{Record};
 
 fn put_header(h: Header, buf: &mut [u8]) -> Written
-    ensures { λ r. ⌜ Puts (Record.Header h) (now (buf .entry)) r (now (buf .exit)) ⌝ }
+    ensures { λ r. ⌜ Prints (accepted (lineOf (Record.Header h))) (now (buf .entry)) r (now (buf .exit)) ⌝ }
 {
     if buf.len() < 20 {
         return Written::Refused(Refusal::Buffer);
@@ -54,7 +55,7 @@ fn put_readings(h: Hour, buf: &mut [u8])
 }
 
 fn put_hour(h: Hour, buf: &mut [u8]) -> Written
-    ensures { λ r. ⌜ Puts (Record.Hour h) (now (buf .entry)) r (now (buf .exit)) ⌝ }
+    ensures { λ r. ⌜ Prints (accepted (lineOf (Record.Hour h))) (now (buf .entry)) r (now (buf .exit)) ⌝ }
 {
     if buf.len() < 36 {
         return Written::Refused(Refusal::Buffer);
@@ -67,7 +68,7 @@ fn put_hour(h: Hour, buf: &mut [u8]) -> Written
 }
 
 fn put_end(e: End, buf: &mut [u8]) -> Written
-    ensures { λ r. ⌜ Puts (Record.End e) (now (buf .entry)) r (now (buf .exit)) ⌝ }
+    ensures { λ r. ⌜ Prints (accepted (lineOf (Record.End e))) (now (buf .entry)) r (now (buf .exit)) ⌝ }
 {
     if buf.len() < 6 {
         return Written::Refused(Refusal::Buffer);
@@ -79,7 +80,7 @@ fn put_end(e: End, buf: &mut [u8]) -> Written
 
 // A record's line, whatever its kind.
 pub(crate) fn put(record: Record, buf: &mut [u8]) -> Written
-    ensures { λ r. ⌜ Puts «record» (now (buf .entry)) r (now (buf .exit)) ⌝ }
+    ensures { λ r. ⌜ Prints (accepted (lineOf «record»)) (now (buf .entry)) r (now (buf .exit)) ⌝ }
 {
     match record {
         Record::Header(h) => put_header(h, buf),

@@ -2,9 +2,9 @@
 use mathlib.Core.Path.{_≡_, sym, _∙_}
 use mathlib.Core.Bool.{false}
 use borrow.Author.Needs.{needs}
-use Rattle.account.specs.Account.{impossible}
-use Rattle.account.proofs.PossibleLaws.{room-is}
-use Rattle.account.proofs.RuleLaws.{feeds-impossible, feeds-refused, feeds-accepted}
+use Rattle.book.specs.Account.{impossible}
+use Rattle.book.proofs.PossibleLaws.{room-is}
+use Rattle.book.proofs.RuleLaws.{feeds-impossible, feeds-refused, feeds-accepted}
 use Rattle.account.proofs.feed.Statement.{statement}
 use Rattle.account.proofs.feed.Tie as tie
 

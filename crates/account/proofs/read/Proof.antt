@@ -1,7 +1,7 @@
 -- `account::read` meets its contract.
 use mathlib.Core.Path.{sym, _∙_}
 use borrow.Author.Needs.{needs}
-use Rattle.account.proofs.RuleLaws.{reads-impossible, reads-given}
+use Rattle.book.proofs.RuleLaws.{reads-impossible, reads-given}
 use Rattle.account.proofs.read.Statement.{statement}
 use Rattle.account.proofs.read.Tie as tie
 

@@ -5,15 +5,15 @@ use Rattle.trees.specs.Temperature.{temperatureOf}
 use Rattle.trees.specs.Figures.{figuresOf}
 use Rattle.trees.specs.declared.Choice.{Choice}
 use Rattle.trees.proofs.TemperatureTrees.{temperatureOf-is}
-use Rattle.flux.specs.Conductance.{aboveOf}
-use Rattle.frames.specs.Ranges.{checked}
-use Rattle.frames.specs.Answers.{accepted, checkedAs}
-use Rattle.frames.proofs.SignedLaws.{at-plain}
+use Rattle.doses.specs.Conductance.{aboveOf}
+use Rattle.records.specs.Ranges.{checked}
+use Rattle.records.specs.Answers.{accepted, checkedAs}
+use Rattle.records.proofs.SignedLaws.{at-plain}
 use Rattle.flux.proofs.ReadingLaws.{above-highest}
 use Rattle.frames.proofs.RangeLaws.{checked-passed}
 use Rattle.flux.proofs.HourDoseLaws.{unknown-is, refused-is, accepted-is}
-use Rattle.flux.proofs.EnclosureLaws.{enclosure}
-use Rattle.frames.specs.declared.Record.{Record}
+use Rattle.doses.proofs.EnclosureLaws.{enclosure}
+use Rattle.records.specs.declared.Record.{Record}
 use Rattle.flux.proofs.hour_dose.Statement.{statement}
 use Rattle.flux.proofs.hour_dose.Tie as tie
 

@@ -1,7 +1,7 @@
 -- `frames::hour_record` meets its contract.
 use mathlib.Core.Path.{sym, _∙_}
 use borrow.Author.Needs.{needs}
-use Rattle.frames.specs.Frames.{recordOf}
+use Rattle.frames.proofs.FrameLaws.{no-tree, hour-recorded}
 use Rattle.frames.proofs.hour_record.Statement.{statement}
 use Rattle.frames.proofs.hour_record.Tie as tie
 
@@ -9,8 +9,7 @@ outside-requires : tie.Need-outside-requires
 outside-requires c κs = search needs
 
 returns : tie.Need-returns
-unfolding recordOf
-returns c = simp (sym (c .before .outside .ensures) ∙ c .if1 .taken)
+returns c = no-tree _ _ (sym (c .before .outside .ensures) ∙ c .if1 .taken)
 
 measure-of-requires : tie.Need-measure-of-requires
 measure-of-requires c κs = search needs
@@ -22,8 +21,10 @@ sound-requires : tie.Need-sound-requires
 sound-requires c κs = search needs
 
 returns-2 : tie.Need-returns-2
-unfolding recordOf
-returns-2 c = simp (sym (c .before .before .before .before .outside .ensures) ∙ c .before .before .before .if1 .left) (cc)
+returns-2 c =
+    hour-recorded _ _ (sym (c .before .before .before .before .outside .ensures) ∙ c .before .before .before .if1 .left) (c .before .before .measure-of .ensures)
+    (c .before .hour-of .ensures)
+    (c .sound .ensures)
 
 pub hour-record-spec : {M : Type 1} → statement M
 hour-record-spec =

@@ -7,11 +7,12 @@ use native.Mathlib.Omega.{arith}
 use borrow.Author.Tests.{eq-eqb, ne-eqb, not-true, not-false}
 use borrow.Author.Needs.{needs}
 use lib.ListN.{length}
-use Rattle.frames.specs.Answers.{accepted}
+use Rattle.records.specs.Answers.{accepted}
 use Rattle.frames.specs.Digits.{allDigits, byteAt}
 use Rattle.frames.specs.Kinds.{isLength, lengthOf}
+use Rattle.frames.specs.Values.{Says}
 use Rattle.frames.specs.Frames.{parsedOf}
-use Rattle.frames.proofs.KindLaws.{length-enough}
+use Rattle.frames.proofs.KindLaws.{length-enough, length-most}
 use Rattle.frames.proofs.parse.Statement.{statement}
 use Rattle.frames.proofs.parse.Tie as tie
 
@@ -33,49 +34,63 @@ module _ (c : tie.Else1) where
   enough : 6 ≤ length line₁
   enough = length-enough (length line₁) sized
 
-all-digits-requires : tie.Need-all-digits-requires
-all-digits-requires c κs = search needs
+line-of-requires : tie.Need-line-of-requires
+line-of-requires c κs = length-most (length (line₁ c)) (sized c)
 
 returns-2 : tie.Need-returns-2
 unfolding parsedOf
-returns-2 c = simp (sized (c .before .before), sym (c .before .all-digits .ensures) ∙ not-true _ (c .if2 .taken))
+returns-2 c = simp (sized (c .before .before .before), sym (c .before .before .line-of .ensures .0) ∙ not-true _ (c .if2 .taken))
 
 -- past row 2
-whole : (c : tie.Else2) → allDigits (line₁ (c .before .before)) ≡ true
-whole c = sym (c .before .all-digits .ensures) ∙ not-false _ (c .if2 .left)
+module _ (c : tie.Else2) where
+  abbrev line₂ : List ℕ
+  line₂ = line₁ (c .before .before .before)
+
+  whole : allDigits line₂ ≡ true
+  whole = sym (c .before .before .line-of .ensures .0) ∙ not-false _ (c .if2 .left)
+
+  said : Says (c .before .before .line-of .result .values) line₂
+  said = c .before .before .line-of .ensures .1 .1 whole
+
+slice-aggregate-byte-at : tie.Need-slice-aggregate-byte-at
+slice-aggregate-byte-at c = search needs
 
 byte-at-requires : tie.Need-byte-at-requires
-byte-at-requires c κs = (omega (arith, enough (c .before .before)), whole c)
+byte-at-requires c κs = search needs
 
 length-of-requires : tie.Need-length-of-requires
 length-of-requires c κs = search needs
 
 module _ (c : tie.After-length-of) where
   abbrev line₃ : List ℕ
-  line₃ = line₁ (c .before .before .before .before)
+  line₃ = line₂ (c .before .before .before .before)
 
   span : c .length-of .result ≡ lengthOf (byteAt 0 line₃)
-  span = c .length-of .ensures ∙ ap lengthOf (c .before .byte-at .ensures)
+  span = c .length-of .ensures ∙ ap lengthOf (c .before .byte-at .ensures line₃ (said (c .before .before .before .before)) (omega (arith, enough (c .before .before .before .before .before .before .before))))
 
 returns-3 : tie.Need-returns-3
 unfolding parsedOf
 returns-3 c =
     let e = c .before in
-    simp (sized (e .before .before .before .before), whole (e .before .before), ne-eqb (lengthOf (byteAt 0 (line₃ e))) (length (line₃ e)) (λ p. c .if3 .taken (span e ∙ p)))
+    simp (sized (e .before .before .before .before .before .before .before), whole (e .before .before .before .before), ne-eqb (lengthOf (byteAt 0 (line₃ e))) (length (line₃ e)) (λ p. c .if3 .taken (span e ∙ p)))
 
 -- past row 3
 fit : (c : tie.Else3) → lengthOf (byteAt 0 (line₃ (c .before))) ≡ length (line₃ (c .before))
 fit c = sym (span (c .before)) ∙ c .if3 .left
 
+slice-aggregate-frame-at : tie.Need-slice-aggregate-frame-at
+slice-aggregate-frame-at c = search needs
+
 frame-at-requires : tie.Need-frame-at-requires
-frame-at-requires c κs = (enough (c .before .before .before .before .before), (whole (c .before .before .before), fit c))
+frame-at-requires c κs = search needs
 
 returns-4 : tie.Need-returns-4
 unfolding parsedOf
 returns-4 c =
-    let e = c .before .before in
-    simp (sized (e .before .before .before .before), whole (e .before .before), eq-eqb (lengthOf (byteAt 0 (line₃ e))) (length (line₃ e)) (fit (c .before)))
-    (ap accepted (c .frame-at .ensures))
+    let e = c .before .before .before in
+    let enough₃ = enough (e .before .before .before .before .before .before .before) in
+    simp (sized (e .before .before .before .before .before .before .before), whole (e .before .before .before .before), eq-eqb (lengthOf (byteAt 0 (line₃ e))) (length (line₃ e)) (fit (c .before .before)))
+    (ap accepted (c .frame-at .ensures (line₃ e) (said (e .before .before .before .before)) enough₃ (fit (c .before .before))))
 
 pub parse-spec : {M : Type 1} → statement M
 parse-spec =
@@ -83,10 +98,12 @@ parse-spec =
     (tie.spec
     is-length-requires
     returns
-    all-digits-requires
+    line-of-requires
     returns-2
+    slice-aggregate-byte-at
     byte-at-requires
     length-of-requires
     returns-3
+    slice-aggregate-frame-at
     frame-at-requires
     returns-4)

@@ -2,7 +2,7 @@
 use mathlib.Core.Path.{sym, ap, _∙_}
 use borrow.Author.Needs.{needs}
 use Rattle.frames.specs.Frames.{readOf}
-use Rattle.frames.specs.Answers.{parsedAs}
+use Rattle.records.specs.Answers.{parsedAs}
 use Rattle.frames.proofs.RowLaws.{reader-rows}
 use Rattle.frames.proofs.read_frame.Statement.{statement}
 use Rattle.frames.proofs.read_frame.Tie as tie

@@ -1,7 +1,7 @@
 -- `frames::sound` meets its contract.
 use mathlib.Core.Path.{sym, ap, _∙_}
 use borrow.Author.Needs.{needs}
-use Rattle.frames.specs.Answers.{checkedAs}
+use Rattle.records.specs.Answers.{checkedAs}
 use Rattle.frames.specs.Frames.{soundOf}
 use Rattle.frames.proofs.sound.Statement.{statement}
 use Rattle.frames.proofs.sound.Tie as tie

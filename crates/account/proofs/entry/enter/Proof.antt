@@ -1,6 +1,6 @@
 -- `account::entry::enter` meets its contract.
 use borrow.Author.Needs.{needs}
-use Rattle.account.specs.Rules.{entered}
+use Rattle.book.specs.Rules.{entered}
 use Rattle.account.proofs.entry.enter.Statement.{statement}
 use Rattle.account.proofs.entry.enter.Tie as tie
 

@@ -1,7 +1,7 @@
 -- `account::entry::enter_hour` meets its contract.
 use borrow.Author.Needs.{needs}
 use borrow.Author.Tests.{lt-ltb, le-ltb}
-use Rattle.account.specs.Rules.{entered}
+use Rattle.book.specs.Rules.{entered}
 use Rattle.account.proofs.entry.enter_hour.Statement.{statement}
 use Rattle.account.proofs.entry.enter_hour.Tie as tie
 

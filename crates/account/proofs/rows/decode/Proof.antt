@@ -1,8 +1,8 @@
 -- `account::rows::decode` meets its contract.
 use mathlib.Core.Path.{sym, ap, _∙_}
 use borrow.Author.Needs.{needs}
-use Rattle.frames.specs.Answers.{parsedAs}
-use Rattle.account.specs.Rules.{answerOf}
+use Rattle.records.specs.Answers.{parsedAs}
+use Rattle.book.specs.Rules.{answerOf}
 use Rattle.account.proofs.rows.decode.Statement.{statement}
 use Rattle.account.proofs.rows.decode.Tie as tie
 

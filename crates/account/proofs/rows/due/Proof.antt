@@ -3,7 +3,7 @@ use mathlib.Core.Path.{_≡_, sym, _∙_}
 use mathlib.Core.Bool.{false}
 use borrow.Author.Needs.{needs}
 use borrow.Author.Tests.{eq-eqb, ne-eqb}
-use Rattle.account.specs.Account.{allGiven}
+use Rattle.book.specs.Account.{allGiven}
 use Rattle.account.proofs.rows.due.Statement.{statement}
 use Rattle.account.proofs.rows.due.Tie as tie
 

@@ -1,7 +1,8 @@
 -- `account_cases::answers::print_line` is safe and ends: the line that was written is within its buffer.
 use Prim.Native.Nat.{_≤_}
 use lib.ListN.{length}
-use Rattle.report.proofs.TextLaws.{part-length, printed-within}
+use Rattle.records.proofs.BufferLaws.{printed-within}
+use Rattle.texts.proofs.TextLaws.{part-length}
 use borrow.Author.Needs.{needs}
 use Rattle.account_cases.proofs.answers.print_line.Statement.{statement}
 use Rattle.account_cases.proofs.answers.print_line.Tie as tie

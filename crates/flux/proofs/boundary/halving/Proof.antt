@@ -6,7 +6,7 @@ use native.Mathlib.Nat.{mul-le-mul}
 use native.Mathlib.Omega.{arith}
 use borrow.Author.Needs.{needs}
 use Rattle.exact.proofs.SquareLaws.{root-is}
-use Rattle.flux.proofs.BoundaryLaws.{square-small}
+use Rattle.doses.proofs.BoundaryLaws.{square-small}
 use Rattle.flux.proofs.boundary.halving.Statement.{statement}
 use Rattle.flux.proofs.boundary.halving.Tie as tie
 

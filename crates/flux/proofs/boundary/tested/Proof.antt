@@ -2,7 +2,8 @@
 use Prim.Native.Nat.{ℕ}
 use native.Mathlib.Omega.{arith}
 use borrow.Author.Needs.{needs}
-use Rattle.flux.proofs.BoundaryLaws.{square-small}
+use native.Mathlib.Nat.{sub-add-cancel}
+use Rattle.doses.proofs.BoundaryLaws.{square-small, square-pos}
 use Rattle.exact.proofs.SquareLaws.{root-is}
 use Rattle.flux.proofs.boundary.tested.Statement.{statement}
 use Rattle.flux.proofs.boundary.tested.Tie as tie
@@ -16,8 +17,14 @@ returns c = search needs
 mul-if2 : tie.Need-mul-if2
 mul-if2 c = let r : ℕ = c .before .args .r in omega (arith, square-small r (omega arith))
 
-halving-requires-2 : tie.Need-halving-requires-2
-halving-requires-2 c κs = search needs
+sub-under : tie.Need-sub-under
+sub-under c = omega (arith, square-pos (c .before .before .args .n) (c .before .before .args .r) (c .if2 .taken))
+
+under-requires : tie.Need-under-requires
+under-requires c κs =
+    let a = c .before .before .args in
+    let back = sub-add-cancel (square-pos (a .n) (a .r) (c .if2 .taken)) in
+    ((omega arith, omega arith), rw back (c .if2 .taken))
 
 returns-2 : tie.Need-returns-2
 returns-2 c = search needs
@@ -31,8 +38,8 @@ add-if3-2 c = search needs
 mul-if3 : tie.Need-mul-if3
 mul-if3 c = search needs
 
-halving-requires-3 : tie.Need-halving-requires-3
-halving-requires-3 c κs = search needs
+halving-requires-2 : tie.Need-halving-requires-2
+halving-requires-2 c κs = search needs
 
 returns-3 : tie.Need-returns-3
 returns-3 c = search needs
@@ -47,11 +54,12 @@ tested-spec =
     halving-requires
     returns
     mul-if2
-    halving-requires-2
+    sub-under
+    under-requires
     returns-2
     add-if3
     add-if3-2
     mul-if3
-    halving-requires-3
+    halving-requires-2
     returns-3
     returns-4)

@@ -2,10 +2,10 @@
 use Prim.Native.Nat.{_+_, _-_}
 use mathlib.Core.Path.{ap, _∙_}
 use native.Mathlib.Omega.{arith}
-use Rattle.flux.specs.Pair.{lowerOf, upperOf, quotient, rootLow}
-use Rattle.frames.specs.declared.Record.{Record}
+use Rattle.doses.specs.Pair.{lowerOf, upperOf, quotient, rootLow}
+use Rattle.records.specs.declared.Record.{Record}
 use Rattle.frames.proofs.RangeLaws.{checked-passed}
-use Rattle.flux.proofs.EnclosureLaws.{order, top}
+use Rattle.doses.proofs.EnclosureLaws.{order, top}
 use Rattle.flux.proofs.hour.dosed.Statement.{statement}
 use Rattle.flux.proofs.hour.dosed.Tie as tie
 

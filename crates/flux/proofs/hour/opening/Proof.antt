@@ -4,7 +4,7 @@ use native.Mathlib.Omega.{arith}
 use borrow.Author.Needs.{needs}
 use Rattle.trees.specs.SoilWater.{soilWaterOf}
 use Rattle.trees.proofs.TemperatureLaws.{temperaturePair-gap, temperaturePair-le}
-use Rattle.flux.specs.Conductance.{aboveOf}
+use Rattle.doses.specs.Conductance.{aboveOf}
 use Rattle.frames.specs.Layout.{soilNumber}
 use Rattle.flux.proofs.NumberLaws.{deficit-factor, soilWater-factor, openingLow-is, openingUp-is}
 use Rattle.exact.specs.Frac.{Is}

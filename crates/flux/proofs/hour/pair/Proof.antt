@@ -3,8 +3,8 @@ use Prim.Native.Nat.{_+_, _-_}
 use mathlib.Core.Path.{ap, _∙_}
 use native.Mathlib.Omega.{arith}
 use borrow.Author.Needs.{needs}
-use Rattle.flux.specs.Pair.{quotient}
-use Rattle.flux.proofs.BoundaryLaws.{rootLow-200}
+use Rattle.doses.specs.Pair.{quotient}
+use Rattle.doses.proofs.BoundaryLaws.{rootLow-200}
 use Rattle.flux.proofs.hour.pair.Statement.{statement}
 use Rattle.flux.proofs.hour.pair.Tie as tie
 

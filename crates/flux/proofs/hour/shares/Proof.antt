@@ -3,12 +3,12 @@ use mathlib.Core.Path.{_≡_, _∙_}
 use native.Mathlib.Omega.{arith}
 use borrow.Author.Needs.{needs}
 use Rattle.trees.specs.Phenology.{phenologyOf}
-use Rattle.flux.specs.Conductance.{aboveOf}
-use Rattle.flux.specs.Light.{lightLow, lightUp}
-use Rattle.flux.proofs.LightLaws.{light-order, lightUp-le}
-use Rattle.flux.proofs.OpeningLaws.{openingLow-le, openingUp-le}
+use Rattle.doses.specs.Conductance.{aboveOf}
+use Rattle.doses.specs.Light.{lightLow, lightUp}
+use Rattle.doses.proofs.LightLaws.{light-order, lightUp-le}
+use Rattle.doses.proofs.OpeningLaws.{openingLow-le, openingUp-le}
 use Rattle.flux.proofs.NumberLaws.{phenology-factor, shareLow-is, shareUp-is}
-use Rattle.frames.proofs.SignedLaws.{at-plain}
+use Rattle.records.proofs.SignedLaws.{at-plain}
 use Rattle.exact.specs.Frac.{Is}
 use Rattle.flux.proofs.hour.shares.Statement.{statement}
 use Rattle.flux.proofs.hour.shares.Tie as tie

@@ -3,7 +3,7 @@ use native.Mathlib.Omega.{arith}
 use borrow.Author.Needs.{needs}
 use lib.Dec.{lit<}
 use Rattle.exact.proofs.SeriesCommon.{commonDen, commonNum}
-use Rattle.flux.proofs.DecayTests.{table-tested}
+use Rattle.doses.proofs.DecayTests.{table-tested}
 use Rattle.flux.proofs.DecayLookup.{found-is, two-le, three-le}
 use Rattle.flux.proofs.light.decay.Statement.{statement}
 use Rattle.flux.proofs.light.decay.Tie as tie

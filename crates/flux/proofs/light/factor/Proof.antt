@@ -4,8 +4,8 @@ use Prim.Native.Nat.{_*_}
 use native.Mathlib.Omega.{arith}
 use native.Mathlib.Nat.{mul-le-mul}
 use borrow.Author.Needs.{needs}
-use Rattle.flux.specs.Light.{lightLowOf, lightUpOf}
-use Rattle.flux.proofs.DecayLaws.{decayLow-le}
+use Rattle.doses.specs.Light.{lightLowOf, lightUpOf}
+use Rattle.doses.proofs.DecayLaws.{decayLow-le}
 use Rattle.flux.proofs.light.factor.Statement.{statement}
 use Rattle.flux.proofs.light.factor.Tie as tie
 

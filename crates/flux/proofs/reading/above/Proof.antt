@@ -3,7 +3,7 @@ use native.Mathlib.Omega.{arith}
 use borrow.Author.Needs.{needs}
 use mir.Syntax.{w16}
 use mir.ValLaws.{toZ-pos}
-use Rattle.frames.proofs.SignedLaws.{natural}
+use Rattle.records.proofs.SignedLaws.{natural}
 use Rattle.flux.proofs.ReadingLaws.{below-is, sum-lt, sum-fits, sum-is}
 use Rattle.flux.proofs.reading.above.Statement.{statement}
 use Rattle.flux.proofs.reading.above.Tie as tie

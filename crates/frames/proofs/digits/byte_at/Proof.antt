@@ -1,47 +1,32 @@
--- `frames::digits::byte_at` meets its contract: a digit says less than 16, so a byte fits.
+-- `frames::digits::byte_at` meets its contract: each value is below 16, so a byte fits.
 use Prim.Native.Nat.{_+_}
+use mathlib.Core.Path.{refl}
 use native.Mathlib.Omega.{arith}
 use borrow.Author.Needs.{needs}
-use lib.ListN.{getD}
 use Rattle.frames.specs.Digits.{byteAt}
-use Rattle.frames.proofs.DigitLaws.{value-lt, digit-at}
 use Rattle.frames.proofs.digits.byte_at.Statement.{statement}
 use Rattle.frames.proofs.digits.byte_at.Tie as tie
 
-shared-slice-read-value : tie.Need-shared-slice-read-value
-shared-slice-read-value c = search needs
+shared-slice-read-high : tie.Need-shared-slice-read-high
+shared-slice-read-high c = search needs
 
-value-requires : tie.Need-value-requires
-value-requires c κs = let b = c .before .before in digit-at (b .args .s .now) (b .args .at) (b .pre .1) (omega arith)
+add-low : tie.Need-add-low
+add-low c = search needs
 
-add-value : tie.Need-add-value
-add-value c = search needs
-
-shared-slice-read-value-2 : tie.Need-shared-slice-read-value-2
-shared-slice-read-value-2 c = search needs
-
-value-requires-2 : tie.Need-value-requires-2
-value-requires-2 c κs = let b = c .before .before .before .before in digit-at (b .args .s .now) (b .args .at + 1) (b .pre .1) (omega arith)
+shared-slice-read-low : tie.Need-shared-slice-read-low
+shared-slice-read-low c = search needs
 
 mul-result : tie.Need-mul-result
-mul-result c = let a = c .before .before .before .before .before .args in omega (arith, value-lt (getD (a .s .now) (a .at) 0))
+mul-result c = let s = c .before .before in omega (arith, s .pre .1 .small (s .args .at))
 
 add-result : tie.Need-add-result
-add-result c = let a = c .before .before .before .before .before .args in omega (arith, value-lt (getD (a .s .now) (a .at) 0), value-lt (getD (a .s .now) (a .at + 1) 0))
+add-result c = let s = c .before .before in omega (arith, s .pre .1 .small (s .args .at), s .pre .1 .small (s .args .at + 1))
 
 returns : tie.Need-returns
 unfolding byteAt
-returns c = search needs
+returns c = λ l says h. let at = c .before .before .args .at in rw (says .values at (omega arith), says .values (at + 1) (omega arith)) refl
 
 pub byte-at-spec : {M : Type 1} → statement M
 byte-at-spec =
     tie.close
-    (tie.spec
-    shared-slice-read-value
-    value-requires
-    add-value
-    shared-slice-read-value-2
-    value-requires-2
-    mul-result
-    add-result
-    returns)
+    (tie.spec shared-slice-read-high add-low shared-slice-read-low mul-result add-result returns)

@@ -1,4 +1,6 @@
 -- `frames::digits::number_at` meets its contract.
+use mathlib.Core.Path.{refl}
+use native.Mathlib.Omega.{arith}
 use borrow.Author.Needs.{needs}
 use Rattle.frames.specs.Digits.{numberAt}
 use Rattle.frames.proofs.digits.number_at.Statement.{statement}
@@ -27,7 +29,7 @@ add-result c = search needs
 
 returns : tie.Need-returns
 unfolding numberAt
-returns c = search needs
+returns c = λ l says h. rw (c .before .byte-at .ensures l says (omega arith), c .byte-at2 .ensures l says (omega arith)) refl
 
 pub number-at-spec : {M : Type 1} → statement M
 number-at-spec =

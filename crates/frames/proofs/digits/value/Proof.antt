@@ -1,6 +1,6 @@
--- `frames::digits::value` meets its contract, by the bits of a digit.
+-- `frames::digits::value` meets its contract.
 use borrow.Author.Needs.{needs}
-use Rattle.frames.proofs.DigitLaws.{value-bits}
+use Rattle.frames.specs.Values.{bitsOf}
 use Rattle.frames.proofs.digits.value.Statement.{statement}
 use Rattle.frames.proofs.digits.value.Tie as tie
 
@@ -11,7 +11,8 @@ add-result : tie.Need-add-result
 add-result c = search needs
 
 returns : tie.Need-returns
-returns c = value-bits (c .args .c) (c .pre)
+unfolding bitsOf
+returns c = search needs
 
 pub value-spec : {M : Type 1} → statement M
 value-spec = tie.close (tie.spec mul-result add-result returns)

@@ -1,4 +1,5 @@
 -- `frames::layout::end_at` meets its contract.
+use native.Mathlib.Omega.{arith}
 use borrow.Author.Needs.{needs}
 use Rattle.frames.specs.Layout.{endAt}
 use Rattle.frames.proofs.layout.end_at.Statement.{statement}
@@ -9,7 +10,7 @@ number-at-requires c κs = search needs
 
 returns : tie.Need-returns
 unfolding endAt
-returns c = cc
+returns c = λ l says h. let e = c .number-at .ensures l says (omega arith) in cc
 
 pub end-at-spec : {M : Type 1} → statement M
 end-at-spec = tie.close (tie.spec number-at-requires returns)

@@ -1,11 +1,8 @@
 -- `frames::layout::hour_of` meets its contract.
-use mathlib.Core.Path.{_≡_, _∙_}
+use mathlib.Core.Path.{_∙_}
 use borrow.Author.Needs.{needs}
-use mir.Syntax.{w16}
-use mir.Val.{toZ, ofZ}
-use Rattle.frames.specs.Layout.{hourOf}
-use Rattle.frames.specs.Temperature.{signedOf}
-use Rattle.frames.proofs.SignedLaws.{plain}
+use Rattle.records.proofs.SignedLaws.{plain}
+use Rattle.frames.proofs.FrameLaws.{hour-said}
 use Rattle.frames.proofs.layout.hour_of.Statement.{statement}
 use Rattle.frames.proofs.layout.hour_of.Tie as tie
 
@@ -16,10 +13,7 @@ signed-requires : tie.Need-signed-requires
 signed-requires c κs = search needs
 
 returns : tie.Need-returns
-unfolding hourOf
-returns c =
-    let t : toZ w16 (ofZ w16 (c .signed .result)) ≡ signedOf (c .before .before .args .raw .temperature) = plain (c .signed .result) (search needs) ∙ c .signed .ensures in
-    cc
+returns c = hour-said _ _ (plain (c .signed .result) (search needs) ∙ c .signed .ensures) (c .before .soil-of .ensures)
 
 pub hour-of-spec : {M : Type 1} → statement M
 hour-of-spec = tie.close (tie.spec soil-of-requires signed-requires returns)

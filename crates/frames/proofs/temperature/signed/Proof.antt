@@ -6,8 +6,8 @@ use borrow.Author.Tests.{lt-ltb, le-ltb}
 use borrow.Author.Needs.{needs}
 use mir.Syntax.{w16}
 use mir.ValLaws.{toZ-ofZ}
-use Rattle.frames.specs.Temperature.{signedOf}
-use Rattle.frames.proofs.SignedLaws.{minus-fits, less, less-fits}
+use Rattle.records.specs.Temperature.{signedOf}
+use Rattle.records.proofs.SignedLaws.{minus-fits, less, less-fits}
 use Rattle.frames.proofs.temperature.signed.Statement.{statement}
 use Rattle.frames.proofs.temperature.signed.Tie as tie
 

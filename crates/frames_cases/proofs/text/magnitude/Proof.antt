@@ -3,7 +3,7 @@ use borrow.Author.Needs.{needs}
 use native.Mathlib.Omega.{arith}
 use mir.Syntax.{w16}
 use mir.ValLaws.{toZ-pos}
-use Rattle.frames.proofs.SignedLaws.{negative, natural}
+use Rattle.records.proofs.SignedLaws.{negative, natural}
 use Rattle.writer.proofs.SignedLaws.{raised-fits, turned-fits, turned-is}
 use Rattle.frames_cases.proofs.text.magnitude.Statement.{statement}
 use Rattle.frames_cases.proofs.text.magnitude.Tie as tie

@@ -1,8 +1,9 @@
 -- `writer::digits::put_four` meets its contract.
-use Prim.Native.Nat.{suc, _+_}
-use mathlib.Core.Path.{_≡_}
-use native.Mathlib.Omega.{arith}
+use mathlib.Core.List.{[]}
+use denote.Ref.{now}
 use borrow.Author.Needs.{needs}
+use Rattle.frames.specs.Digits.{number}
+use Rattle.writer.proofs.PutLaws.{put-then}
 use Rattle.writer.proofs.digits.put_four.Statement.{statement}
 use Rattle.writer.proofs.digits.put_four.Tie as tie
 
@@ -32,11 +33,11 @@ same-length c = search needs
 
 returns : tie.Need-returns
 returns c =
-    let at = c .before .before .before .before .before .before .before .before .before .before .before .before .before .before .before .before .before .args .at in
-    let four : at + 4 ≡ suc (suc (suc (suc at))) = omega arith in
-    let eight : at + 8 ≡ suc (suc (suc (suc (suc (suc (suc (suc at))))))) = omega arith in
-    let twelve : at + 12 ≡ suc (suc (suc (suc (suc (suc (suc (suc (suc (suc (suc (suc at))))))))))) = omega arith in
-    cc
+    let a = c .before .before .before .before .before .before .before .before .before .before .before .before .before .before .before .before .before .args in
+    let b = now (a .buf) in
+    let two = put-then b (a .at) (number (a .a) []) (number (a .b) []) (c .before .before .before .before .before .before .before .before .before .before .before .before .before .before .put-number .ensures) (c .before .before .before .before .before .before .before .before .before .before .put-number2 .ensures) in
+    let three = put-then b (a .at) (number (a .a) (number (a .b) [])) (number (a .c) []) two (c .before .before .before .before .before .before .put-number3 .ensures) in
+    put-then b (a .at) (number (a .a) (number (a .b) (number (a .c) []))) (number (a .d) []) three (c .before .before .put-number4 .ensures)
 
 pub put-four-spec : {M : Type 1} → statement M
 put-four-spec =

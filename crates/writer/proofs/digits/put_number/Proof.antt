@@ -1,6 +1,10 @@
 -- `writer::digits::put_number` meets its contract.
-use native.Mathlib.Numerals.{add-two}
+use Prim.Native.Nat.{_/_, _%_}
+use mathlib.Core.List.{[]}
+use denote.Ref.{now}
 use borrow.Author.Needs.{needs}
+use Rattle.frames.specs.Digits.{byte}
+use Rattle.writer.proofs.PutLaws.{put-then}
 use Rattle.writer.proofs.digits.put_number.Statement.{statement}
 use Rattle.writer.proofs.digits.put_number.Tie as tie
 
@@ -23,7 +27,9 @@ same-length : tie.Need-same-length
 same-length c = search needs
 
 returns : tie.Need-returns
-returns c = let at = c .before .before .before .before .before .before .before .before .before .args .at in cc (add-two at)
+returns c =
+    let a = c .before .before .before .before .before .before .before .before .before .args in
+    put-then (now (a .buf)) (a .at) (byte (a .n / 256) []) (byte (a .n % 256) []) (c .before .before .before .before .before .before .put-byte .ensures) (c .before .before .put-byte2 .ensures)
 
 pub put-number-spec : {M : Type 1} → statement M
 put-number-spec =

@@ -3,8 +3,8 @@ use native.Mathlib.Omega.{arith}
 use borrow.Author.Needs.{needs}
 use mir.Syntax.{w16}
 use mir.ValLaws.{toZ-pos}
-use Rattle.frames.specs.Temperature.{complementOf}
-use Rattle.frames.proofs.SignedLaws.{negative, natural}
+use Rattle.records.specs.Temperature.{complementOf}
+use Rattle.records.proofs.SignedLaws.{negative, natural}
 use Rattle.writer.proofs.SignedLaws.{raised-fits, turned-fits, turned-is}
 use Rattle.writer.proofs.temperature.complement.Statement.{statement}
 use Rattle.writer.proofs.temperature.complement.Tie as tie

@@ -1,8 +1,12 @@
 -- `writer::writing::put_readings` meets its contract.
+use mathlib.Core.List.{[]}
+use denote.Ref.{now}
 use borrow.Author.Needs.{needs}
-use Rattle.frames.specs.Temperature.{complementOf}
+use Rattle.frames.specs.Digits.{number}
+use Rattle.records.specs.Temperature.{complementOf}
+use Rattle.writer.proofs.PutLaws.{put-on}
 use Rattle.writer.proofs.WriterLaws.{readings-line}
-use Rattle.frames.proofs.SignedLaws.{at-plain}
+use Rattle.records.proofs.SignedLaws.{at-plain}
 use Rattle.writer.proofs.writing.put_readings.Statement.{statement}
 use Rattle.writer.proofs.writing.put_readings.Tie as tie
 
@@ -29,9 +33,15 @@ same-length c = search needs
 
 returns : tie.Need-returns
 returns c =
-    let h = c .before .before .before .before .before .before .before .before .before .before .before .before .before .before .before .before .before .before .before .before .args .h in
-    let t = at-plain (h .temperature) (search needs) complementOf (c .before .before .before .before .before .before .before .before .before .before .before .before .before .before .before .before .before .complement .ensures) in
-    readings-line h _ _ _ _ t (c .before .before .before .before .before .before .before .before .before .before .before .before .before .before .before .before .soil-number .ensures) (cc)
+    let a = c .before .before .before .before .before .before .before .before .before .before .before .before .before .before .before .before .before .before .before .before .args in
+    let b = now (a .buf) in
+    let h = a .h in
+    let t = c .before .before .before .before .before .before .before .before .before .before .before .before .before .before .before .before .before .complement .result in
+    let n = c .before .before .before .before .before .before .before .before .before .before .before .before .before .before .before .before .soil-number .result in
+    let four = put-on 24 (number (h .vpd) []) (c .before .before .before .before .before .before .before .before .before .before .before .before .before .before .put-four .ensures) (c .before .before .before .before .before .before .before .before .before .before .put-number .ensures) in
+    let six = put-on 28 (number (h .wind) []) four (c .before .before .before .before .before .before .put-number2 .ensures) in
+    readings-line h b _ t n (at-plain (h .temperature) (search needs) complementOf (c .before .before .before .before .before .before .before .before .before .before .before .before .before .before .before .before .before .complement .ensures)) (c .before .before .before .before .before .before .before .before .before .before .before .before .before .before .before .before .soil-number .ensures)
+    (put-on 32 (number n []) six (c .before .before .put-number3 .ensures))
 
 pub put-readings-spec : {M : Type 1} → statement M
 put-readings-spec =

@@ -1,0 +1,46 @@
+// A frame's numbers as a record that nothing has checked.
+use frames::Hour;
+use frames::Raw;
+use frames::RawHour;
+use frames::Record;
+use frames::Soil;
+
+// The temperature that two bytes say.
+fn signed(n: u16) -> i16 {
+    if n < 32768 {
+        n as i16
+    } else {
+        -((65535 - n) as i16) - 1
+    }
+}
+
+// Trees 1 and 2 are measured in available water.
+fn soil_of(tree: u8, n: u16) -> Soil {
+    if tree < 3 {
+        Soil::Water(n)
+    } else {
+        Soil::Suction(n)
+    }
+}
+
+fn hour_of(tree: u8, raw: RawHour) -> Hour {
+    Hour {
+        day: raw.day,
+        hour: raw.hour,
+        ozone: raw.ozone,
+        ppfd: raw.ppfd,
+        radiation: raw.radiation,
+        temperature: signed(raw.temperature),
+        vpd: raw.vpd,
+        wind: raw.wind,
+        soil: soil_of(tree, raw.soil),
+    }
+}
+
+pub(crate) fn record_of(tree: u8, raw: Raw) -> Record {
+    match raw {
+        Raw::Header(h) => Record::Header(h),
+        Raw::Hour(h) => Record::Hour(hour_of(tree, h)),
+        Raw::End(e) => Record::End(e),
+    }
+}

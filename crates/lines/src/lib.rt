@@ -1,0 +1,24 @@
+// The two lines of a report, into a lent buffer (document 01, "Report"): row 12 where it is too short, and then nothing is written.
+mod line;
+mod text;
+
+use book::Totals;
+use frames::Written;
+ghost use Rattle.records.specs.Answers.{accepted};
+ghost use Rattle.records.specs.Buffer.{Prints};
+ghost use Rattle.texts.specs.Line.{lineOf};
+ghost use Rattle.texts.specs.Season.{refusalLine};
+
+// The figures of an account.
+pub fn put_totals(totals: Totals, buf: &mut [u8]) -> Written
+    ensures { λ r. ⌜ Prints (accepted (lineOf totals)) (now (buf .entry)) r (now (buf .exit)) ⌝ }
+{
+    text::put(line::of_totals(totals), buf)
+}
+
+// A refusal by a row at a line.
+pub fn put_refusal(row: u8, line: u64, buf: &mut [u8]) -> Written
+    ensures { λ r. ⌜ Prints (accepted (refusalLine row line)) (now (buf .entry)) r (now (buf .exit)) ⌝ }
+{
+    text::put(line::of_refusal(row, line), buf)
+}

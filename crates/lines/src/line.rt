@@ -1,0 +1,76 @@
+// The two lines of the report: a season's figures, or its first refusal.
+use crate::text::byte_before;
+use crate::text::empty;
+use crate::text::number_before;
+use book::Totals;
+use book::Verdict;
+use texts::Text;
+ghost use mathlib.Core.Path.{_≡_};
+ghost use Prim.Native.Nat.{_+_, _≤_};
+ghost use mathlib.Core.List.{[], _∷_, _++_};
+ghost use lib.ListN.{length};
+ghost use Rattle.texts.specs.Text.{decimal, space, lineFeed, textIn, Whole};
+ghost use Rattle.texts.specs.Line.{wordOf, lineOf};
+ghost use Rattle.texts.specs.Season.{refusalLine};
+
+// A word before the text.
+fn word_before(t: Text, word: &[u8]) -> Text
+    requires room { ⌜ Whole t × (length (now word) ≤ t .at) ⌝ }
+    ensures text { λ r. ⌜ textIn r ≡ now (word .entry) ++ textIn t ⌝ }
+    ensures room { λ r. ⌜ Whole r × (r .at + length (now (word .entry)) ≡ t .at) ⌝ }
+{
+    let mut made = t;
+    let mut left = word.len();
+    while 0 < left {
+        left -= 1;
+        made = byte_before(made, word[left]);
+    }
+    made
+}
+
+// The verdict's word, and the line feed.
+fn of_verdict(verdict: Verdict) -> Text
+    ensures text { λ r. ⌜ textIn r ≡ wordOf verdict (lineFeed ∷ []) ⌝ }
+    ensures room { λ r. ⌜ Whole r × (118 ≤ r .at) ⌝ }
+{
+    let end = byte_before(empty(), b'\n');
+    match verdict {
+        Verdict::None => word_before(end, b"none"),
+        Verdict::Undecided => word_before(end, b"undecided"),
+        Verdict::Exceeded => word_before(end, b"exceeded"),
+        Verdict::Below => word_before(end, b"below"),
+    }
+}
+
+// A number and a space before the text.
+fn column_before(t: Text, n: u64) -> Text
+    requires room { ⌜ Whole t × (21 ≤ t .at) ⌝ }
+    ensures text { λ r. ⌜ textIn r ≡ decimal n (space ∷ textIn t) ⌝ }
+    ensures room { λ r. ⌜ Whole r × (t .at ≤ r .at + 21) ⌝ }
+{
+    number_before(byte_before(t, b' '), n)
+}
+
+// Hours, counted hours, lower, upper, AOT40 and verdict.
+pub(crate) fn of_totals(t: Totals) -> Text
+    ensures text { λ r. ⌜ textIn r ≡ lineOf t ⌝ }
+    ensures room { λ r. ⌜ Whole r ⌝ }
+{
+    let verdict = t.verdict;
+    let end = of_verdict(verdict);
+    let aot40 = column_before(end, t.aot40 as u64);
+    let upper = column_before(aot40, t.upper);
+    let lower = column_before(upper, t.lower);
+    let counted = column_before(lower, t.counted as u64);
+    column_before(counted, t.hours as u64)
+}
+
+// `refused N line L`
+pub(crate) fn of_refusal(row: u8, line: u64) -> Text
+    ensures text { λ r. ⌜ textIn r ≡ refusalLine row line ⌝ }
+    ensures room { λ r. ⌜ Whole r ⌝ }
+{
+    let end = number_before(byte_before(empty(), b'\n'), line);
+    let place = number_before(word_before(end, b" line "), row as u64);
+    word_before(place, b"refused ")
+}

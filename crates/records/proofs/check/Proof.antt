@@ -1,0 +1,43 @@
+-- `records::check` meets its contract.
+use borrow.Author.Needs.{needs}
+use Rattle.records.specs.Ranges.{checked}
+use Rattle.records.proofs.check.Statement.{statement}
+use Rattle.records.proofs.check.Tie as tie
+
+enum-known-record : tie.Need-enum-known-record
+enum-known-record c = search needs
+
+check-header-requires : tie.Need-check-header-requires
+check-header-requires c κs = search needs
+
+enum-known-record-2 : tie.Need-enum-known-record-2
+enum-known-record-2 c = search needs
+
+check-hour-requires : tie.Need-check-hour-requires
+check-hour-requires c κs = search needs
+
+enum-told : tie.Need-enum-told
+enum-told c = search needs
+
+returns : tie.Need-returns
+returns c = rw (c .before .before .«record» .given .1) (c .check-header .ensures)
+
+returns-2 : tie.Need-returns-2
+returns-2 c = rw (c .before .before .record2 .given .1) (c .check-hour .ensures)
+
+returns-3 : tie.Need-returns-3
+unfolding checked
+returns-3 c = rw (c .enum-told .given .1)
+
+pub check-spec : {M : Type 1} → statement M
+check-spec =
+    tie.close
+    (tie.spec
+    enum-known-record
+    check-header-requires
+    enum-known-record-2
+    check-hour-requires
+    enum-told
+    returns
+    returns-2
+    returns-3)

@@ -1,0 +1,4 @@
+pub mod Answers
+pub mod Temperature
+pub mod Ranges
+pub mod Buffer

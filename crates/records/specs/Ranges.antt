@@ -1,0 +1,43 @@
+-- The rows that a record meets by itself (document 01, "Turned-back lines"): 5 to 8 for a header, 10 for an hour.
+use Prim.Native.Nat.{ℕ, _-_}
+use mathlib.Core.Bool.{Bool, _||_}
+use lib.Dec.{ltb}
+use Rattle.trees.specs.Figures.{figuresOf, rampDays}
+use Rattle.records.specs.Answers.{Outcome, accepted, row, field}
+use Rattle.records.specs.Temperature.{temperatureOut}
+use Rattle.records.specs.declared.Header.{Header}
+use Rattle.records.specs.declared.Soil.{Soil}
+use Rattle.records.specs.declared.Soil.the-variants.{Suction, Water}
+use Rattle.records.specs.declared.Hour.{Hour}
+use Rattle.records.specs.declared.Record.{Record}
+
+-- not from low to high
+abbrev pub isOutside : ℕ → ℕ → ℕ → Bool
+isOutside low high n = ltb n low || ltb high n
+
+-- suction 0 to 10000 kPa, available water 0 to 1000 tenths of a percent
+abbrev pub soilOut : Soil → Bool
+soilOut (Suction n) = ltb 10000 n
+soilOut (Water n) = ltb 1000 n
+
+-- row 7: A < 1, E < A, E past the year, or E - A < f1 + f4
+abbrev pub periodOut : Header → ℕ → Bool
+periodOut h ramps = ltb (h .first) 1 || ltb (h .last) (h .first) || ltb (h .days) (h .last) || ltb (h .last - h .first) ramps
+
+unfoldable pub checked : Record → Outcome Unit
+checked (Record.Header h) =
+    row 5 (isOutside 1 6 (h .tree))
+    (row 6 (isOutside 365 366 (h .days))
+    (row 7 (periodOut h (rampDays (figuresOf (h .tree))))
+    (row 8 (isOutside 1 10000 (h .level))
+    (accepted tt))))
+checked (Record.Hour h) =
+    field 1 (ltb 5000 (h .ozone))
+    (field 2 (ltb 3000 (h .ppfd))
+    (field 3 (ltb 1500 (h .radiation))
+    (field 4 (temperatureOut (h .temperature))
+    (field 5 (ltb 10000 (h .vpd))
+    (field 6 (ltb 6000 (h .wind))
+    (field 7 (soilOut (h .soil))
+    (accepted tt)))))))
+checked (Record.End e) = accepted tt

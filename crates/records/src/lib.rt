@@ -1,0 +1,138 @@
+// Records (document 01, "Frames"): what the three kinds of line say, why a call is refused, the rows that a record meets by itself, and what
+// is written into a lent buffer.
+// The crate `frames` reads a line to a record, the crate `writer` has the way back.
+mod ranges;
+
+pub use ranges::outside;
+ghost use mathlib.Core.Path.{_≡_};
+ghost use Rattle.records.specs.Answers.{rowOf, checkedAs};
+ghost use Rattle.records.specs.Ranges.{checked};
+
+// The season's header: tree number, days in the year, first and last day of the accumulation period, critical level in hundredths of mmol m⁻².
+pub struct Header {
+    pub tree: u8,
+    pub days: u16,
+    pub first: u16,
+    pub last: u16,
+    pub level: u16,
+}
+
+// A soil reading: suction in kPa, or available water in tenths of a percent.
+pub enum Soil {
+    Suction(u16),
+    Water(u16),
+}
+
+// An hour's readings: ozone in tenths of ppb, PPFD in µmol m⁻² s⁻¹, global radiation in W m⁻², temperature in tenths of °C,
+// vapour pressure deficit in Pa, wind in cm/s, soil in its measure's unit.
+pub struct Hour {
+    pub day: u16,
+    pub hour: u8,
+    pub ozone: u16,
+    pub ppfd: u16,
+    pub radiation: u16,
+    pub temperature: i16,
+    pub vpd: u16,
+    pub wind: u16,
+    pub soil: Soil,
+}
+
+// The season's end: the number of hour frames.
+pub struct End {
+    pub hours: u16,
+}
+
+pub enum Record {
+    Header(Header),
+    Hour(Hour),
+    End(End),
+}
+
+// The numbers of an hour frame as they stand in its line: temperature in two's complement, soil in the measure of a tree not yet named.
+pub struct RawHour {
+    pub day: u16,
+    pub hour: u8,
+    pub ozone: u16,
+    pub ppfd: u16,
+    pub radiation: u16,
+    pub temperature: u16,
+    pub vpd: u16,
+    pub wind: u16,
+    pub soil: u16,
+}
+
+// A frame that rows 1 to 3 let pass.
+pub enum Raw {
+    Header(Header),
+    Hour(RawHour),
+    End(End),
+}
+
+// Why a call is refused: a case for each of document 01's rows 1 to 13, in that order. Range names the field, 1 to 7.
+pub enum Refusal {
+    Length,
+    Digit,
+    Kind,
+    Turn,
+    Tree,
+    Year,
+    Period,
+    Level,
+    Due,
+    Range(u8),
+    Count,
+    Buffer,
+    Account,
+}
+
+pub enum Parsed {
+    Frame(Raw),
+    Refused(Refusal),
+}
+
+pub enum Checked {
+    Sound,
+    Refused(Refusal),
+}
+
+pub enum Decoded {
+    Read(Record),
+    Refused(Refusal),
+}
+
+pub enum Written {
+    Bytes(usize),
+    Refused(Refusal),
+}
+
+// A refusal's row in document 01, 1 to 13.
+pub fn row_of(refusal: Refusal) -> u8
+    ensures { λ r. ⌜ r ≡ rowOf «refusal» .0 ⌝ }
+{
+    match refusal {
+        Refusal::Length => 1,
+        Refusal::Digit => 2,
+        Refusal::Kind => 3,
+        Refusal::Turn => 4,
+        Refusal::Tree => 5,
+        Refusal::Year => 6,
+        Refusal::Period => 7,
+        Refusal::Level => 8,
+        Refusal::Due => 9,
+        Refusal::Range(_) => 10,
+        Refusal::Count => 11,
+        Refusal::Buffer => 12,
+        Refusal::Account => 13,
+    }
+}
+
+// A record's own rows: 5 to 8 for a header, 10 for an hour.
+pub fn check(record: Record) -> Checked
+    ensures { λ r. ⌜ checkedAs r ≡ checked «record» ⌝ }
+{
+    match record {
+        Record::Header(h) => ranges::check_header(h),
+        Record::Hour(h) => ranges::check_hour(h),
+        Record::End(_) => Checked::Sound,
+    }
+}

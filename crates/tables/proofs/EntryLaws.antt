@@ -1,0 +1,58 @@
+-- An array that passes one computed test can be read at each reading of its part of the tree's table, and gives the tree's pair.
+use Prim.Native.Nat.{ℕ, zero, suc, _+_, _-_, _*_, _<_, _≤_}
+use mathlib.Core.Path.{_≡_}
+use mathlib.Core.Bool.{Bool, true, _&&_}
+use mathlib.Core.List.{List, [], _∷_}
+use native.Mathlib.Omega.{arith}
+use lib.Dec.{T, leb, ltb, leb→le, ltb→lt}
+use lib.ListN.{length, getD}
+use store.Enc.{and-l, and-r}
+use Rattle.trees.specs.declared.Figures.{Figures}
+use Rattle.trees.specs.declared.Choice.the-variants.{Tree}
+use Rattle.trees.specs.declared.temperature.Bounds.{Bounds}
+use Rattle.trees.specs.Figures.{figuresOf}
+use Rattle.trees.specs.Temperature.{temperaturePair, tried, allowed}
+use Rattle.trees.proofs.TemperatureTable.{tableTest}
+use Rattle.trees.proofs.TemperatureTrees.{table-pair}
+use Rattle.tables.specs.Entries.{Readable, ReadAs}
+
+-- every entry is at most 1
+abbrev pub smallTest : List ℕ → Bool
+smallTest [] = true
+smallTest (t ∷ ts) = leb t 1000000000 && smallTest ts
+
+small-tested : (ts : List ℕ) → T (smallTest ts) → (i : ℕ) → getD ts i 0 ≤ 1000000000
+small-tested [] h i = omega arith
+small-tested (t ∷ ts) h zero = leb→le t 1000000000 (and-l (leb t 1000000000) (smallTest ts) h)
+small-tested (t ∷ ts) h (suc i) = small-tested ts (and-r (leb t 1000000000) (smallTest ts) h) i
+
+pub readable :
+    {fmin from x : ℕ} {ts : List ℕ} → T (leb fmin 100 && smallTest ts) → from ≤ x → x < from + length ts → Readable fmin ts from x
+readable {fmin} {from} {x} {ts} h first last = record {
+  percent = leb→le fmin 100 (and-l (leb fmin 100) (smallTest ts) h);
+  first = first;
+  last = last;
+  small = small-tested ts (and-r (leb fmin 100) (smallTest ts) h) (x - from);
+}
+
+-- the part lies between Tmin and Tmax, and its entries are the tree's
+abbrev pub partTest : Figures → ℕ → List ℕ → Bool
+unfolding tried allowed
+partTest f from ts = ltb (10 * f .tmin) from && (leb (from + length ts) (10 * f .tmax) && tableTest f from ts)
+
+pub read-pair :
+    (tree : ℕ) (f : Figures) → figuresOf tree ≡ Tree f → {from x : ℕ} {ts : List ℕ} {r : Bounds} → ReadAs (f .fmin) ts from x r →
+    T (partTest f from ts) → r ≡ temperaturePair f x
+unfolding tried allowed
+read-pair tree f chosen {from} {x} {ts} h tested =
+    let above = ltb→lt (10 * f .tmin) from (and-l (ltb (10 * f .tmin) from) (leb (from + length ts) (10 * f .tmax) && tableTest f from ts) tested) in
+    let rest = and-r (ltb (10 * f .tmin) from) (leb (from + length ts) (10 * f .tmax) && tableTest f from ts) tested in
+    let below = leb→le (from + length ts) (10 * f .tmax) (and-l (leb (from + length ts) (10 * f .tmax)) (tableTest f from ts) rest) in
+    let first = h .asked .first in
+    let last = h .asked .last in
+    table-pair tree f from ts chosen (and-r (leb (from + length ts) (10 * f .tmax)) (tableTest f from ts) rest)
+    (omega (arith, above, first))
+    (omega (arith, below, last))
+    first
+    last
+    (h .lower, h .upper)

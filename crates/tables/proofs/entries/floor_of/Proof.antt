@@ -1,0 +1,13 @@
+-- `tables::entries::floor_of` meets its contract.
+use borrow.Author.Needs.{needs}
+use Rattle.tables.proofs.entries.floor_of.Statement.{statement}
+use Rattle.tables.proofs.entries.floor_of.Tie as tie
+
+mul-floor : tie.Need-mul-floor
+mul-floor c = search needs
+
+returns : tie.Need-returns
+returns c = search needs
+
+pub floor-of-spec : {M : Type 1} → statement M
+floor-of-spec = tie.close (tie.spec mul-floor returns)

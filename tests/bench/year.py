@@ -1,0 +1,73 @@
+#!/usr/bin/env python3
+"""A leap year of plausible weather as a season text, the same at every run.
+
+    python3 tests/bench/year.py [TREE]      TREE 1 to 6, else 6 (evergreen)
+"""
+
+import math
+import random
+import sys
+
+DAYS, LEVEL = 366, 520
+
+
+def between(low, x, high):
+    return max(low, min(high, round(x)))
+
+
+def sun(day, hour):
+    """The sine of the sun's height at 50 degrees north, 0 at night."""
+    tilt = math.radians(-23.44) * math.cos(2 * math.pi * (day + 10) / DAYS)
+    north = math.radians(50)
+    turn = math.pi * (hour - 12) / 12
+    return max(0.0, math.sin(north) * math.sin(tilt) + math.cos(north) * math.cos(tilt) * math.cos(turn))
+
+
+def soil(rng, tree, dry):
+    """Suction in kPa, or available water in tenths of a percent for trees 1 and 2; dry is from 0 to 1."""
+    if tree < 3:
+        return between(0, 350 * (1 - dry) + rng.uniform(-10, 10), 1000)
+    return between(0, 30 + 2500 * dry**2 + rng.uniform(-10, 10), 10000)
+
+
+def readings(rng, tree, day, hour, sky, dry):
+    """Ozone, PPFD, global radiation, temperature, VPD, wind and soil of an hour, in the frame's units."""
+    height = sun(day, hour)
+    summer = -math.cos(2 * math.pi * (day - 20) / DAYS)
+    afternoon = math.cos(2 * math.pi * (hour - 15) / 24)
+    radiation = between(0, 1050 * height * sky * rng.uniform(0.9, 1.1), 1500)
+    degrees = 9 + 10 * summer + (2 + 4 * sky) * afternoon + rng.uniform(-2, 2)
+    vpd = 610.8 * math.exp(17.27 * degrees / (degrees + 237.3)) * (0.35 + 0.2 * sky + 0.15 * afternoon - 0.25)
+    ozone = 380 + 90 * summer + (60 + 120 * sky) * afternoon + rng.uniform(-60, 60)
+    wind = 40 + 260 * rng.random() ** 2 + 40 * afternoon
+    return [
+        between(0, ozone, 5000),
+        between(0, 2.05 * radiation, 3000),
+        radiation,
+        between(-500, 10 * degrees, 600) % 65536,
+        between(0, vpd, 10000),
+        between(0, wind, 6000),
+        soil(rng, tree, dry),
+    ]
+
+
+def year(tree):
+    rng = random.Random(2024)
+    yield f"01{tree:02X}{DAYS:04X}{1:04X}{DAYS:04X}{LEVEL:04X}"
+    dry = 0.3
+    for day in range(1, DAYS + 1):
+        sky = rng.uniform(0.25, 1)
+        dry = min(1.0, dry + 0.01) if sky > 0.5 else max(0.0, dry - 0.03)
+        for hour in range(24):
+            yield f"02{day:04X}{hour:02X}" + "".join(f"{n:04X}" for n in readings(rng, tree, day, hour, sky, dry))
+    yield f"03{24 * DAYS:04X}"
+
+
+def main():
+    tree = int(sys.argv[1]) if len(sys.argv) > 1 else 6
+    if not 1 <= tree <= 6:
+        sys.exit(__doc__)
+    print("\n".join(year(tree)))
+
+
+main()
