@@ -1,5 +1,5 @@
 #!/usr/bin/env python3
-"""The report program target/bin/pod1 and the script ./pod1, held to the line that tests/report_cases.py expects of each text.
+"""The report program target/bin/pod1 and the script ./pod1, held to the lines that tests/report_cases.py expects of each text.
 
     python3 tests/report_program.py [VECTORS]
 
@@ -242,6 +242,9 @@ def main():
             try_text(name, text)
     for text in report_cases.written_by_hand():
         try_text(repr(text[:60]), text)
+    for lines in report_cases.month_seasons():
+        text = report_cases.text_of(lines)
+        try_text(f"season {text[:20].decode()}", text)
     try_pieces_of(day, year)
     try_folder(PROGRAM, b"", 0)
     try_closed(PROGRAM, b"", 0)

@@ -12,7 +12,7 @@ enum Maker {
 }
 use Maker::{Chance, InTurn};
 
-const KINDS: [(&str, Maker); 22] = [
+const KINDS: [(&str, Maker); 23] = [
     ("weather", Chance(weather)),
     ("every reading", InTurn(every_reading)),
     ("every field", InTurn(every_field)),
@@ -23,6 +23,7 @@ const KINDS: [(&str, Maker); 22] = [
     ("every temperature", InTurn(every_temperature)),
     ("every bend", InTurn(every_bend)),
     ("every ramp", InTurn(every_ramp)),
+    ("every border of months", InTurn(every_border)),
     ("near the level", Chance(near)),
     ("near the level, few hours", Chance(near_few)),
     ("out of range", Chance(out_of_range)),

@@ -106,7 +106,7 @@ impl Cut<'_> {
     }
 
     fn is_season(&self) -> bool {
-        matches!(answer(&self.text), Answer::Season(_))
+        matches!(answer(&self.text), Answer::Season(..))
     }
 
     /// The season's text with these of its days only.

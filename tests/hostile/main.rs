@@ -2,12 +2,14 @@
 //!
 //!     hostile [--seed S] [--cases N] [--seconds T] [PROGRAM]
 //!
-//! Written from document 01 alone, with an account of its own in doubles. Each text's answer is compared: refusals byte for byte; hours, counted
-//! hours and AOT40 equal; the dose between lower and upper; these no more than 4 nmol m⁻² apart for each counted hour; the verdict by its rule.
+//! Written from documents 01 and 02 alone, with an account of its own in doubles. Each text's answer is compared: refusals byte for byte; hours,
+//! counted hours and AOT40 equal; the dose between lower and upper; these no more than 4 nmol m⁻² apart for each counted hour; the verdict by its
+//! rule; the same of each month touched, without a verdict; and the months' four figures add up to the season's.
 //! At the first difference it prints the smallest text that it can cut the case down to, and exits with 1. PROGRAM is target/bin/pod1 of the
 //! repository where none is named.
 
 mod account;
+mod calendar;
 mod cases;
 mod cut;
 mod damage;

@@ -1,6 +1,6 @@
-//! The program run on a text, and its line held to the account in doubles.
+//! The program run on a text, and its lines held to the account in doubles.
 
-use crate::account::{answer, Answer, Figures};
+use crate::account::{answer, Answer, Figures, Month};
 use std::io::{Read, Write};
 use std::path::Path;
 use std::process::{Child, Command, Stdio};
@@ -33,11 +33,17 @@ pub fn compare(program: &Path, text: &[u8]) -> Result<String, Difference> {
 fn describe(expected: &Answer) -> String {
     match expected {
         Answer::Refused { row, line } => format!("{:?}", format!("refused {row} line {line}\n")),
-        Answer::Season(figures) => {
+        Answer::Season(figures, months) => {
             let Figures { hours, counted, dose, aot40, level } = figures;
-            format!("hours {hours}, counted {counted}, dose {dose:.3}, AOT40 {aot40}, level {level}")
+            let months: String = months.iter().map(describe_month).collect();
+            format!("hours {hours}, counted {counted}, dose {dose:.3}, AOT40 {aot40}, level {level}{months}")
         }
     }
+}
+
+fn describe_month(month: &Month) -> String {
+    let Month { number, counted, dose, aot40 } = month;
+    format!("; month {number}: counted {counted}, dose {dose:.3}, AOT40 {aot40}")
 }
 
 /// The row or the verdict of a right answer.
@@ -49,31 +55,69 @@ fn summary(printed: &[u8]) -> String {
 
 // ---- the comparison
 
-/// Why the printed line is wrong, if it is.
+/// Why the printed lines are wrong, if they are.
 fn wrong(expected: &Answer, printed: &[u8]) -> Option<String> {
     match expected {
         Answer::Refused { row, line } if printed == format!("refused {row} line {line}\n").as_bytes() => None,
         Answer::Refused { .. } => Some(String::new()),
-        Answer::Season(figures) => wrong_season(figures, printed).map(|why| format!("; {why}")),
+        Answer::Season(figures, months) => wrong_season(figures, months, printed).map(|why| format!("; {why}")),
     }
 }
 
-fn wrong_season(figures: &Figures, printed: &[u8]) -> Option<String> {
-    let Some([hours, counted, lower, upper, aot40]) = numbers(printed) else {
+fn wrong_season(figures: &Figures, months: &[Month], printed: &[u8]) -> Option<String> {
+    let mut lines = printed.split_inclusive(|&byte| byte == b'\n');
+    let line = lines.next().unwrap_or_default();
+    let Some([hours, counted, lower, upper, aot40]) = numbers(line) else {
         return Some("no line of five numbers and a verdict".into());
     };
     if (hours, counted, aot40) != (figures.hours, figures.counted, figures.aot40) {
         return Some("hours, counted or AOT40 is another".into());
     }
-    if figures.dose < lower as f64 - SLACK || figures.dose > upper as f64 + SLACK {
-        return Some("the dose is not between lower and upper".into());
-    }
-    if lower > upper || upper - lower > 4 * counted || upper > 600_000 * counted {
-        return Some("lower and upper are out of order, too far apart or too great".into());
+    if let Some(why) = wrong_pair(figures.dose, counted, lower, upper) {
+        return Some(why.into());
     }
     let verdict = verdict(lower, upper, figures.level);
-    let line = format!("{hours} {counted} {lower} {upper} {aot40} {verdict}\n");
-    (printed != line.as_bytes()).then(|| format!("the line is {line:?}"))
+    let right = format!("{hours} {counted} {lower} {upper} {aot40} {verdict}\n");
+    if line != right.as_bytes() {
+        return Some(format!("the line is {right:?}"));
+    }
+    wrong_months(months, &lines.collect::<Vec<_>>(), [counted, lower, upper, aot40])
+}
+
+/// A line for each month touched and no other, in order; added up they are the season's four figures.
+fn wrong_months(months: &[Month], lines: &[&[u8]], season: [i64; 4]) -> Option<String> {
+    if lines.len() != months.len() {
+        return Some(format!("{} months are touched, {} lines follow", months.len(), lines.len()));
+    }
+    let mut sums = [0; 4];
+    for (month, line) in months.iter().zip(lines) {
+        match month_figures(month, line) {
+            Ok(figures) => (0..4).for_each(|at| sums[at] += figures[at]),
+            Err(why) => return Some(format!("month {}: {why}", month.number)),
+        }
+    }
+    (sums != season).then(|| "the months do not add up to the season".into())
+}
+
+/// The four figures of a month's line, or why it is wrong.
+fn month_figures(month: &Month, line: &[u8]) -> Result<[i64; 4], String> {
+    let [number, counted, lower, upper, aot40] = numbers(line.strip_suffix(b"\n").unwrap_or(line)).ok_or("no line of five numbers")?;
+    if (number, counted, aot40) != (month.number, month.counted, month.aot40) {
+        return Err("number, counted or AOT40 is another".into());
+    }
+    if let Some(why) = wrong_pair(month.dose, counted, lower, upper) {
+        return Err(why.into());
+    }
+    let right = format!("{number} {counted} {lower} {upper} {aot40}\n");
+    if line == right.as_bytes() { Ok([counted, lower, upper, aot40]) } else { Err(format!("the line is {right:?}")) }
+}
+
+fn wrong_pair(dose: f64, counted: i64, lower: i64, upper: i64) -> Option<&'static str> {
+    if dose < lower as f64 - SLACK || dose > upper as f64 + SLACK {
+        return Some("the dose is not between lower and upper");
+    }
+    let is_apart = lower > upper || upper - lower > 4 * counted || upper > 600_000 * counted;
+    is_apart.then_some("lower and upper are out of order, too far apart or too great")
 }
 
 fn verdict(lower: i64, upper: i64, level: i64) -> &'static str {
@@ -86,7 +130,7 @@ fn verdict(lower: i64, upper: i64, level: i64) -> &'static str {
     }
 }
 
-/// The five numbers before the verdict; how they are written is seen by the line made of them.
+/// The five numbers at a line's start; how they are written is seen by the line made of them.
 fn numbers(printed: &[u8]) -> Option<[i64; 5]> {
     let line = std::str::from_utf8(printed).ok()?;
     let numbers: Vec<i64> = line.split(' ').map_while(|word| word.parse().ok()).collect();

@@ -1,6 +1,7 @@
 //! Cases that go through a list in turn, so that none of it is left to chance: few lines each, the rest of them by chance.
 
 use crate::account::Header;
+use crate::calendar::last_day;
 use crate::damage::{put, text, Lines};
 use crate::rng::Rng;
 use crate::season::*;
@@ -145,5 +146,19 @@ pub fn every_ramp(rng: &mut Rng, turn: u64) -> Vec<u8> {
     let bends = [header.first, header.first + ramps[0], header.last - ramps[1], header.last];
     let day = bends[(turn / 4 % 4) as usize] + (turn / 16 % 3) as i64 - 1;
     few_lit(rng, &mut season, &[day.clamp(header.first, header.last)]);
+    text(rng, &season.lines())
+}
+
+/// The border of every month in both years: periods that end at it, begin at it or pass it.
+pub fn every_border(rng: &mut Rng, turn: u64) -> Vec<u8> {
+    let days = 365 + (turn % 2) as i64;
+    let border = last_day(days, (turn / 2 % 12 + 1) as i64);
+    let tree = rng.pick(&[3, 6]);
+    let first = border + rng.between(-2, 1);
+    let last = first + rng.between(0, 3);
+    let header = Header { tree, days, first: first.min(days), last: last.min(days), level: any_level(rng) };
+    let mut season = plausible(rng, header);
+    let days = [border, border + 1].map(|day| day.clamp(header.first, header.last));
+    few_lit(rng, &mut season, &days);
     text(rng, &season.lines())
 }

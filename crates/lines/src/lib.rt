@@ -1,12 +1,17 @@
-// The two lines of a report, into a lent buffer (document 01, "Report"): row 12 where it is too short, and then nothing is written.
+// The lines of a report, into a lent buffer (document 01, "Report"): row 12 where it is too short, and then nothing is written.
 mod line;
 mod text;
 
 use book::Totals;
 use frames::Written;
+use texts::Text;
+ghost use mathlib.Core.Path.{_≡_};
+ghost use mathlib.Core.List.{_++_};
 ghost use Rattle.records.specs.Answers.{accepted};
 ghost use Rattle.records.specs.Buffer.{Prints};
+ghost use Rattle.texts.specs.Text.{textIn, Whole};
 ghost use Rattle.texts.specs.Line.{lineOf};
+ghost use Rattle.texts.specs.Months.{monthLine};
 ghost use Rattle.texts.specs.Season.{refusalLine};
 
 // The figures of an account.
@@ -14,6 +19,21 @@ pub fn put_totals(totals: Totals, buf: &mut [u8]) -> Written
     ensures { λ r. ⌜ Prints (accepted (lineOf totals)) (now (buf .entry)) r (now (buf .exit)) ⌝ }
 {
     text::put(line::of_totals(totals), buf)
+}
+
+// A month's number and figures.
+pub fn month_line(month: u16, figures: Totals) -> Text
+    ensures text { λ r. ⌜ textIn r ≡ monthLine month figures ⌝ }
+    ensures room { λ r. ⌜ Whole r ⌝ }
+{
+    line::of_month(month, figures)
+}
+
+// The figures of a season's account, and its month lines.
+pub fn put_season(totals: Totals, months: &[u8], buf: &mut [u8]) -> Written
+    ensures { λ r. ⌜ Prints (accepted (lineOf totals ++ now (months .entry))) (now (buf .entry)) r (now (buf .exit)) ⌝ }
+{
+    text::put_both(line::of_totals(totals), months, buf)
 }
 
 // A refusal by a row at a line.

@@ -1,4 +1,4 @@
-// The two lines of the report: a season's figures, or its first refusal.
+// The lines of the report: a season's figures, a month's, or the first refusal.
 use crate::text::byte_before;
 use crate::text::empty;
 use crate::text::number_before;
@@ -11,6 +11,7 @@ ghost use mathlib.Core.List.{[], _∷_, _++_};
 ghost use lib.ListN.{length};
 ghost use Rattle.texts.specs.Text.{decimal, space, lineFeed, textIn, Whole};
 ghost use Rattle.texts.specs.Line.{wordOf, lineOf};
+ghost use Rattle.texts.specs.Months.{monthLine};
 ghost use Rattle.texts.specs.Season.{refusalLine};
 
 // A word before the text.
@@ -63,6 +64,19 @@ pub(crate) fn of_totals(t: Totals) -> Text
     let lower = column_before(upper, t.lower);
     let counted = column_before(lower, t.counted as u64);
     column_before(counted, t.hours as u64)
+}
+
+// Month number, counted hours, lower, upper and AOT40.
+pub(crate) fn of_month(month: u16, t: Totals) -> Text
+    ensures text { λ r. ⌜ textIn r ≡ monthLine month t ⌝ }
+    ensures room { λ r. ⌜ Whole r ⌝ }
+{
+    let end = byte_before(empty(), b'\n');
+    let aot40 = number_before(end, t.aot40 as u64);
+    let upper = column_before(aot40, t.upper);
+    let lower = column_before(upper, t.lower);
+    let counted = column_before(lower, t.counted as u64);
+    column_before(counted, month as u64)
 }
 
 // `refused N line L`

@@ -4,7 +4,9 @@ use frames::Written;
 use texts::Text;
 ghost use mathlib.Core.Path.{_≡_};
 ghost use Prim.Native.Nat.{_+_, _≤_};
-ghost use mathlib.Core.List.{[], _∷_};
+ghost use mathlib.Core.List.{[], _∷_, _++_};
+ghost use lib.ListN.{length};
+ghost use lib.Seq.{paste};
 ghost use Rattle.records.specs.Answers.{accepted};
 ghost use Rattle.records.specs.Buffer.{Prints};
 ghost use Rattle.texts.specs.Text.{decimal, textIn, Whole};
@@ -65,4 +67,33 @@ pub(crate) fn put(t: Text, buf: &mut [u8]) -> Written
         i += 1;
     }
     Written::Bytes(n)
+}
+
+// Bytes into a buffer, from a place on.
+fn copy(bytes: &[u8], buf: &mut [u8], at: usize)
+    requires room { ⌜ at + length (now bytes) ≤ length (now buf) ⌝ }
+    ensures { λ _. ⌜ now (buf .exit) ≡ paste (now (buf .entry)) at (now (bytes .entry)) (length (now (bytes .entry))) ⌝ }
+{
+    let mut i = 0;
+    while i < bytes.len() {
+        buf[at + i] = bytes[i];
+        i += 1;
+    }
+}
+
+// The text and more after it into a lent buffer: row 12 where it is too short for both, and then nothing is written.
+pub(crate) fn put_both(t: Text, more: &[u8], buf: &mut [u8]) -> Written
+    requires room { ⌜ Whole t ⌝ }
+    ensures { λ r. ⌜ Prints (accepted (textIn t ++ now (more .entry))) (now (buf .entry)) r (now (buf .exit)) ⌝ }
+{
+    let at = t.at;
+    let n = 128 - at;
+    let all = n + more.len();
+    if buf.len() < all {
+        return Written::Refused(Refusal::Buffer);
+    }
+    let bytes = t.bytes;
+    copy(&bytes[at..], buf, 0);
+    copy(more, buf, n);
+    Written::Bytes(all)
 }

@@ -1,4 +1,4 @@
-// Cases: 8 digits of a text's length, 2 of the buffer's, all capital hexadecimal, a line feed, and the text.
+// Cases: 8 digits of a text's length, 4 of the buffer's, all capital hexadecimal, a line feed, and the text.
 use frames::Written;
 use libc::STDIN_FILENO;
 use libc::STDOUT_FILENO;
@@ -44,10 +44,10 @@ fn print_into(text: &[u8], room: usize, buf: &mut [u8]) {
     print(b"\n");
 }
 
-// A text that fills the buffer; its report goes into a buffer of 128 marks.
+// A text that fills the buffer; its report goes into a buffer of 512 marks.
 fn print_text(text: &mut [u8], room: usize) {
     io::read_full(STDIN_FILENO, text);
-    let mut buf = [b'#'; 128];
+    let mut buf = [b'#'; 512];
     print_into(text, room, &mut buf);
 }
 
@@ -60,12 +60,12 @@ fn print_case(buf: &mut [u8], n: usize, room: usize) {
 
 // The next case; false where there is none.
 fn print_next(buf: &mut [u8]) -> bool {
-    let mut head = [0; 11];
+    let mut head = [0; 13];
     let got = io::read_full(STDIN_FILENO, &mut head);
-    if got < 11 {
+    if got < 13 {
         return false;
     }
-    print_case(buf, number(&head[0..8]), number(&head[8..10]));
+    print_case(buf, number(&head[0..8]), number(&head[8..12]));
     true
 }
 
