@@ -68,7 +68,7 @@ pub enum Raw {
     End(End),
 }
 
-// Why a call is refused: a case for each of document 01's rows 1 to 13, in that order. Range names the field, 1 to 7.
+// Why a call is refused: a case for each of document 01's rows, 1 to 13 and W-202's 14, in that order. Range names the field, 1 to 7.
 pub enum Refusal {
     Length,
     Digit,
@@ -83,6 +83,7 @@ pub enum Refusal {
     Count,
     Buffer,
     Account,
+    Place,
 }
 
 pub enum Parsed {
@@ -105,7 +106,7 @@ pub enum Written {
     Refused(Refusal),
 }
 
-// A refusal's row in document 01, 1 to 13.
+// A refusal's row, 1 to 14.
 pub fn row_of(refusal: Refusal) -> u8
     ensures { λ r. ⌜ r ≡ rowOf «refusal» .0 ⌝ }
 {
@@ -123,6 +124,7 @@ pub fn row_of(refusal: Refusal) -> u8
         Refusal::Count => 11,
         Refusal::Buffer => 12,
         Refusal::Account => 13,
+        Refusal::Place => 14,
     }
 }
 

@@ -1,0 +1,5 @@
+pub mod RoundingLaws
+pub mod ModelLaws
+pub mod RuleLaws
+pub mod HeaderLaws
+pub mod PlaceLaws

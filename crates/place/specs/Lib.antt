@@ -1,0 +1,4 @@
+pub mod Rounding
+pub mod Model
+pub mod Rules
+pub mod Promise
