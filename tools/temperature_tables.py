@@ -3,25 +3,27 @@
 
     python3 tools/temperature_tables.py
 
-writes crates/tables/src/values.rt, src/lookups.rt and proofs/lookups/. An entry is the greatest whole t with t/10^9 not above a·w^(p/q). The
-proofs test every entry, so nothing rests on this script.
+writes crates/tables/src/values.rt, src/lookups.rt and proofs/lookups/. An entry is the greatest whole t with t/10^9 not above a·w^(p/q). Entries under
+f_min go from both ends of a table until it begins and ends with one that is not. The proofs test every entry and every one that was cut, so nothing
+rests on this script.
 """
 from math import gcd
 from pathlib import Path
 
-# number, Tmin, Topt, Tmax in °C
+# number, f_min in percent, Tmin, Topt, Tmax in °C
 TREES = {
-    "BorealSpruce": (1, 0, 20, 200),
-    "Birch": (2, 5, 20, 200),
-    "ContinentalSpruce": (3, 0, 14, 35),
-    "Beech": (4, 5, 16, 33),
-    "Oak": (5, 0, 22, 35),
-    "Evergreen": (6, 1, 23, 39),
+    "BorealSpruce": (1, 10, 0, 20, 200),
+    "Birch": (2, 10, 5, 20, 200),
+    "ContinentalSpruce": (3, 16, 0, 14, 35),
+    "Beech": (4, 13, 5, 16, 33),
+    "Oak": (5, 13, 0, 22, 35),
+    "Evergreen": (6, 2, 1, 23, 39),
 }
 HIGHEST = 600  # tenths of °C
 ZERO = 500  # a reading of 0.0 °C: tenths of a degree above -50.0 °C
 DECIMALS = 9
 PART = 100  # entries of one constant array
+SHORT = 3  # so many entries stand on one line, as rt fmt puts them
 CRATE = Path(__file__).resolve().parent.parent / "crates" / "tables"
 
 
@@ -47,11 +49,19 @@ def entry(tmin: int, topt: int, tmax: int, tenths: int) -> int:
     return root_down(numerators // denominators, q)
 
 
+def table(tree: str) -> dict[int, int]:
+    """The entries by their readings, trimmed at both ends."""
+    _, fmin, tmin, topt, tmax = TREES[tree]
+    inside = range(10 * tmin + 1, min(10 * tmax, HIGHEST + 1))
+    entries = {ZERO + tenths: entry(tmin, topt, tmax, tenths) for tenths in inside}
+    reached = [x for x, t in entries.items() if 100 * t >= fmin * 10**DECIMALS]
+    return {x: entries[x] for x in range(min(reached), max(reached) + 1)}
+
+
 def parts(tree: str) -> dict[int, list[int]]:
     """The entries of 10 degrees, by the first one's reading."""
-    _, tmin, topt, tmax = TREES[tree]
-    inside = range(10 * tmin + 1, min(10 * tmax, HIGHEST + 1))
-    return {ZERO + first: [entry(tmin, topt, tmax, tenths) for tenths in inside if first <= tenths < first + PART] for first in inside[::PART]}
+    found = table(tree)
+    return {first: [found[x] for x in range(first, min(first + PART, max(found) + 1))] for first in range(min(found), max(found) + 1, PART)}
 
 
 def words(tree: str) -> list[str]:
@@ -72,37 +82,39 @@ def camel(tree: str) -> str:
 
 def values() -> list[str]:
     lines = [
-        "// f_temp's tables, made by tools/temperature_tables.py: for each tenth of a degree above Tmin, below Tmax and up to 60.0 °C, a·w^(p/q)",
-        "// rounded down to nine decimals. TEMPERATURE_601 has the entries of the reading 601 and the 99 after it: a table is copied where it is read,",
-        "// so each is short.",
+        "// f_temp's tables, made by tools/temperature_tables.py: a·w^(p/q) rounded down to nine decimals, for each tenth of a degree above Tmin, below",
+        "// Tmax and up to 60.0 °C, from the first to the last that is not under f_min. TEMPERATURE_609 has the entries of the reading 609 and the 99",
+        "// after it: a table is copied where it is read, so each is short.",
     ]
     for tree in TREES:
         lines += ["", f"pub(crate) struct {tree};", "", f"impl {tree} {{"]
         for first, entries in parts(tree).items():
             lines += [] if lines[-1].endswith("{") else [""]
-            lines += [f"    pub const TEMPERATURE_{first}: [u32; {len(entries)}] = ["]
-            lines += [f"        {t}," for t in entries]
-            lines += ["    ];"]
+            head = f"    pub const TEMPERATURE_{first}: [u32; {len(entries)}] = ["
+            if len(entries) <= SHORT:
+                lines += [f"{head}{', '.join(str(t) for t in entries)}];"]
+            else:
+                lines += [head, *(f"        {t}," for t in entries), "    ];"]
         lines += ["}"]
     return lines
 
 
 def lookup(tree: str) -> list[str]:
-    found = parts(tree)
-    first, count = min(found), sum(len(entries) for entries in found.values())
+    found, first, last = parts(tree), min(table(tree)), max(table(tree))
     lines = [
         "",
         f"pub(crate) fn {snake(tree)}_at(x: u16) -> Bounds",
         "    requires { ⌜ x ≤ 1100 ⌝ }",
-        f"    ensures {{ λ r. ⌜ r ≡ temperaturePair {camel(tree)} x ⌝ }}",
+        f"    ensures pair {{ λ r. ⌜ r ≡ temperaturePair {camel(tree)} x ⌝ }}",
+        f"    ensures trimmed {{ λ _. ⌜ IsTrimmed {camel(tree)} {first} {last} ⌝ }}",
         "{",
         f"    let fmin = trees::{tree}::FMIN;",
         f"    if x < {first} {{",
         "        return floor_of(fmin);",
         "    }",
     ]
-    if first + count <= ZERO + HIGHEST:
-        lines += [f"    if {first + count - 1} < x {{", "        return floor_of(fmin);", "    }"]
+    if last < ZERO + HIGHEST:
+        lines += [f"    if {last} < x {{", "        return floor_of(fmin);", "    }"]
     lines += [f"    match (x - {first}) / {PART} {{"]
     for k, start in enumerate(found):
         lines += [
@@ -116,7 +128,7 @@ def lookup(tree: str) -> list[str]:
 
 def lookups() -> list[str]:
     lines = [
-        "// Each tree's f_temp at a reading, tenths of a degree above -50.0 °C, out of the part of its table where the reading lies.",
+        "// Each tree's f_temp at a reading, tenths of a degree above -50.0 °C: f_min outside the tree's table, else out of the part where the reading lies.",
         "// Made by tools/temperature_tables.py.",
         "use crate::entries::entry;",
         "use crate::entries::floor_of;",
@@ -126,6 +138,7 @@ def lookups() -> list[str]:
         "ghost use Prim.Native.Nat.{_≤_};",
         f"ghost use Rattle.trees.specs.Figures.{{{', '.join(camel(tree) for tree in TREES)}}};",
         "ghost use Rattle.trees.specs.Temperature.{temperaturePair};",
+        "ghost use Rattle.trees.specs.TemperatureTable.{IsTrimmed};",
     ]
     for tree in TREES:
         lines += lookup(tree)
@@ -143,34 +156,41 @@ def needs(tree: str) -> dict[str, str]:
     """Each thing that the function's proof must show, with its proof."""
     number, figures = TREES[tree][0], camel(tree)
     count = len(parts(tree))
-    floors = 1 if TREES[tree][3] > HIGHEST // 10 else 2
+    floors = 1 if max(table(tree)) == ZERO + HIGHEST else 2
     out: dict[str, str] = {}
     for n in range(1, floors + 1):
         call = "floor-of" if n == 1 else f"floor-of{n}"
         out[nth("floor-of-requires", n)] = "c κs = search needs"
-        out[nth("returns", n)] = f"c = floor-pair {figures} (λ low. omega arith) (c .{call} .ensures)"
+        out[nth("returns", n)] = f"c = (floor-pair trimmed (omega arith) (λ first. omega arith) (c .{call} .ensures), trimmed)"
     for n in range(1, count + 1):
         out[nth("slice-aggregate-entry", n)] = "c = search needs"
         out[nth("entry-requires", n)] = "c κs = readable tt (omega arith) (omega arith)"
     for n in range(1, count + 1):
         call = "entry" if n == 1 else f"entry{n}"
-        out[nth("returns", floors + n)] = f"c = read-pair {number} {figures} refl (c .{call} .ensures) tt"
+        out[nth("returns", floors + n)] = f"c = (read-pair {number} {figures} refl (c .{call} .ensures) tt, trimmed)"
     return out
 
 
 def proof(tree: str) -> list[str]:
-    name, shown = snake(tree), needs(tree)
+    name, figures, shown = snake(tree), camel(tree), needs(tree)
+    first, last = min(table(tree)), max(table(tree))
     lines = [
-        f"-- `tables::lookups::{name}_at` meets its contract: each table passes one computed test. Made by tools/temperature_tables.py.",
+        f"-- `tables::lookups::{name}_at` meets its contract: each array passes one computed test, and so does what was cut.",
+        "-- Made by tools/temperature_tables.py.",
         "use mathlib.Core.Path.{refl}",
         "use native.Mathlib.Omega.{arith}",
         "use borrow.Author.Needs.{needs}",
-        f"use Rattle.trees.specs.Figures.{{{camel(tree)}, figuresOf}}",
+        f"use Rattle.trees.specs.Figures.{{{figures}, figuresOf}}",
         "use Rattle.trees.specs.Temperature.{tried, allowed}",
-        "use Rattle.trees.proofs.TemperatureTrees.{floor-pair}",
+        "use Rattle.trees.specs.TemperatureTable.{IsTrimmed}",
+        "use Rattle.trees.proofs.TemperatureTrees.{trimmed-table, floor-pair}",
         "use Rattle.tables.proofs.EntryLaws.{readable, read-pair}",
         f"use Rattle.tables.proofs.lookups.{name}_at.Statement.{{statement}}",
         f"use Rattle.tables.proofs.lookups.{name}_at.Tie as tie",
+        "",
+        f"trimmed : IsTrimmed {figures} {first} {last}",
+        "unfolding figuresOf tried allowed",
+        f"trimmed = trimmed-table {TREES[tree][0]} {figures} {first} {last} refl tt",
         "",
     ]
     for need, body in shown.items():

@@ -26,14 +26,27 @@ small-tested [] h i = omega arith
 small-tested (t ∷ ts) h zero = leb→le t 1000000000 (and-l (leb t 1000000000) (smallTest ts) h)
 small-tested (t ∷ ts) h (suc i) = small-tested ts (and-r (leb t 1000000000) (smallTest ts) h) i
 
-pub readable :
-    {fmin from x : ℕ} {ts : List ℕ} → T (leb fmin 100 && smallTest ts) → from ≤ x → x < from + length ts → Readable fmin ts from x
-readable {fmin} {from} {x} {ts} h first last = record {
-  percent = leb→le fmin 100 (and-l (leb fmin 100) (smallTest ts) h);
-  first = first;
-  last = last;
-  small = small-tested ts (and-r (leb fmin 100) (smallTest ts) h) (x - from);
-}
+-- f_min is a percentage, and neither the first entry nor the last is under it
+abbrev pub endsTest : ℕ → List ℕ → Bool
+endsTest fmin ts = leb fmin 100 && (leb (fmin * 10000000) (getD ts 0 0) && leb (fmin * 10000000) (getD ts (length ts - 1) 0))
+
+abbrev pub readTest : ℕ → List ℕ → Bool
+readTest fmin ts = endsTest fmin ts && smallTest ts
+
+pub readable : {fmin from x : ℕ} {ts : List ℕ} → T (readTest fmin ts) → from ≤ x → x < from + length ts → Readable fmin ts from x
+readable {fmin} {from} {x} {ts} h first last =
+    let begin : Bool = leb (fmin * 10000000) (getD ts 0 0) in
+    let end : Bool = leb (fmin * 10000000) (getD ts (length ts - 1) 0) in
+    let ends = and-l (endsTest fmin ts) (smallTest ts) h in
+    let both = and-r (leb fmin 100) (begin && end) ends in
+    record {
+      percent = leb→le fmin 100 (and-l (leb fmin 100) (begin && end) ends);
+      begins = leb→le (fmin * 10000000) (getD ts 0 0) (and-l begin end both);
+      ends = leb→le (fmin * 10000000) (getD ts (length ts - 1) 0) (and-r begin end both);
+      first = first;
+      last = last;
+      small = small-tested ts (and-r (endsTest fmin ts) (smallTest ts) h) (x - from);
+    }
 
 -- the part lies between Tmin and Tmax, and its entries are the tree's
 abbrev pub partTest : Figures → ℕ → List ℕ → Bool

@@ -5,9 +5,11 @@ use mathlib.Core.List.{List}
 use lib.ListN.{length, getD}
 use Rattle.trees.specs.declared.temperature.Bounds.{Bounds}
 
--- the table begins at the reading `from`
+-- the table begins at the reading `from`; neither its first entry nor its last is under f_min
 pub record Readable (fmin : ℕ) (table : List ℕ) (from x : ℕ) : Type 0 where
   pub percent : fmin ≤ 100
+  pub begins : fmin * 10000000 ≤ getD table 0 0
+  pub ends : fmin * 10000000 ≤ getD table (length table - 1) 0
   pub first : from ≤ x
   pub last : x < from + length table
   pub small : getD table (x - from) 0 ≤ 1000000000

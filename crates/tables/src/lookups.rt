@@ -1,4 +1,4 @@
-// Each tree's f_temp at a reading, tenths of a degree above -50.0 °C, out of the part of its table where the reading lies.
+// Each tree's f_temp at a reading, tenths of a degree above -50.0 °C: f_min outside the tree's table, else out of the part where the reading lies.
 // Made by tools/temperature_tables.py.
 use crate::entries::entry;
 use crate::entries::floor_of;
@@ -13,195 +13,202 @@ ghost use mathlib.Core.Path.{_≡_};
 ghost use Prim.Native.Nat.{_≤_};
 ghost use Rattle.trees.specs.Figures.{borealSpruce, birch, continentalSpruce, beech, oak, evergreen};
 ghost use Rattle.trees.specs.Temperature.{temperaturePair};
+ghost use Rattle.trees.specs.TemperatureTable.{IsTrimmed};
 
 pub(crate) fn boreal_spruce_at(x: u16) -> Bounds
     requires { ⌜ x ≤ 1100 ⌝ }
-    ensures { λ r. ⌜ r ≡ temperaturePair borealSpruce x ⌝ }
+    ensures pair { λ r. ⌜ r ≡ temperaturePair borealSpruce x ⌝ }
+    ensures trimmed { λ _. ⌜ IsTrimmed borealSpruce 509 1100 ⌝ }
 {
     let fmin = trees::BorealSpruce::FMIN;
-    if x < 501 {
+    if x < 509 {
         return floor_of(fmin);
     }
-    match (x - 501) / 100 {
+    match (x - 509) / 100 {
         0 => {
-            let t = BorealSpruce::TEMPERATURE_501;
-            entry(&t, 501, fmin, x)
+            let t = BorealSpruce::TEMPERATURE_509;
+            entry(&t, 509, fmin, x)
         },
         1 => {
-            let t = BorealSpruce::TEMPERATURE_601;
-            entry(&t, 601, fmin, x)
+            let t = BorealSpruce::TEMPERATURE_609;
+            entry(&t, 609, fmin, x)
         },
         2 => {
-            let t = BorealSpruce::TEMPERATURE_701;
-            entry(&t, 701, fmin, x)
+            let t = BorealSpruce::TEMPERATURE_709;
+            entry(&t, 709, fmin, x)
         },
         3 => {
-            let t = BorealSpruce::TEMPERATURE_801;
-            entry(&t, 801, fmin, x)
+            let t = BorealSpruce::TEMPERATURE_809;
+            entry(&t, 809, fmin, x)
         },
         4 => {
-            let t = BorealSpruce::TEMPERATURE_901;
-            entry(&t, 901, fmin, x)
+            let t = BorealSpruce::TEMPERATURE_909;
+            entry(&t, 909, fmin, x)
         },
         _ => {
-            let t = BorealSpruce::TEMPERATURE_1001;
-            entry(&t, 1001, fmin, x)
+            let t = BorealSpruce::TEMPERATURE_1009;
+            entry(&t, 1009, fmin, x)
         },
     }
 }
 
 pub(crate) fn birch_at(x: u16) -> Bounds
     requires { ⌜ x ≤ 1100 ⌝ }
-    ensures { λ r. ⌜ r ≡ temperaturePair birch x ⌝ }
+    ensures pair { λ r. ⌜ r ≡ temperaturePair birch x ⌝ }
+    ensures trimmed { λ _. ⌜ IsTrimmed birch 556 1100 ⌝ }
 {
     let fmin = trees::Birch::FMIN;
-    if x < 551 {
+    if x < 556 {
         return floor_of(fmin);
     }
-    match (x - 551) / 100 {
+    match (x - 556) / 100 {
         0 => {
-            let t = Birch::TEMPERATURE_551;
-            entry(&t, 551, fmin, x)
+            let t = Birch::TEMPERATURE_556;
+            entry(&t, 556, fmin, x)
         },
         1 => {
-            let t = Birch::TEMPERATURE_651;
-            entry(&t, 651, fmin, x)
+            let t = Birch::TEMPERATURE_656;
+            entry(&t, 656, fmin, x)
         },
         2 => {
-            let t = Birch::TEMPERATURE_751;
-            entry(&t, 751, fmin, x)
+            let t = Birch::TEMPERATURE_756;
+            entry(&t, 756, fmin, x)
         },
         3 => {
-            let t = Birch::TEMPERATURE_851;
-            entry(&t, 851, fmin, x)
+            let t = Birch::TEMPERATURE_856;
+            entry(&t, 856, fmin, x)
         },
         4 => {
-            let t = Birch::TEMPERATURE_951;
-            entry(&t, 951, fmin, x)
+            let t = Birch::TEMPERATURE_956;
+            entry(&t, 956, fmin, x)
         },
         _ => {
-            let t = Birch::TEMPERATURE_1051;
-            entry(&t, 1051, fmin, x)
+            let t = Birch::TEMPERATURE_1056;
+            entry(&t, 1056, fmin, x)
         },
     }
 }
 
 pub(crate) fn continental_spruce_at(x: u16) -> Bounds
     requires { ⌜ x ≤ 1100 ⌝ }
-    ensures { λ r. ⌜ r ≡ temperaturePair continentalSpruce x ⌝ }
+    ensures pair { λ r. ⌜ r ≡ temperaturePair continentalSpruce x ⌝ }
+    ensures trimmed { λ _. ⌜ IsTrimmed continentalSpruce 511 813 ⌝ }
 {
     let fmin = trees::ContinentalSpruce::FMIN;
-    if x < 501 {
+    if x < 511 {
         return floor_of(fmin);
     }
-    if 849 < x {
+    if 813 < x {
         return floor_of(fmin);
     }
-    match (x - 501) / 100 {
+    match (x - 511) / 100 {
         0 => {
-            let t = ContinentalSpruce::TEMPERATURE_501;
-            entry(&t, 501, fmin, x)
+            let t = ContinentalSpruce::TEMPERATURE_511;
+            entry(&t, 511, fmin, x)
         },
         1 => {
-            let t = ContinentalSpruce::TEMPERATURE_601;
-            entry(&t, 601, fmin, x)
+            let t = ContinentalSpruce::TEMPERATURE_611;
+            entry(&t, 611, fmin, x)
         },
         2 => {
-            let t = ContinentalSpruce::TEMPERATURE_701;
-            entry(&t, 701, fmin, x)
+            let t = ContinentalSpruce::TEMPERATURE_711;
+            entry(&t, 711, fmin, x)
         },
         _ => {
-            let t = ContinentalSpruce::TEMPERATURE_801;
-            entry(&t, 801, fmin, x)
+            let t = ContinentalSpruce::TEMPERATURE_811;
+            entry(&t, 811, fmin, x)
         },
     }
 }
 
 pub(crate) fn beech_at(x: u16) -> Bounds
     requires { ⌜ x ≤ 1100 ⌝ }
-    ensures { λ r. ⌜ r ≡ temperaturePair beech x ⌝ }
+    ensures pair { λ r. ⌜ r ≡ temperaturePair beech x ⌝ }
+    ensures trimmed { λ _. ⌜ IsTrimmed beech 557 803 ⌝ }
 {
     let fmin = trees::Beech::FMIN;
-    if x < 551 {
+    if x < 557 {
         return floor_of(fmin);
     }
-    if 829 < x {
+    if 803 < x {
         return floor_of(fmin);
     }
-    match (x - 551) / 100 {
+    match (x - 557) / 100 {
         0 => {
-            let t = Beech::TEMPERATURE_551;
-            entry(&t, 551, fmin, x)
+            let t = Beech::TEMPERATURE_557;
+            entry(&t, 557, fmin, x)
         },
         1 => {
-            let t = Beech::TEMPERATURE_651;
-            entry(&t, 651, fmin, x)
+            let t = Beech::TEMPERATURE_657;
+            entry(&t, 657, fmin, x)
         },
         _ => {
-            let t = Beech::TEMPERATURE_751;
-            entry(&t, 751, fmin, x)
+            let t = Beech::TEMPERATURE_757;
+            entry(&t, 757, fmin, x)
         },
     }
 }
 
 pub(crate) fn oak_at(x: u16) -> Bounds
     requires { ⌜ x ≤ 1100 ⌝ }
-    ensures { λ r. ⌜ r ≡ temperaturePair oak x ⌝ }
+    ensures pair { λ r. ⌜ r ≡ temperaturePair oak x ⌝ }
+    ensures trimmed { λ _. ⌜ IsTrimmed oak 517 848 ⌝ }
 {
     let fmin = trees::Oak::FMIN;
-    if x < 501 {
+    if x < 517 {
         return floor_of(fmin);
     }
-    if 849 < x {
+    if 848 < x {
         return floor_of(fmin);
     }
-    match (x - 501) / 100 {
+    match (x - 517) / 100 {
         0 => {
-            let t = Oak::TEMPERATURE_501;
-            entry(&t, 501, fmin, x)
+            let t = Oak::TEMPERATURE_517;
+            entry(&t, 517, fmin, x)
         },
         1 => {
-            let t = Oak::TEMPERATURE_601;
-            entry(&t, 601, fmin, x)
+            let t = Oak::TEMPERATURE_617;
+            entry(&t, 617, fmin, x)
         },
         2 => {
-            let t = Oak::TEMPERATURE_701;
-            entry(&t, 701, fmin, x)
+            let t = Oak::TEMPERATURE_717;
+            entry(&t, 717, fmin, x)
         },
         _ => {
-            let t = Oak::TEMPERATURE_801;
-            entry(&t, 801, fmin, x)
+            let t = Oak::TEMPERATURE_817;
+            entry(&t, 817, fmin, x)
         },
     }
 }
 
 pub(crate) fn evergreen_at(x: u16) -> Bounds
     requires { ⌜ x ≤ 1100 ⌝ }
-    ensures { λ r. ⌜ r ≡ temperaturePair evergreen x ⌝ }
+    ensures pair { λ r. ⌜ r ≡ temperaturePair evergreen x ⌝ }
+    ensures trimmed { λ _. ⌜ IsTrimmed evergreen 513 889 ⌝ }
 {
     let fmin = trees::Evergreen::FMIN;
-    if x < 511 {
+    if x < 513 {
         return floor_of(fmin);
     }
     if 889 < x {
         return floor_of(fmin);
     }
-    match (x - 511) / 100 {
+    match (x - 513) / 100 {
         0 => {
-            let t = Evergreen::TEMPERATURE_511;
-            entry(&t, 511, fmin, x)
+            let t = Evergreen::TEMPERATURE_513;
+            entry(&t, 513, fmin, x)
         },
         1 => {
-            let t = Evergreen::TEMPERATURE_611;
-            entry(&t, 611, fmin, x)
+            let t = Evergreen::TEMPERATURE_613;
+            entry(&t, 613, fmin, x)
         },
         2 => {
-            let t = Evergreen::TEMPERATURE_711;
-            entry(&t, 711, fmin, x)
+            let t = Evergreen::TEMPERATURE_713;
+            entry(&t, 713, fmin, x)
         },
         _ => {
-            let t = Evergreen::TEMPERATURE_811;
-            entry(&t, 811, fmin, x)
+            let t = Evergreen::TEMPERATURE_813;
+            entry(&t, 813, fmin, x)
         },
     }
 }

@@ -2,6 +2,7 @@ pub mod SoundLaws
 pub mod TemperatureRoot
 pub mod TemperatureTable
 pub mod TemperatureLookup
+pub mod TemperatureTrim
 pub mod TemperatureTrees
 pub mod TemperatureLaws
 pub mod PhenologyLaws

@@ -18,7 +18,7 @@ use Rattle.trees.proofs.TemperatureRoot.{rootAt-is}
 abbrev bounds : ℕ → ℕ → Bounds
 bounds l u = record { lower = l; upper = u }
 
-le-or-lt : (m n : ℕ) → (m ≤ n) ⊎ (n < m)
+pub le-or-lt : (m n : ℕ) → (m ≤ n) ⊎ (n < m)
 le-or-lt m n = elim (decLe m n) [ yes p ↦ inl p | no q ↦ inr (omega arith) ]
 
 module _ (tmin tmax x : ℕ) where
@@ -35,7 +35,7 @@ module _ (tmin tmax x : ℕ) where
   inside-false h = ⊎-elim outside-low (λ low. outside-high low (h low)) (le-or-lt x (10 * tmin))
 
 module _ (f : Figures) (x : ℕ) where
-  pub pair-outside :
+  pair-outside :
       {r : Bounds} → (10 * f .tmin < x → 10 * f .tmax ≤ x) → (r .lower ≡ f .fmin * 10000000) × (r .upper ≡ f .fmin * 10000000) →
       r ≡ temperaturePair f x
   unfolding temperaturePair
@@ -46,6 +46,18 @@ module _ (f : Figures) (x : ℕ) where
       temperaturePair f x ≡ bounds (max (f .fmin * 10000000) (rootAt 9 f x)) (max (f .fmin * 10000000) (rootAt 9 f x + 1))
   unfolding temperaturePair
   pair-inside e = rw e
+
+  -- f_min, wherever t is under it
+  pub pair-floor :
+      {r : Bounds} → (10 * f .tmin < x → x < 10 * f .tmax → rootAt 9 f x < f .fmin * 10000000) →
+      (r .lower ≡ f .fmin * 10000000) × (r .upper ≡ f .fmin * 10000000) → r ≡ temperaturePair f x
+  pair-floor {r} under e =
+      let within : 10 * f .tmin < x → x < 10 * f .tmax → r ≡ temperaturePair f x =
+      (λ low high.
+      let l = under low high in
+      ap₂ bounds (omega (arith, e .0)) (omega (arith, e .1)) ∙ sym (pair-inside (inside-true (f .tmin) (f .tmax) x low high))) in
+      ⊎-elim (λ out. pair-outside (λ low. omega (arith, low, out)) e)
+      (λ low. ⊎-elim (λ out. pair-outside (λ l. out) e) (within low) (le-or-lt (10 * f .tmax) x)) (le-or-lt x (10 * f .tmin))
 
 module _ {f : Figures} {from x : ℕ} {ts : List ℕ} (s : Sound f) (t : IsTable f from ts) (low : 10 * f .tmin < x) (high : x < 10 * f .tmax)
     (first : from ≤ x) (short : x < from + length ts) where

@@ -110,6 +110,9 @@ module _ (f : Figures) (x : ℕ) where
         let l : t < rootAt k f x + 1 = tried-lt h (rootAt-greatest root k .above) in
         omega arith
 
+    pub rootAt-below : (k : ℕ) {t : ℕ} → allowed k f x < tried f x t → rootAt k f x < t
+    rootAt-below k h = tried-lt (rootAt-greatest root k .under) h
+
     pub rootAt-grows : (k j : ℕ) → 10 ^ j * rootAt k f x ≤ rootAt (k + j) f x
     rootAt-grows k j = digits-le k j (rootAt-greatest root k) (rootAt-greatest root (k + j))
 

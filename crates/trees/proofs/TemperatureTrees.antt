@@ -10,10 +10,12 @@ use Rattle.trees.specs.declared.Choice.{Choice}
 use Rattle.trees.specs.declared.Choice.the-variants.{Tree, Unknown}
 use Rattle.trees.specs.declared.temperature.Bounds.{Bounds}
 use Rattle.trees.specs.Figures.{figuresOf}
-use Rattle.trees.specs.Temperature.{temperaturePair, temperatureOf}
+use Rattle.trees.specs.Temperature.{tried, allowed, temperaturePair, temperatureOf}
+use Rattle.trees.specs.TemperatureTable.{IsTrimmed}
 use Rattle.trees.proofs.SoundLaws.{figures-sound}
-use Rattle.trees.proofs.TemperatureLookup.{pair-outside, pair-read}
+use Rattle.trees.proofs.TemperatureLookup.{pair-floor, pair-read}
 use Rattle.trees.proofs.TemperatureTable.{tableTest, table-tested}
+use Rattle.trees.proofs.TemperatureTrim.{trimmedTest, trimmed-tested, trimmed-under}
 
 -- what reading an entry gives is the tree's pair
 pub table-pair :
@@ -24,10 +26,16 @@ pub table-pair :
 table-pair tree f from ts {x} chosen tested low high first short h =
     pair-read (figures-sound tree f chosen) (table-tested f from ts tested) low high first short h
 
+-- a test computed at the table's ends and at what was cut
+pub trimmed-table : (tree : ℕ) (f : Figures) (first last : ℕ) → figuresOf tree ≡ Tree f → T (trimmedTest f first last) → IsTrimmed f first last
+unfolding tried allowed
+trimmed-table tree f first last chosen tested = trimmed-tested f first last (figures-sound tree f chosen) tested
+
+-- f_min at each reading that the table does not hold
 pub floor-pair :
-    (f : Figures) {x : ℕ} {r : Bounds} → (10 * f .tmin < x → 10 * f .tmax ≤ x) →
+    {f : Figures} {first last x : ℕ} {r : Bounds} → IsTrimmed f first last → x ≤ 1100 → (first ≤ x → last < x) →
     (r .lower ≡ f .fmin * 10000000) × (r .upper ≡ f .fmin * 10000000) → r ≡ temperaturePair f x
-floor-pair f {x} outside h = pair-outside f x outside h
+floor-pair {f} {first} {last} {x} trimmed highest outside h = pair-floor f x (trimmed-under f first last trimmed x highest outside) h
 
 pub temperatureOf-is : (choice : Choice) (f : Figures) (x : ℕ) → choice ≡ Tree f → x ≤ 1100 → temperatureOf choice x ≡ temperaturePair f x
 unfolding temperatureOf

@@ -33,37 +33,37 @@ returns-2 : tie.Need-returns-2
 unfolding figuresOf
 returns-2 c =
     let m = c .before in
-    pair-of (m .before .before .args .tree) borealSpruce (rw (m .match .keys1)) (search needs) (c .boreal-spruce-at .ensures)
+    pair-of (m .before .before .args .tree) borealSpruce (rw (m .match .keys1)) (search needs) (c .boreal-spruce-at .ensures .0)
 
 returns-3 : tie.Need-returns-3
 unfolding figuresOf
 returns-3 c =
     let m = c .before in
-    pair-of (m .before .before .args .tree) birch (rw (m .match .keys2)) (search needs) (c .birch-at .ensures)
+    pair-of (m .before .before .args .tree) birch (rw (m .match .keys2)) (search needs) (c .birch-at .ensures .0)
 
 returns-4 : tie.Need-returns-4
 unfolding figuresOf
 returns-4 c =
     let m = c .before in
-    pair-of (m .before .before .args .tree) continentalSpruce (rw (m .match .keys3)) (search needs) (c .continental-spruce-at .ensures)
+    pair-of (m .before .before .args .tree) continentalSpruce (rw (m .match .keys3)) (search needs) (c .continental-spruce-at .ensures .0)
 
 returns-5 : tie.Need-returns-5
 unfolding figuresOf
 returns-5 c =
     let m = c .before in
-    pair-of (m .before .before .args .tree) beech (rw (m .match .keys4)) (search needs) (c .beech-at .ensures)
+    pair-of (m .before .before .args .tree) beech (rw (m .match .keys4)) (search needs) (c .beech-at .ensures .0)
 
 returns-6 : tie.Need-returns-6
 unfolding figuresOf
 returns-6 c =
     let m = c .before in
-    pair-of (m .before .before .args .tree) oak (rw (m .match .keys5)) (search needs) (c .oak-at .ensures)
+    pair-of (m .before .before .args .tree) oak (rw (m .match .keys5)) (search needs) (c .oak-at .ensures .0)
 
 returns-7 : tie.Need-returns-7
 unfolding figuresOf
 returns-7 c =
     let m = c .before in
-    pair-of (m .before .before .args .tree) evergreen (rw (m .match .keys6)) (search needs) (c .evergreen-at .ensures)
+    pair-of (m .before .before .args .tree) evergreen (rw (m .match .keys6)) (search needs) (c .evergreen-at .ensures .0)
 
 returns-8 : tie.Need-returns-8
 unfolding figuresOf temperatureOf

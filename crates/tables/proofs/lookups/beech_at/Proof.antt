@@ -1,25 +1,31 @@
--- `tables::lookups::beech_at` meets its contract: each table passes one computed test. Made by tools/temperature_tables.py.
+-- `tables::lookups::beech_at` meets its contract: each array passes one computed test, and so does what was cut.
+-- Made by tools/temperature_tables.py.
 use mathlib.Core.Path.{refl}
 use native.Mathlib.Omega.{arith}
 use borrow.Author.Needs.{needs}
 use Rattle.trees.specs.Figures.{beech, figuresOf}
 use Rattle.trees.specs.Temperature.{tried, allowed}
-use Rattle.trees.proofs.TemperatureTrees.{floor-pair}
+use Rattle.trees.specs.TemperatureTable.{IsTrimmed}
+use Rattle.trees.proofs.TemperatureTrees.{trimmed-table, floor-pair}
 use Rattle.tables.proofs.EntryLaws.{readable, read-pair}
 use Rattle.tables.proofs.lookups.beech_at.Statement.{statement}
 use Rattle.tables.proofs.lookups.beech_at.Tie as tie
+
+trimmed : IsTrimmed beech 557 803
+unfolding figuresOf tried allowed
+trimmed = trimmed-table 4 beech 557 803 refl tt
 
 floor-of-requires : tie.Need-floor-of-requires
 floor-of-requires c κs = search needs
 
 returns : tie.Need-returns
-returns c = floor-pair beech (λ low. omega arith) (c .floor-of .ensures)
+returns c = (floor-pair trimmed (omega arith) (λ first. omega arith) (c .floor-of .ensures), trimmed)
 
 floor-of-requires-2 : tie.Need-floor-of-requires-2
 floor-of-requires-2 c κs = search needs
 
 returns-2 : tie.Need-returns-2
-returns-2 c = floor-pair beech (λ low. omega arith) (c .floor-of2 .ensures)
+returns-2 c = (floor-pair trimmed (omega arith) (λ first. omega arith) (c .floor-of2 .ensures), trimmed)
 
 slice-aggregate-entry : tie.Need-slice-aggregate-entry
 slice-aggregate-entry c = search needs
@@ -41,15 +47,15 @@ entry-requires-3 c κs = readable tt (omega arith) (omega arith)
 
 returns-3 : tie.Need-returns-3
 unfolding figuresOf tried allowed
-returns-3 c = read-pair 4 beech refl (c .entry .ensures) tt
+returns-3 c = (read-pair 4 beech refl (c .entry .ensures) tt, trimmed)
 
 returns-4 : tie.Need-returns-4
 unfolding figuresOf tried allowed
-returns-4 c = read-pair 4 beech refl (c .entry2 .ensures) tt
+returns-4 c = (read-pair 4 beech refl (c .entry2 .ensures) tt, trimmed)
 
 returns-5 : tie.Need-returns-5
 unfolding figuresOf tried allowed
-returns-5 c = read-pair 4 beech refl (c .entry3 .ensures) tt
+returns-5 c = (read-pair 4 beech refl (c .entry3 .ensures) tt, trimmed)
 
 pub beech-at-spec : {M : Type 1} → statement M
 beech-at-spec =

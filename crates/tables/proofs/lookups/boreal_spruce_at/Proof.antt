@@ -1,19 +1,25 @@
--- `tables::lookups::boreal_spruce_at` meets its contract: each table passes one computed test. Made by tools/temperature_tables.py.
+-- `tables::lookups::boreal_spruce_at` meets its contract: each array passes one computed test, and so does what was cut.
+-- Made by tools/temperature_tables.py.
 use mathlib.Core.Path.{refl}
 use native.Mathlib.Omega.{arith}
 use borrow.Author.Needs.{needs}
 use Rattle.trees.specs.Figures.{borealSpruce, figuresOf}
 use Rattle.trees.specs.Temperature.{tried, allowed}
-use Rattle.trees.proofs.TemperatureTrees.{floor-pair}
+use Rattle.trees.specs.TemperatureTable.{IsTrimmed}
+use Rattle.trees.proofs.TemperatureTrees.{trimmed-table, floor-pair}
 use Rattle.tables.proofs.EntryLaws.{readable, read-pair}
 use Rattle.tables.proofs.lookups.boreal_spruce_at.Statement.{statement}
 use Rattle.tables.proofs.lookups.boreal_spruce_at.Tie as tie
+
+trimmed : IsTrimmed borealSpruce 509 1100
+unfolding figuresOf tried allowed
+trimmed = trimmed-table 1 borealSpruce 509 1100 refl tt
 
 floor-of-requires : tie.Need-floor-of-requires
 floor-of-requires c κs = search needs
 
 returns : tie.Need-returns
-returns c = floor-pair borealSpruce (λ low. omega arith) (c .floor-of .ensures)
+returns c = (floor-pair trimmed (omega arith) (λ first. omega arith) (c .floor-of .ensures), trimmed)
 
 slice-aggregate-entry : tie.Need-slice-aggregate-entry
 slice-aggregate-entry c = search needs
@@ -53,27 +59,27 @@ entry-requires-6 c κs = readable tt (omega arith) (omega arith)
 
 returns-2 : tie.Need-returns-2
 unfolding figuresOf tried allowed
-returns-2 c = read-pair 1 borealSpruce refl (c .entry .ensures) tt
+returns-2 c = (read-pair 1 borealSpruce refl (c .entry .ensures) tt, trimmed)
 
 returns-3 : tie.Need-returns-3
 unfolding figuresOf tried allowed
-returns-3 c = read-pair 1 borealSpruce refl (c .entry2 .ensures) tt
+returns-3 c = (read-pair 1 borealSpruce refl (c .entry2 .ensures) tt, trimmed)
 
 returns-4 : tie.Need-returns-4
 unfolding figuresOf tried allowed
-returns-4 c = read-pair 1 borealSpruce refl (c .entry3 .ensures) tt
+returns-4 c = (read-pair 1 borealSpruce refl (c .entry3 .ensures) tt, trimmed)
 
 returns-5 : tie.Need-returns-5
 unfolding figuresOf tried allowed
-returns-5 c = read-pair 1 borealSpruce refl (c .entry4 .ensures) tt
+returns-5 c = (read-pair 1 borealSpruce refl (c .entry4 .ensures) tt, trimmed)
 
 returns-6 : tie.Need-returns-6
 unfolding figuresOf tried allowed
-returns-6 c = read-pair 1 borealSpruce refl (c .entry5 .ensures) tt
+returns-6 c = (read-pair 1 borealSpruce refl (c .entry5 .ensures) tt, trimmed)
 
 returns-7 : tie.Need-returns-7
 unfolding figuresOf tried allowed
-returns-7 c = read-pair 1 borealSpruce refl (c .entry6 .ensures) tt
+returns-7 c = (read-pair 1 borealSpruce refl (c .entry6 .ensures) tt, trimmed)
 
 pub boreal-spruce-at-spec : {M : Type 1} → statement M
 boreal-spruce-at-spec =
