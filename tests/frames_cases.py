@@ -10,7 +10,7 @@ records on either side of each limit, and round trips.
 from pathlib import Path
 
 CRATE = Path(__file__).resolve().parent.parent / "crates" / "frames_cases"
-PIECE = 65536  # bytes that the program reads
+BUFFER = 2097152  # bytes that the program reads
 
 DIGITS = b"0123456789ABCDEF"
 RAMPS = {1: 20 + 30, 2: 20 + 30, 3: 0, 4: 20 + 20, 5: 15 + 20, 6: 0}  # f1 + f4 of each tree, in days
@@ -334,7 +334,7 @@ def trips():
 def main():
     cases = [*examples(), *frames(), *lengths(), *changes(), *buffers(), *edges(), *trips()]
     commands, answers = (b"".join(text + b"\n" for text in side) for side in zip(*cases))
-    assert len(commands) <= PIECE
+    assert len(commands) <= BUFFER
     (CRATE / "stdin").write_bytes(commands)
     (CRATE / "stdout").write_bytes(answers)
 

@@ -10,14 +10,14 @@ rests on this script.
 from math import gcd
 from pathlib import Path
 
-# number, f_min in percent, Tmin, Topt, Tmax in °C
+# f_min in percent, Tmin, Topt, Tmax in °C
 TREES = {
-    "BorealSpruce": (1, 10, 0, 20, 200),
-    "Birch": (2, 10, 5, 20, 200),
-    "ContinentalSpruce": (3, 16, 0, 14, 35),
-    "Beech": (4, 13, 5, 16, 33),
-    "Oak": (5, 13, 0, 22, 35),
-    "Evergreen": (6, 2, 1, 23, 39),
+    "BorealSpruce": (10, 0, 20, 200),
+    "Birch": (10, 5, 20, 200),
+    "ContinentalSpruce": (16, 0, 14, 35),
+    "Beech": (13, 5, 16, 33),
+    "Oak": (13, 0, 22, 35),
+    "Evergreen": (2, 1, 23, 39),
 }
 HIGHEST = 600  # tenths of °C
 ZERO = 500  # a reading of 0.0 °C: tenths of a degree above -50.0 °C
@@ -41,7 +41,7 @@ def root_down(n: int, q: int) -> int:
     return low
 
 
-def entry(tmin: int, topt: int, tmax: int, tenths: int) -> int:
+def table_entry(tmin: int, topt: int, tmax: int, tenths: int) -> int:
     step = gcd(tmax - topt, topt - tmin)
     p, q = (tmax - topt) // step, (topt - tmin) // step
     numerators = 10 ** (DECIMALS * q) * (tenths - 10 * tmin) ** q * (10 * tmax - tenths) ** p
@@ -51,9 +51,9 @@ def entry(tmin: int, topt: int, tmax: int, tenths: int) -> int:
 
 def table(tree: str) -> dict[int, int]:
     """The entries by their readings, trimmed at both ends."""
-    _, fmin, tmin, topt, tmax = TREES[tree]
+    fmin, tmin, topt, tmax = TREES[tree]
     inside = range(10 * tmin + 1, min(10 * tmax, HIGHEST + 1))
-    entries = {ZERO + tenths: entry(tmin, topt, tmax, tenths) for tenths in inside}
+    entries = {ZERO + tenths: table_entry(tmin, topt, tmax, tenths) for tenths in inside}
     reached = [x for x, t in entries.items() if 100 * t >= fmin * 10**DECIMALS]
     return {x: entries[x] for x in range(min(reached), max(reached) + 1)}
 
@@ -120,7 +120,7 @@ def lookup(tree: str) -> list[str]:
         lines += [
             f"        {k if k + 1 < len(found) else '_'} => {{",
             f"            let t = {tree}::TEMPERATURE_{start};",
-            f"            entry(&t, {start}, fmin, x)",
+            f"            table_entry(&t, {start}, fmin, x)",
             "        },",
         ]
     return lines + ["    }", "}"]
@@ -130,10 +130,10 @@ def lookups() -> list[str]:
     lines = [
         "// Each tree's f_temp at a reading, tenths of a degree above -50.0 °C: f_min outside the tree's table, else out of the part where the reading lies.",
         "// Made by tools/temperature_tables.py.",
-        "use crate::entries::entry;",
         "use crate::entries::floor_of;",
+        "use crate::entries::table_entry;",
         *(f"use crate::values::{tree};" for tree in sorted(TREES)),
-        "use trees::temperature::Bounds;",
+        "use exact::Bounds;",
         "ghost use mathlib.Core.Path.{_≡_};",
         "ghost use Prim.Native.Nat.{_≤_};",
         f"ghost use Rattle.trees.specs.Figures.{{{', '.join(camel(tree) for tree in TREES)}}};",
@@ -154,8 +154,7 @@ def nth(name: str, n: int) -> str:
 
 def needs(tree: str) -> dict[str, str]:
     """Each thing that the function's proof must show, with its proof."""
-    number, figures = TREES[tree][0], camel(tree)
-    count = len(parts(tree))
+    figures, count = camel(tree), len(parts(tree))
     floors = 1 if max(table(tree)) == ZERO + HIGHEST else 2
     out: dict[str, str] = {}
     for n in range(1, floors + 1):
@@ -163,11 +162,11 @@ def needs(tree: str) -> dict[str, str]:
         out[nth("floor-of-requires", n)] = "c κs = search needs"
         out[nth("returns", n)] = f"c = (floor-pair trimmed (omega arith) (λ first. omega arith) (c .{call} .ensures), trimmed)"
     for n in range(1, count + 1):
-        out[nth("slice-aggregate-entry", n)] = "c = search needs"
-        out[nth("entry-requires", n)] = "c κs = readable tt (omega arith) (omega arith)"
+        out[nth("slice-aggregate-table-entry", n)] = "c = search needs"
+        out[nth("table-entry-requires", n)] = "c κs = readable tt (omega arith) (omega arith)"
     for n in range(1, count + 1):
-        call = "entry" if n == 1 else f"entry{n}"
-        out[nth("returns", floors + n)] = f"c = (read-pair {number} {figures} refl (c .{call} .ensures) tt, trimmed)"
+        call = "table-entry" if n == 1 else f"table-entry{n}"
+        out[nth("returns", floors + n)] = f"c = (read-pair {figures}-sound (c .{call} .ensures) tt, trimmed)"
     return out
 
 
@@ -177,25 +176,25 @@ def proof(tree: str) -> list[str]:
     lines = [
         f"-- `tables::lookups::{name}_at` meets its contract: each array passes one computed test, and so does what was cut.",
         "-- Made by tools/temperature_tables.py.",
-        "use mathlib.Core.Path.{refl}",
         "use native.Mathlib.Omega.{arith}",
         "use borrow.Author.Needs.{needs}",
-        f"use Rattle.trees.specs.Figures.{{{figures}, figuresOf}}",
+        f"use Rattle.trees.specs.Figures.{{{figures}}}",
         "use Rattle.trees.specs.Temperature.{tried, allowed}",
         "use Rattle.trees.specs.TemperatureTable.{IsTrimmed}",
-        "use Rattle.trees.proofs.TemperatureTrees.{trimmed-table, floor-pair}",
-        "use Rattle.tables.proofs.EntryLaws.{readable, read-pair}",
+        f"use Rattle.trees.proofs.SoundLaws.{{{figures}-sound}}",
+        "use Rattle.trees.proofs.TemperatureTrim.{trimmed-tested, floor-pair}",
+        "use Rattle.tables.proofs.TableEntryLaws.{readable, read-pair}",
         f"use Rattle.tables.proofs.lookups.{name}_at.Statement.{{statement}}",
         f"use Rattle.tables.proofs.lookups.{name}_at.Tie as tie",
         "",
         f"trimmed : IsTrimmed {figures} {first} {last}",
-        "unfolding figuresOf tried allowed",
-        f"trimmed = trimmed-table {TREES[tree][0]} {figures} {first} {last} refl tt",
+        "unfolding tried allowed",
+        f"trimmed = trimmed-tested {figures} {first} {last} {figures}-sound tt",
         "",
     ]
     for need, body in shown.items():
         lines += [f"{need} : tie.Need-{need}"]
-        lines += ["unfolding figuresOf tried allowed"] if "read-pair" in body else []
+        lines += ["unfolding tried allowed"] if "read-pair" in body else []
         lines += [f"{need} {body}", ""]
     spec = "-".join(words(tree)) + "-at-spec"
     lines += [f"pub {spec} : {{M : Type 1}} → statement M", f"{spec} =", "    tie.close", "    (tie.spec"]

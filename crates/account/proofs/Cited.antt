@@ -4,13 +4,14 @@ use borrow.Fn.World.{ArgsD, ResD}
 use denote.Triple.Clauses.{AtExit}
 use borrow.Fn.Kinds.{endedOf}
 use denote.Ref.{now}
-use Rattle.book.specs.Rules.{Feeds, Reads}
+use Rattle.account_spec.specs.Rules.{Feeds}
+use Rattle.account_spec.specs.Reading.{Reads}
+use Rattle.account_read.proofs.read
+use Rattle.account_read.proofs.read.Kinds as read-kinds
+use Rattle.account_read.proofs.read.Reads as read-reads
 use Rattle.account.proofs.feed
 use Rattle.account.proofs.feed.Kinds as feed-kinds
 use Rattle.account.proofs.feed.Reads as feed-reads
-use Rattle.account.proofs.read
-use Rattle.account.proofs.read.Kinds as read-kinds
-use Rattle.account.proofs.read.Reads as read-reads
 
 module _ (κs : Lfts 1) (a : ArgsD feed.signature κs) (r : ResD feed.signature κs) (s : AtExit (endedOf 1 feed-kinds.ps feed-kinds.r) κs) where
   pub feed-feeds : feed-reads.Post κs a r s → Feeds (a .0) (now (a .1 .0)) r

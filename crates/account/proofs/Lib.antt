@@ -1,2 +1,2 @@
-pub mod EntryLaws
+pub mod AddingLaws
 pub mod Cited

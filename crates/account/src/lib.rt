@@ -1,63 +1,84 @@
 // The season account (document 01, "Account"): a fresh one, feeding it a line, reading it.
-mod entry;
+mod adding;
 mod rows;
 
-pub use book::Account;
-pub use book::Fed;
-pub use book::Phase;
-pub use book::Reading;
-pub use book::Totals;
-pub use book::Verdict;
+pub use account_read::read;
+pub use account_spec::Account;
+pub use account_spec::Fed;
+pub use account_spec::Phase;
+pub use account_spec::Reading;
+pub use account_spec::Season;
+use account_spec::State;
+pub use account_spec::Sums;
+pub use account_spec::Totals;
+pub use account_spec::Verdict;
 use frames::Decoded;
 use frames::Header;
+use frames::Parsed;
 use frames::Refusal;
 ghost use mathlib.Core.Path.{_≡_};
-ghost use Rattle.book.specs.Account.{freshAccount};
-ghost use Rattle.book.specs.Rules.{Feeds, Reads};
-ghost use Rattle.book.specs.Promise.{SeasonPromise};
+ghost use Rattle.records.specs.Answers.{parsedAs};
+ghost use Rattle.account_spec.specs.Account.{freshAccount};
+ghost use Rattle.account_spec.specs.Rules.{stateOf, feedParsedOf, Answers, Feeds};
+ghost use Rattle.account_spec.specs.Promise.{SeasonPromise};
 
-// An account before its season: header fields and figures 0.
+// An account before its season: header fields and sums 0.
 pub fn fresh() -> Account
     ensures { λ r. ⌜ r ≡ freshAccount ⌝ }
     ensures season { λ _. ⌜ SeasonPromise ⌝ }
 {
     Account {
         phase: Phase::Fresh,
-        header: Header {
-            tree: 0,
-            days: 0,
-            first: 0,
-            last: 0,
-            level: 0,
+        season: Season {
+            header: Header {
+                tree: 0,
+                days: 0,
+                first: 0,
+                last: 0,
+                level: 0,
+            },
         },
-        hours: 0,
-        counted: 0,
-        lower: 0,
-        upper: 0,
-        aot40: 0,
+        sums: Sums {
+            hours: 0,
+            counted: 0,
+            lower: 0,
+            upper: 0,
+            aot40: 0,
+        },
     }
+}
+
+fn state_of(account: Account) -> State
+    ensures { λ r. ⌜ r ≡ stateOf account ⌝ }
+{
+    let phase = account.phase;
+    let season = account.season;
+    let sums = account.sums;
+    State {
+        phase: phase,
+        season: season,
+        hours: sums.hours,
+    }
+}
+
+// The next account of one that takes what rows 1 to 3 made of a line: row 13 first, then those rows, then 4 to 11.
+pub fn feed_parsed(account: Account, parsed: Parsed) -> Fed
+    ensures { λ r. ⌜ Answers account (feedParsedOf account (parsedAs parsed)) r ⌝ }
+{
+    if account_read::impossible(account) {
+        return Fed::Refused(Refusal::Account, account);
+    }
+    let decoded = rows::decode(state_of(account), parsed);
+    let Decoded::Read(record) = decoded else {
+        return Fed::Refused(rows::refusal_in(decoded), account);
+    };
+    Fed::Accepted(adding::enter(account, record))
 }
 
 // The next account of one that takes a line: row 13 first, then rows 1 to 11.
 pub fn feed(account: Account, line: &[u8]) -> Fed
     ensures { λ r. ⌜ Feeds account (now (line .entry)) r ⌝ }
 {
-    if possible::impossible(account) {
-        return Fed::Refused(Refusal::Account, account);
-    }
-    let decoded = rows::decode(account, line);
-    let Decoded::Read(record) = decoded else {
-        return Fed::Refused(rows::refusal_in(decoded), account);
-    };
-    Fed::Accepted(entry::enter(account, record))
-}
-
-// The figures that an account carries, and its verdict.
-pub fn read(account: Account) -> Reading
-    ensures { λ r. ⌜ Reads account r ⌝ }
-{
-    if possible::impossible(account) {
-        return Reading::Refused(Refusal::Account);
-    }
-    Reading::Given(figures::totals(account))
+    let parsed = frames::parse(line);
+    feed_parsed(account, parsed)
 }

@@ -1,21 +1,22 @@
-// Rows 1 to 11 for an account's phase, header and hours (document 01, "Turned-back lines").
-use crate::Account;
+// Rows 4 to 11 for a state: phase, season and number of hours accepted so far (document 01, "Turned-back lines").
 use crate::Phase;
+use account_spec::State;
 use frames::Decoded;
-use frames::Header;
 use frames::Parsed;
 use frames::Raw;
 use frames::RawHour;
 use frames::Record;
 use frames::Refusal;
 ghost use mathlib.Core.Path.{_≡_};
-ghost use Rattle.records.specs.Answers.{decodedAs};
-ghost use Rattle.book.specs.Rules.{outOfTurn, isDue, countWrong, dueOf, turnOf, answerOf, refusalIn};
+ghost use Rattle.records.specs.Answers.{onward, parsedAs, decodedAs};
+ghost use Rattle.account_spec.specs.Rules.{outOfTurn, isDue, countWrong, dueOf, turnOf};
+ghost use Rattle.account_spec.specs.Steps.{refusalIn};
 
 // Row 4: second header; hour or end when fresh; any when closed.
-fn out_of_turn(phase: Phase, frame: Raw) -> bool
-    ensures { λ r. ⌜ r ≡ outOfTurn phase frame ⌝ }
+fn out_of_turn(s: State, frame: Raw) -> bool
+    ensures { λ r. ⌜ r ≡ outOfTurn s frame ⌝ }
 {
+    let phase = s.phase;
     match phase {
         Phase::Fresh => match frame {
             Raw::Header(_) => false,
@@ -31,43 +32,49 @@ fn out_of_turn(phase: Phase, frame: Raw) -> bool
     }
 }
 
-// The next hour due after so many.
-fn due(header: Header, hours: u16, raw: RawHour) -> bool
-    ensures { λ r. ⌜ r ≡ isDue header hours raw ⌝ }
+// The next hour due.
+fn due(s: State, raw: RawHour) -> bool
+    ensures { λ r. ⌜ r ≡ isDue s raw ⌝ }
 {
-    if possible::all_given(header, hours) {
+    let season = s.season;
+    let header = season.header;
+    if records::all_given(header, s.hours) {
         return false;
     }
-    if (raw.day as u32) != (header.first as u32) + ((hours / 24) as u32) {
+    if (raw.day as u32) != (header.first as u32) + ((s.hours / 24) as u32) {
         return false;
     }
-    (raw.hour as u16) == hours % 24
+    (raw.hour as u16) == s.hours % 24
 }
 
 // Row 11: count not the hours accepted, or hours still due.
-fn count_wrong(header: Header, hours: u16, count: u16) -> bool
-    ensures { λ r. ⌜ r ≡ countWrong header hours count ⌝ }
+fn count_wrong(s: State, count: u16) -> bool
+    ensures { λ r. ⌜ r ≡ countWrong s count ⌝ }
 {
-    if count != hours {
+    if count != s.hours {
         return true;
     }
-    !possible::all_given(header, hours)
+    let season = s.season;
+    let header = season.header;
+    !records::all_given(header, s.hours)
 }
 
 // Rows 5 to 8 of a header, 9 and 10 of an hour, 11 of an end.
-fn by_kind(header: Header, hours: u16, frame: Raw) -> Decoded
-    ensures { λ r. ⌜ decodedAs r ≡ dueOf header hours frame ⌝ }
+fn by_kind(s: State, frame: Raw) -> Decoded
+    ensures { λ r. ⌜ decodedAs r ≡ dueOf s frame ⌝ }
 {
+    let season = s.season;
+    let header = season.header;
     match frame {
         Raw::Header(_) => frames::record_of(header.tree, frame),
         Raw::Hour(raw) => {
-            if due(header, hours, raw) {
+            if due(s, raw) {
                 return frames::record_of(header.tree, frame);
             }
             Decoded::Refused(Refusal::Due)
         },
         Raw::End(end) => {
-            if count_wrong(header, hours, end.hours) {
+            if count_wrong(s, end.hours) {
                 return Decoded::Refused(Refusal::Count);
             }
             Decoded::Read(Record::End(end))
@@ -76,24 +83,21 @@ fn by_kind(header: Header, hours: u16, frame: Raw) -> Decoded
 }
 
 // Row 4, then those of the frame's kind.
-fn in_turn(a: Account, frame: Raw) -> Decoded
-    ensures { λ r. ⌜ decodedAs r ≡ turnOf (a .phase) (a .header) (a .hours) frame ⌝ }
+fn in_turn(s: State, frame: Raw) -> Decoded
+    ensures { λ r. ⌜ decodedAs r ≡ turnOf s frame ⌝ }
 {
-    let phase = a.phase;
-    let header = a.header;
-    if out_of_turn(phase, frame) {
+    if out_of_turn(s, frame) {
         return Decoded::Refused(Refusal::Turn);
     }
-    by_kind(header, a.hours, frame)
+    by_kind(s, frame)
 }
 
-// The record of a line that the account takes, or the first row that refuses it.
-pub(crate) fn decode(a: Account, line: &[u8]) -> Decoded
-    ensures { λ r. ⌜ decodedAs r ≡ answerOf (a .phase) (a .header) (a .hours) (now (line .entry)) ⌝ }
+// The record of a line that the state takes, or the first row that refuses it.
+pub(crate) fn decode(s: State, parsed: Parsed) -> Decoded
+    ensures { λ r. ⌜ decodedAs r ≡ onward (parsedAs parsed) (turnOf s) ⌝ }
 {
-    let parsed = frames::parse(line);
     match parsed {
-        Parsed::Frame(frame) => in_turn(a, frame),
+        Parsed::Frame(frame) => in_turn(s, frame),
         Parsed::Refused(refusal) => Decoded::Refused(refusal),
     }
 }

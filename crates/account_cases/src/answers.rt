@@ -1,8 +1,8 @@
 // Answers as words.
-use crate::text::print;
-use crate::text::print_next;
 use account::Account;
 use account::Fed;
+use cases::print;
+use cases::print_next;
 use frames::Refusal;
 use frames::Written;
 

@@ -3,10 +3,8 @@
 use crate::answers::print_fed;
 use crate::answers::print_reading;
 use crate::fields::account_of;
-use crate::text::print;
 use account::Account;
-ghost use Prim.Native.Nat.{_≤_};
-ghost use lib.ListN.{length};
+use cases::print;
 
 // The account's reading, and the account.
 fn shown(held: Account) -> Account {
@@ -33,27 +31,12 @@ fn obeyed(held: Account, command: &[u8]) -> Account {
     }
 }
 
-// The bytes before the first line feed, all where there is none.
-fn line_length(s: &[u8]) -> usize
-    ensures { λ r. ⌜ r ≤ length (now (s .entry)) ⌝ }
-{
-    let mut n = 0;
-    while n < s.len() {
-        if s[n] == b'\n' {
-            return n;
-        }
-        n += 1;
+pub(crate) fn run_lines(text: &[u8]) {
+    let mut held = account::fresh();
+    let mut rest = text;
+    while 0 < rest.len() {
+        held = obeyed(held, cases::line(rest));
+        let next = cases::after_line(rest);
+        rest = next;
     }
-    n
-}
-
-pub(crate) fn run_lines(held: Account, text: &[u8]) -> Account {
-    let mut next = held;
-    let mut i = 0;
-    while i < text.len() {
-        let end = i + line_length(&text[i..]);
-        next = obeyed(next, &text[i..end]);
-        i = end + 1;
-    }
-    next
 }

@@ -1,7 +1,7 @@
 // The model's days, computed in hundredths of a day: a tenth of a degree is 15 of them at the start and 20 at the end, a metre 1.
 ghost use Prim.Native.Nat.{_-_};
 ghost use mathlib.Core.Path.{_≡_};
-ghost use Rattle.place.specs.Model.{firstDay, lastDay};
+ghost use Rattle.dates_spec.specs.Model.{firstDay, lastDay};
 
 // a - b, or 0 where b is the greater.
 fn less(a: u32, b: u32) -> u32

@@ -1,16 +1,16 @@
 // Dates from a place (W-202): a header record from tree, year, level, latitude and height, its first and last day by the manual's latitude model.
 mod days;
 
+pub use dates_spec::Placed;
 use days::first_day;
 use days::last_day;
 use frames::Checked;
 use frames::Header;
 use frames::Record;
 use frames::Refusal;
-pub use place::Placed;
 ghost use mathlib.Core.Path.{_≡_};
-ghost use Rattle.place.specs.Rules.{placeOut, placedOf, placedAs};
-ghost use Rattle.place.specs.Promise.{PlacePromise};
+ghost use Rattle.dates_spec.specs.Rules.{placeOut, placedOf, placedAs};
+ghost use Rattle.dates_spec.specs.Promise.{PlacePromise};
 
 // Row 14: latitude (tenths of a degree) or height (metres) outside its range, or a tree without the model.
 fn place_out(tree: u8, latitude: u16, height: u16) -> bool

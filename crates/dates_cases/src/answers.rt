@@ -1,6 +1,6 @@
 // Answers as words: a header's first and last day and its line, or the row that refuses it.
-use crate::text::print;
-use crate::text::print_number;
+use cases::print;
+use cases::print_number;
 use dates::Placed;
 use frames::Header;
 use frames::Record;

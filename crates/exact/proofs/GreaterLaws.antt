@@ -1,9 +1,10 @@
--- The greater of two fractions is above both, below what is above both, and never falls as the second grows.
-use Prim.Native.Nat.{_*_}
+-- The greater of two fractions is above both, below what is above both, and never falls as the second grows; so with two numbers over one scale.
+use Prim.Native.Nat.{ℕ, _*_, max}
 use mathlib.Core.Bool.{Bool, true, false, not, cond}
 use native.Mathlib.Nat.{le-of-lt}
+use native.Mathlib.Omega.{max-cases}
 use lib.Dec.{T, leb, leb→le, nleb→lt}
-use Rattle.exact.specs.Frac.{Frac, _≼_, greater}
+use Rattle.exact.specs.Frac.{Frac, _over_, _≼_, greater}
 use Rattle.exact.proofs.FracLaws.{≼-refl, ≼-trans}
 
 -- whichever is picked, where the test says which is the lesser
@@ -35,3 +36,6 @@ module _ (x y : Frac) where
 
 pub greater-mono : (x : Frac) {y z : Frac} → y ≼ z → greater x y ≼ greater x z
 greater-mono x {y} {z} h = greater-least x y (greater-left x z) (≼-trans h (greater-right x z))
+
+pub max-over-least : (a b m : ℕ) {x : Frac} → a over m ≼ x → b over m ≼ x → max a b over m ≼ x
+max-over-least a b m {x} p q = max-cases a b (max a b over m ≼ x) (λ l e. rw e q) (λ l e. rw e p)

@@ -1,15 +1,9 @@
--- Equal fractions are ordered both ways; 1 divided by a fraction turns the order round and keeps products.
+-- 1 divided by a fraction turns the order round and keeps products.
 use Prim.Native.Nat.{_*_, _≤_, _<_, max}
 use mathlib.Core.Path.{_≡_}
 use native.Mathlib.Nat.{mul-pos, mul-le-mul-left}
 use native.Mathlib.Omega.{arith}
 use Rattle.exact.specs.Frac.{Frac, _⊗_, _≼_, _≈_, inverse}
-
-pub ≈-le : {x y : Frac} → x ≈ y → x ≼ y
-≈-le e = omega (arith, e .cross)
-
-pub ≈-ge : {x y : Frac} → x ≈ y → y ≼ x
-≈-ge e = omega (arith, e .cross)
 
 pub inverse-anti : {x y : Frac} → 0 < x .num → x ≼ y → inverse y ≼ inverse x
 inverse-anti {x} {y} x-pos h =

@@ -1,37 +1,31 @@
 -- `least` passes the test where any number up to its bound does, and nothing smaller passes.
 use mathlib.Core.Path.{_≡_, refl, subst, subst⁻¹}
 use mathlib.Core.Logic.{⊎-elim}
-use mathlib.Core.Bool.{Bool, true, false, not, cond}
+use mathlib.Core.Bool.{Bool, true, false, cond}
 use Prim.Native.Nat.{ℕ, zero, suc, _≤_, zero-le}
 use native.Mathlib.Nat.{eq-or-lt-of-le, le-of-suc-le-suc, le-refl}
 use native.Mathlib.Omega.{arith}
-use lib.Dec.{T, leb, leb→le, le→leb, nleb→lt}
+use lib.Dec.{T, leb, leb→le, le→leb}
 use Rattle.exact.specs.Root.{least}
+use Rattle.exact.proofs.OrderLaws.{le-or-lt}
+use Rattle.exact.proofs.RootLaws.{passes-step}
 
 -- whichever is picked, where the test says whether l passes
 le-step : (b : Bool) (n l : ℕ) → l ≤ n → cond b l (suc n) ≤ suc n
 le-step true n l h = omega arith
 le-step false n l h = omega arith
 
-passes-step : (test : ℕ → Bool) (b : Bool) (l m : ℕ) → b ≡ test l → T (test m) → T (test (cond b l m))
-passes-step test true l m e h = subst T e tt
-passes-step test false l m e h = h
-
 stays : (b : Bool) (l m : ℕ) → T b → cond b l m ≡ l
 stays true l m h = refl
 stays false l m h = absurd h
 
-split : {P : Type 0} (b : Bool) → (T b → P) → (T (not b) → P) → P
-split true h k = h tt
-split false h k = k tt
-
 module _ (test : ℕ → Bool) where
-  pub least-le : (n : ℕ) → least test n ≤ n
+  least-le : (n : ℕ) → least test n ≤ n
   unfolding least
   least-le zero = zero-le
   least-le (suc n) = le-step (test (least test n)) n (least test n) (least-le n)
 
-  pub least-passes : (n t : ℕ) → t ≤ n → T (test t) → T (test (least test n))
+  least-passes : (n t : ℕ) → t ≤ n → T (test t) → T (test (least test n))
   unfolding least
   least-passes zero t h p = let z : t ≡ zero = omega arith in subst (λ (m : ℕ). T (test m)) z p
   least-passes (suc n) t h p =
@@ -53,10 +47,9 @@ module _ (test : ℕ → Bool) where
       (least-first n t (le-of-suc-le-suc l) p))
       (eq-or-lt-of-le h)
 
-  pub least-under : (n t : ℕ) → T (test t) → least test n ≤ t
+  least-under : (n t : ℕ) → T (test t) → least test n ≤ t
   least-under n t p =
-      split (leb t n) (λ h. least-first n t (leb→le t n h) p)
-      (λ h. omega (arith, nleb→lt t n h, least-le n))
+      ⊎-elim (λ h. least-first n t h p) (λ h. omega (arith, h, least-le n)) (le-or-lt t n)
 
 -- what is to reach r passes where r ≤ f t
 module _ (f : ℕ → ℕ) (r n : ℕ) where

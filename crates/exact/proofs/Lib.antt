@@ -1,3 +1,4 @@
+pub mod OrderLaws
 pub mod FracLaws
 pub mod GreaterLaws
 pub mod InverseLaws

@@ -1,9 +1,9 @@
 -- The weighted mean of two factors: where u + v = a + b and p·a = q·b, u^q·v^p is at most a^q·b^p.
 use Prim.Native.Nat.{ℕ, zero, suc, _+_, _-_, _*_, _^_, _≤_, _<_}
-use mathlib.Core.Path.{_≡_, refl, ap, sym, subst}
-use mathlib.Core.Bool.{Bool, true, false, not}
+use mathlib.Core.Path.{_≡_, ap, sym, subst}
+use mathlib.Core.Logic.{⊎-elim}
 use native.Mathlib.Omega.{arith}
-use lib.Dec.{T, leb, leb→le, nleb→lt}
+use Rattle.exact.proofs.OrderLaws.{le-or-lt}
 use Rattle.exact.proofs.PowerLaws.{mul-pow, pow-mul}
 use native.Mathlib.Nat.{
   le-of-mul-le-mul-right,
@@ -75,14 +75,11 @@ above-le a b u v p q p-pos q-pos a-pos ratio sum h =
     (subst (λ (m : ℕ). (a + (u - a)) ^ q * v ^ p ≤ a ^ q * m ^ p) b-is
     (moved-le a (u - a) v (p * a - (u - a)) p q p-pos q-pos a-pos c-is (rw b-is (omega arith))))
 
-either-way : {P : Type 0} (m n : ℕ) (b : Bool) → b ≡ leb m n → (m ≤ n → P) → (n ≤ m → P) → P
-either-way m n true e h k = h (leb→le m n (subst T e tt))
-either-way m n false e h k = k (omega (arith, nleb→lt m n (subst (λ (t : Bool). T (not t)) e tt)))
-
 pub mean-le :
     (a b u v p q : ℕ) → zero < p → zero < q → zero < a → zero < b → p * a ≡ q * b → u + v ≡ a + b → u ^ q * v ^ p ≤ a ^ q * b ^ p
 mean-le a b u v p q p-pos q-pos a-pos b-pos ratio sum =
-    either-way a u (leb a u) refl (above-le a b u v p q p-pos q-pos a-pos ratio sum)
+    ⊎-elim (above-le a b u v p q p-pos q-pos a-pos ratio sum)
     (λ h.
     rw (mul-comm (u ^ q) (v ^ p), mul-comm (a ^ q) (b ^ p))
     (above-le b a v u q p q-pos p-pos b-pos (sym ratio) (omega arith) (omega (arith, h))))
+    (le-or-lt a u)

@@ -8,11 +8,12 @@ use native.Mathlib.Omega.{arith}
 use lib.Dec.{T, leb, leb→le, le→leb}
 use Rattle.exact.specs.Root.{greatest}
 
-passes-step : (test : ℕ → Bool) (b : Bool) (m g : ℕ) → b ≡ test m → T (test g) → T (test (cond b m g))
+-- whichever is picked passes
+pub passes-step : (test : ℕ → Bool) (b : Bool) (m g : ℕ) → b ≡ test m → T (test g) → T (test (cond b m g))
 passes-step test true m g e h = subst T e tt
 passes-step test false m g e h = h
 
-pub greatest-passes : (test : ℕ → Bool) → T (test zero) → (n : ℕ) → T (test (greatest test n))
+greatest-passes : (test : ℕ → Bool) → T (test zero) → (n : ℕ) → T (test (greatest test n))
 unfolding greatest
 greatest-passes test z zero = z
 greatest-passes test z (suc n) = passes-step test (test (suc n)) (suc n) (greatest test n) refl (greatest-passes test z n)
@@ -21,7 +22,7 @@ le-step : (b : Bool) (n g : ℕ) → g ≤ n → cond b (suc n) g ≤ suc n
 le-step true n g h = omega arith
 le-step false n g h = omega arith
 
-pub greatest-le : (test : ℕ → Bool) (n : ℕ) → greatest test n ≤ n
+greatest-le : (test : ℕ → Bool) (n : ℕ) → greatest test n ≤ n
 unfolding greatest
 greatest-le test zero = zero-le
 greatest-le test (suc n) = le-step (test (suc n)) n (greatest test n) (greatest-le test n)
@@ -33,7 +34,7 @@ above-step test n t g true e fails l le p = omega arith
 above-step test n t g false e fails l le p =
     ⊎-elim (λ s. subst⁻¹ T e (subst (λ (m : ℕ). T (test m)) s p)) (λ s. fails l (le-of-suc-le-suc s) p) (eq-or-lt-of-le le)
 
-pub greatest-above : (test : ℕ → Bool) (n t : ℕ) → greatest test n < t → t ≤ n → T (test t) → ⊥
+greatest-above : (test : ℕ → Bool) (n t : ℕ) → greatest test n < t → t ≤ n → T (test t) → ⊥
 unfolding greatest
 greatest-above test zero t l b p = omega arith
 greatest-above test (suc n) t l b p =

@@ -1,108 +1,134 @@
--- Fractions up to 1 stay so in products, and a whole number times a fraction, rounded down or up, encloses the product and stays close to it.
+-- Rounded up is the least whole number not below, rounded down the greatest not above; a number times a fraction, so rounded, encloses the product
+-- and stays close to it.
 use Prim.Native.Nat.{ℕ, _+_, _-_, _*_, _/_, _≤_, _<_, max}
-use mathlib.Core.Path.{_≡_, refl, ap, subst}
-use mathlib.Core.Bool.{Bool, true, false}
-use native.Mathlib.Nat.{mul-le-mul-left, mul-le-mul-right, div-mul-le-self, lt-div-mul-add, lt-of-mul-lt-mul-right, le-of-mul-le-mul-right, div-le-of-le-mul}
+use mathlib.Core.Path.{_≡_, ap}
+use native.Mathlib.Nat.{
+  le-refl,
+  le-trans,
+  one-mul,
+  mul-le-mul-left,
+  mul-le-mul-right,
+  mul-pos,
+  div-mul-le-self,
+  lt-div-mul-add,
+  lt-of-mul-lt-mul-right,
+}
 use native.Mathlib.Omega.{arith}
-use borrow.Author.Tests.{leb-true, leb-false}
-use lib.Dec.{leb}
-use Rattle.exact.specs.Frac.{Frac, natural, _over_, _⊗_, _≼_}
-use Rattle.exact.proofs.FracLaws.{≼-refl, ≼-trans, ⊗-mono}
+use Rattle.exact.specs.Frac.{Frac, natural, _over_, _⊕_, _⊗_, _≼_}
+use Rattle.exact.specs.Rounding.{roundUp, roundDown, IsCeiling, IsFloor, timesUp, timesDown}
+use Rattle.exact.proofs.FracLaws.{≼-trans, ⊗-mono}
 
-pub ⊗-comm : (x y : Frac) → x ⊗ y ≼ y ⊗ x
-⊗-comm x y = record { cross = omega arith }
+module _ (x : Frac) where
+  roundUp-ge : x .num ≤ roundUp x * x .den
+  unfolding roundUp
+  roundUp-ge = omega (arith, x .positive, lt-div-mul-add {a = x .num + (x .den - 1)} (x .positive))
 
-pub ⊗-le-one : {x y : Frac} → x ≼ natural 1 → y ≼ natural 1 → x ⊗ y ≼ natural 1
-⊗-le-one p q = ≼-trans (⊗-mono p q) (record { cross = omega arith })
+  roundUp-lt : roundUp x * x .den < x .num + x .den
+  unfolding roundUp
+  roundUp-lt = omega (arith, x .positive, div-mul-le-self (x .num + (x .den - 1)) (x .den))
 
--- ---- numbers over one scale
+  roundDown-le : roundDown x * x .den ≤ x .num
+  unfolding roundDown
+  roundDown-le = div-mul-le-self (x .num) (x .den)
 
-pub over-mono : {a b : ℕ} (m : ℕ) → a ≤ b → a over m ≼ b over m
-over-mono m h = record { cross = mul-le-mul-right (max 1 m) h }
+  roundDown-gt : x .num < roundDown x * x .den + x .den
+  unfolding roundDown
+  roundDown-gt = lt-div-mul-add {a = x .num} (x .positive)
 
-max-case : (P : ℕ → Type 0) (a b : ℕ) (t : Bool) → leb a b ≡ t → P a → P b → P (max a b)
-max-case P a b true e p q = let l = leb-true a b e in subst P (omega arith) q
-max-case P a b false e p q = let l = leb-false a b e in subst P (omega arith) p
+  pub roundUp-ceiling : IsCeiling x (roundUp x)
+  roundUp-ceiling = record {
+    notBelow = record { cross = omega (arith, roundUp-ge) };
+    least = λ m h.
+        let less : roundUp x < m + 1 = lt-of-mul-lt-mul-right (x .den) (omega (arith, h .cross, roundUp-lt)) in
+        omega arith;
+  }
 
-pub max-over-least : (a b m : ℕ) {x : Frac} → a over m ≼ x → b over m ≼ x → max a b over m ≼ x
-max-over-least a b m {x} p q = max-case (λ n. n over m ≼ x) a b (leb a b) refl p q
+  pub roundDown-floor : IsFloor x (roundDown x)
+  roundDown-floor = record {
+    notAbove = record { cross = omega (arith, roundDown-le) };
+    greatest = λ m h.
+        let less : m < roundDown x + 1 = lt-of-mul-lt-mul-right (x .den) (omega (arith, h .cross, roundDown-gt)) in
+        omega arith;
+  }
 
--- ---- a quotient rounded up
+-- ---- a fraction rounded down and one rounded up
 
-module _ (a d : ℕ) (pos : 0 < d) where
-  up-ge : a ≤ (a + (d - 1)) / d * d
-  up-ge = omega (arith, lt-div-mul-add {a = a + (d - 1)} pos)
+module _ (x y : Frac) where
+  round-order : x ≼ y → roundDown x ≤ roundUp y
+  round-order h =
+      let l = ≼-trans (roundDown-floor x .notAbove) (≼-trans h (roundUp-ceiling y .notBelow)) in
+      omega (arith, l .cross)
 
-  up-lt : (a + (d - 1)) / d * d < a + d
-  up-lt = omega (arith, div-mul-le-self (a + (d - 1)) d)
+  round-gap : (c : ℕ) → y ≼ x ⊕ natural c → roundUp y ≤ roundDown x + (c + 1)
+  round-gap c h =
+      let less : roundUp y < roundDown x + (c + 2) =
+      lt-of-mul-lt-mul-right (x .den * y .den)
+      (omega (arith, h .cross, mul-le-mul-right (x .den) (roundUp-lt y), mul-le-mul-right (y .den) (roundDown-gt x), mul-pos (x .positive) (y .positive))) in
+      omega arith
+
+-- two numbers over one divisor
+module _ (l u d : ℕ) where
+  pub over-order : l ≤ u → roundDown (l over d) ≤ roundUp (u over d)
+  over-order h = round-order (l over d) (u over d) (record { cross = mul-le-mul-right (max 1 d) h })
+
+  pub over-gap : (c : ℕ) → u ≤ l + c * max 1 d → roundUp (u over d) ≤ roundDown (l over d) + (c + 1)
+  over-gap c h = round-gap (l over d) (u over d) c (record { cross = omega (arith, mul-le-mul-right (max 1 d) h) })
 
 -- ---- a number of a scale times a fraction
 
-module _ (n m : ℕ) (x : Frac) where
-  pub down-le : (n * x .num / x .den) over m ≼ n over m ⊗ x
-  down-le = record { cross = omega (arith, mul-le-mul-right (max 1 m) (div-mul-le-self (n * x .num) (x .den))) }
+module _ (n : ℕ) (x : Frac) where
+  pub timesDown-is : timesDown n x ≡ n * x .num / x .den
+  unfolding timesDown roundDown
+  timesDown-is = rw (one-mul (x .den))
 
-  pub up-above : n over m ⊗ x ≼ ((n * x .num + (x .den - 1)) / x .den) over m
-  up-above = record { cross = omega (arith, mul-le-mul-right (max 1 m) (up-ge (n * x .num) (x .den) (x .positive))) }
+  pub timesUp-is : timesUp n x ≡ (n * x .num + (x .den - 1)) / x .den
+  unfolding timesUp roundUp
+  timesUp-is = rw (one-mul (x .den))
 
-module _ (n m : ℕ) (x : Frac) {y : Frac} where
-  pub times-down : n over m ≼ y → (n * x .num / x .den) over m ≼ y ⊗ x
-  times-down h = ≼-trans (down-le n m x) (⊗-mono h (≼-refl x))
+module _ (n m : ℕ) (x : Frac) {y z : Frac} where
+  pub times-down : n over m ≼ y → x ≼ z → timesDown n x over m ≼ y ⊗ z
+  unfolding timesDown
+  times-down h k = ≼-trans {y = n over m ⊗ x} (record { cross = omega (arith, mul-le-mul-right (max 1 m) (roundDown-le (natural n ⊗ x))) }) (⊗-mono h k)
 
-  pub times-up : y ≼ n over m → y ⊗ x ≼ ((n * x .num + (x .den - 1)) / x .den) over m
-  times-up h = ≼-trans (⊗-mono h (≼-refl x)) (up-above n m x)
+  pub times-up : y ≼ n over m → z ≼ x → y ⊗ z ≼ timesUp n x over m
+  unfolding timesUp
+  times-up h k = ≼-trans {y = n over m ⊗ x} (⊗-mono h k) (record { cross = omega (arith, mul-le-mul-right (max 1 m) (roundUp-ge (natural n ⊗ x))) })
+
+module _ (l u : ℕ) (x : Frac) where
+  pub times-order : l ≤ u → timesDown l x ≤ timesUp u x
+  unfolding timesDown timesUp
+  times-order h = round-order (natural l ⊗ x) (natural u ⊗ x) (record { cross = omega (arith, mul-le-mul-right (x .num * x .den) h) })
+
+  pub times-gap : (c : ℕ) → x ≼ natural 1 → u ≤ l + c → timesUp u x ≤ timesDown l x + (c + 1)
+  unfolding timesDown timesUp
+  times-gap c below h =
+      round-gap (natural l ⊗ x) (natural u ⊗ x) c
+      (record { cross = omega (arith, mul-le-mul-right (x .num * x .den) h, mul-le-mul-left (c * x .den) (below .cross)) })
+
+module _ (n : ℕ) {x : Frac} (below : x ≼ natural 1) where
+  pub timesUp-le : timesUp n x ≤ n
+  unfolding timesUp
+  timesUp-le = roundUp-ceiling (natural n ⊗ x) .least n (record { cross = omega (arith, mul-le-mul-left n (below .cross)) })
+
+  pub timesDown-le : timesDown n x ≤ n
+  timesDown-le = le-trans (times-order n n x (le-refl n)) timesUp-le
+
+-- all of a scale: below one more
+pub timesDown-next : (m : ℕ) (x : Frac) → 0 < m → x ≼ (timesDown m x + 1) over m
+unfolding timesDown
+timesDown-next m x pos =
+    let is : max 1 m ≡ m = omega arith in
+    record { cross = rw is (omega (arith, roundDown-gt (natural m ⊗ x))) }
 
 -- ---- the product of two numbers of scales s and t, in the scale r
 
-module _ (a b s t r e : ℕ) where
-  pub product-down : max 1 s * max 1 t ≡ e * max 1 r → (a * b / e) over r ≼ a over s ⊗ b over t
-  product-down h =
-      record {
-        cross = omega (
-          arith,
-          ap (λ (c : ℕ). a * b / e * c) h,
-          mul-le-mul-right (max 1 r) (div-mul-le-self (a * b) e),
-        );
-      }
+module _ (a b s t r e : ℕ) (scales : max 1 s * max 1 t ≡ max 1 e * max 1 r) where
+  pub product-down : roundDown ((a * b) over e) over r ≼ a over s ⊗ b over t
+  product-down =
+      let q = roundDown ((a * b) over e) in
+      record { cross = omega (arith, ap (λ (c : ℕ). q * c) scales, mul-le-mul-right (max 1 r) (roundDown-le ((a * b) over e))) }
 
-  pub product-up : 0 < e → max 1 s * max 1 t ≡ e * max 1 r → a over s ⊗ b over t ≼ ((a * b + (e - 1)) / e) over r
-  product-up p h =
-      record {
-        cross = omega (
-          arith,
-          ap (λ (c : ℕ). (a * b + (e - 1)) / e * c) h,
-          mul-le-mul-right (max 1 r) (up-ge (a * b) e p),
-        );
-      }
-
--- ---- what rounding costs
-
--- l/d rounded down and u/d rounded up
-module _ (l u d : ℕ) (pos : 0 < d) where
-  pub quotient-gap : (c : ℕ) → u ≤ l + c * d → (u + (d - 1)) / d ≤ l / d + (c + 1)
-  quotient-gap c h =
-      let less : (u + (d - 1)) / d < l / d + (c + 2) =
-      lt-of-mul-lt-mul-right d (omega (arith, up-lt u d pos, lt-div-mul-add {a = l} pos)) in
-      omega arith
-
-  pub quotient-order : l ≤ u → l / d ≤ (u + (d - 1)) / d
-  quotient-order h = le-of-mul-le-mul-right {k = d} (omega (arith, up-ge u d pos, div-mul-le-self l d)) pos
-
-module _ (l u : ℕ) (x : Frac) where
-  pub times-order : l ≤ u → l * x .num / x .den ≤ (u * x .num + (x .den - 1)) / x .den
-  times-order h = quotient-order (l * x .num) (u * x .num) (x .den) (x .positive) (mul-le-mul-right (x .num) h)
-
-  pub times-gap : (c : ℕ) → x ≼ natural 1 → u ≤ l + c → (u * x .num + (x .den - 1)) / x .den ≤ l * x .num / x .den + (c + 1)
-  times-gap c below h =
-      quotient-gap (l * x .num) (u * x .num) (x .den) (x .positive) c
-      (omega (arith, mul-le-mul-right (x .num) h, mul-le-mul-left c (below .cross)))
-
-module _ (n : ℕ) {x : Frac} (below : x ≼ natural 1) where
-  pub times-down-le : n * x .num / x .den ≤ n
-  times-down-le = div-le-of-le-mul (x .den) (omega (arith, mul-le-mul-left n (below .cross)))
-
-  pub times-up-le : (n * x .num + (x .den - 1)) / x .den ≤ n
-  times-up-le =
-      let less : (n * x .num + (x .den - 1)) / x .den < n + 1 =
-      lt-of-mul-lt-mul-right (x .den) (omega (arith, up-lt (n * x .num) (x .den) (x .positive), mul-le-mul-left n (below .cross))) in
-      omega arith
+  pub product-up : a over s ⊗ b over t ≼ roundUp ((a * b) over e) over r
+  product-up =
+      let q = roundUp ((a * b) over e) in
+      record { cross = omega (arith, ap (λ (c : ℕ). q * c) scales, mul-le-mul-right (max 1 r) (roundUp-ge ((a * b) over e))) }

@@ -7,8 +7,10 @@ use native.Mathlib.Omega.{arith}
 use mathlib.Core.Bool.{Bool}
 use lib.Dec.{T, leb, leb→le}
 use Rattle.exact.specs.Frac.{_over_, _≼_}
+use Rattle.exact.specs.Rounding.{timesDown}
 use Rattle.exact.specs.Series.{seriesAt, decayAt}
 use Rattle.exact.proofs.FracLaws.{over-le}
+use Rattle.exact.proofs.RoundingLaws.{timesDown-is}
 use Rattle.exact.proofs.SeriesCommon.{commonDen, commonNum, commonDen-pos, series-common, series-pos}
 use Rattle.exact.proofs.SeriesSums.{common-mono}
 
@@ -16,11 +18,11 @@ same-quotient : (t N D P Q : ℕ) → 0 < Q → 0 < D → N * Q ≡ P * D → t 
 same-quotient t N D P Q Q-pos D-pos e =
     sym (mul-div-mul-right (t * D) N Q-pos) ∙ ap₂ (λ (a b : ℕ). a / b) (omega arith) e ∙ mul-div-mul-right (t * Q) P D-pos
 
-pub decayAt-down : (t k n d : ℕ) → 0 < d → t * decayAt k n d .num / decayAt k n d .den ≡ t * commonDen k d / commonNum k n d
+pub decayAt-down : (t k n d : ℕ) → 0 < d → timesDown t (decayAt k n d) ≡ t * commonDen k d / commonNum k n d
 unfolding decayAt
 decayAt-down t k n d d-pos =
     let den-is : max 1 (seriesAt k n d .num) ≡ seriesAt k n d .num = omega (arith, series-pos d d-pos k n) in
-    rw den-is
+    rw (timesDown-is t (decayAt k n d), den-is)
     (same-quotient t (seriesAt k n d .num) (seriesAt k n d .den) (commonNum k n d) (commonDen k d)
     (commonDen-pos d d-pos k) (seriesAt k n d .positive) (series-common d d-pos k n .cross))
 

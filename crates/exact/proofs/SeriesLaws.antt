@@ -4,8 +4,8 @@ use native.Mathlib.Nat.{mul-pos, le-refl, mul-le-mul-left}
 use native.Mathlib.Omega.{arith}
 use Rattle.exact.specs.Frac.{natural, _⊗_, _≼_}
 use Rattle.exact.specs.Series.{seriesAt, decayAt}
-use Rattle.exact.proofs.FracLaws.{≼-trans, ⊗-mono}
-use Rattle.exact.proofs.InverseLaws.{≈-le, ≈-ge, inverse-anti, inverse-⊗}
+use Rattle.exact.proofs.FracLaws.{≼-trans, ≈-le, ≈-ge, ⊗-mono}
+use Rattle.exact.proofs.InverseLaws.{inverse-anti, inverse-⊗}
 use Rattle.exact.proofs.SeriesCommon.{commonDen, common, series-common, series-pos}
 use Rattle.exact.proofs.SeriesSums.{common-sum-le, common-sum-ge, common-mono}
 
@@ -13,17 +13,17 @@ module _ (d : ℕ) (d-pos : 0 < d) where
   by-common : (k j n m : ℕ) → common d d-pos k n ≼ common d d-pos j m → seriesAt k n d ≼ seriesAt j m d
   by-common k j n m h = ≼-trans (≈-le (series-common d d-pos k n)) (≼-trans h (≈-ge (series-common d d-pos j m)))
 
-  pub series-mono : {j k : ℕ} (n : ℕ) → j ≤ k → seriesAt j n d ≼ seriesAt k n d
+  series-mono : {j k : ℕ} (n : ℕ) → j ≤ k → seriesAt j n d ≼ seriesAt k n d
   series-mono {j} {k} n h = by-common j k n n (record { cross = common-mono n d j k h })
 
-  pub series-sum-le : (k x y : ℕ) → seriesAt k (x + y) d ≼ seriesAt k x d ⊗ seriesAt k y d
+  series-sum-le : (k x y : ℕ) → seriesAt k (x + y) d ≼ seriesAt k x d ⊗ seriesAt k y d
   series-sum-le k x y =
       ≼-trans (≈-le (series-common d d-pos k (x + y)))
       (≼-trans {y = common d d-pos k x ⊗ common d d-pos k y}
       (omega (arith, mul-le-mul-left (commonDen k d) (common-sum-le d d-pos x y k)))
       (⊗-mono (≈-ge (series-common d d-pos k x)) (≈-ge (series-common d d-pos k y))))
 
-  pub series-sum-ge : (j k x y : ℕ) → seriesAt j x d ⊗ seriesAt k y d ≼ seriesAt (j + k) (x + y) d
+  series-sum-ge : (j k x y : ℕ) → seriesAt j x d ⊗ seriesAt k y d ≼ seriesAt (j + k) (x + y) d
   series-sum-ge j k x y =
       ≼-trans (⊗-mono (≈-le (series-common d d-pos j x)) (≈-le (series-common d d-pos k y)))
       (≼-trans {y = common d d-pos (j + k) (x + y)}

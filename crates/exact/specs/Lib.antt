@@ -1,3 +1,4 @@
 pub mod Frac
+pub mod Rounding
 pub mod Root
 pub mod Series

@@ -1,6 +1,7 @@
--- The greatest number, up to a bound, that passes a test: what a root rounded down is, whatever the root.
-use Prim.Native.Nat.{ℕ, zero, suc}
+-- The greatest number, up to a bound, that passes a test: what a root rounded down is, whatever the root. The least: a root rounded up.
+use Prim.Native.Nat.{ℕ, zero, suc, _*_}
 use mathlib.Core.Bool.{Bool, cond}
+use lib.Dec.{leb}
 
 -- 0 where none passes; a meaning, never run
 unfoldable pub greatest : (ℕ → Bool) → ℕ → ℕ
@@ -11,3 +12,7 @@ greatest passes (suc n) = cond (passes (suc n)) (suc n) (greatest passes n)
 unfoldable pub least : (ℕ → Bool) → ℕ → ℕ
 least passes zero = zero
 least passes (suc n) = cond (passes (least passes n)) (least passes n) (suc n)
+
+-- √n, rounded down: no t above n has t² ≤ n
+unfoldable pub squareRoot : ℕ → ℕ
+squareRoot n = greatest (λ t. leb (t * t) n) n

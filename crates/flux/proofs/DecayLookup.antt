@@ -3,8 +3,8 @@ use mathlib.Core.Path.{_≡_}
 use Prim.Native.Nat.{ℕ, _*_, _/_, _%_, _^_, _≤_, _<_}
 use native.Mathlib.Nat.{mul-le-mul}
 use native.Mathlib.Omega.{arith}
-use Rattle.doses.specs.Light.{decayEntry, decayLow}
-use Rattle.doses.proofs.DecayLaws.{decayEntry-le}
+use Rattle.flux_spec.specs.Light.{decayEntry, decayLow}
+use Rattle.flux_spec.proofs.DecayLaws.{decayEntry-le}
 
 found-le : (n a : ℕ) → a ≡ decayEntry n → a ≤ 10 ^ 9
 found-le n a e = rw e (decayEntry-le n)

@@ -3,8 +3,9 @@ use Prim.Native.Nat.{ℕ}
 use mathlib.Core.Path.{_≡_}
 use Rattle.trees.specs.declared.Figures.{Figures}
 use Rattle.trees.specs.declared.Choice.{Choice}
-use Rattle.doses.specs.Pair.{lowerOf, upperOf}
-use Rattle.doses.specs.HourDose.{hourDoseOf}
+use Rattle.exact.specs.declared.Bounds.{Bounds}
+use Rattle.flux_spec.specs.Pair.{hourPair}
+use Rattle.flux_spec.specs.HourDose.{standOf, hourDoseOf}
 use Rattle.records.specs.declared.Hour.{Hour}
 use Rattle.records.specs.declared.Record.{Record}
 use Rattle.records.specs.Answers.{accepted, refused}
@@ -22,7 +23,7 @@ module _ (choice : Choice) (first last : ℕ) (h : Hour) where
   refused-is f row e r = rw (e, r)
 
   pub accepted-is :
-      (f : Figures) (lower upper : ℕ) → choice ≡ Choice.Tree f → checked (Record.Hour h) ≡ accepted tt →
-      lower ≡ lowerOf f first last h → upper ≡ upperOf f first last h → accepted (lower, upper) ≡ hourDoseOf choice first last h
+      (f : Figures) (pair : Bounds) → choice ≡ Choice.Tree f → checked (Record.Hour h) ≡ accepted tt →
+      pair ≡ hourPair (standOf f first last) h → accepted pair ≡ hourDoseOf choice first last h
   unfolding hourDoseOf
-  accepted-is f lower upper e a l u = rw (e, a, l, u)
+  accepted-is f pair e a p = rw (e, a, p)

@@ -1,4 +1,4 @@
 pub mod NumberLaws
-pub mod ReadingLaws
+pub mod ScaleLaws
 pub mod DecayLookup
 pub mod HourDoseLaws

@@ -13,13 +13,16 @@ use Rattle.trees.specs.Deficit.{deficitOf}
 use Rattle.trees.specs.SoilWater.{soilWaterOf}
 use Rattle.trees.proofs.FactorLaws.{deficit-limits, soilWater-limits, phenology-limits}
 use Rattle.trees.proofs.TermLaws.{Small, deficit-small, soilWater-small, phenology-small}
-use Rattle.flux.specs.Factor.{Factor}
-use Rattle.doses.specs.Light.{lightLow, lightUp}
-use Rattle.doses.specs.Conductance.{aboveOf}
-use Rattle.doses.specs.Pair.{openingLow, openingUp, shareLow, shareUp}
+use Rattle.flux.specs.Steps.{Factor}
+use Rattle.flux_spec.specs.declared.Stand.{Stand}
+use Rattle.flux_spec.specs.Light.{lightLow, lightUp}
+use Rattle.flux_spec.specs.Deficit.{deficitLow, deficitUp}
+use Rattle.flux_spec.specs.Conductance.{aboveOf, phenologyIn}
+use Rattle.flux_spec.specs.Pair.{openingLow, openingUp, shareLow, shareUp}
 use Rattle.exact.specs.declared.Fraction.{Fraction}
 use Rattle.exact.specs.Frac.{Frac, Is, natural, _≼_}
-use Rattle.exact.proofs.RoundingLaws.{times-down-le, times-up-le}
+use Rattle.exact.specs.Rounding.{roundUp, roundDown, timesUp, timesDown}
+use Rattle.exact.proofs.RoundingLaws.{timesDown-is, timesUp-is, timesDown-le, timesUp-le}
 use Rattle.records.specs.declared.Hour.{Hour}
 use Rattle.frames.specs.Layout.{soilNumber}
 
@@ -33,10 +36,10 @@ module _ (n : ℕ) (x : Fraction) (factor : Factor x) where
   value-le = record { cross = omega (arith, factor .below) }
 
   pub down-le : n * x .num / x .den ≤ n
-  down-le = times-down-le n {x = value} value-le
+  down-le = rw (timesDown-is n value) at (timesDown-le n {x = value} value-le)
 
   pub up-le : (n * x .num + (x .den - 1)) / x .den ≤ n
-  up-le = times-up-le n {x = value} value-le
+  up-le = rw (timesUp-is n value) at (timesUp-le n {x = value} value-le)
 
   module _ (small : n ≤ 10 ^ 9 + 1) where
     product-le : n * x .num ≤ (10 ^ 9 + 1) * 10 ^ 6
@@ -74,33 +77,40 @@ module _ (f : Figures) (s : Sound f) {r : Fraction} where
 
 -- ---- the pairs
 
+module _ (n : ℕ) {r : Fraction} {x : Frac} (i : Is r x) where
+  down-is : n * r .num / r .den ≡ timesDown n x
+  down-is = rw (timesDown-is n x, i .num, i .den)
+
+  up-is : (n * r .num + (r .den - 1)) / r .den ≡ timesUp n x
+  up-is = rw (timesUp-is n x, i .num, i .den)
+
 module _ (f : Figures) (h : Hour) {vpd sw : Fraction} where
   module _ (v : Is vpd (deficitOf f (h .vpd))) (w : Is sw (soilWaterOf f (soilNumber (h .soil)))) where
     pub openingLow-is :
         {t : ℕ} → t ≡ temperaturePair f (aboveOf (h .temperature)) .lower →
         max (f .fmin * 10 ^ 7) (t * vpd .num / vpd .den * sw .num / sw .den) ≡ openingLow f h
-    unfolding openingLow
-    openingLow-is e = rw (e, v .num, v .den, w .num, w .den)
+    unfolding openingLow deficitLow
+    openingLow-is {t} e = rw (down-is t v, down-is _ w, e)
 
     pub openingUp-is :
         {t : ℕ} → t ≡ temperaturePair f (aboveOf (h .temperature)) .upper →
         max (f .fmin * 10 ^ 7) (((t * vpd .num + (vpd .den - 1)) / vpd .den * sw .num + (sw .den - 1)) / sw .den) ≡ openingUp f h
-    unfolding openingUp
-    openingUp-is e = rw (e, v .num, v .den, w .num, w .den)
+    unfolding openingUp deficitUp
+    openingUp-is {t} e = rw (up-is t v, up-is _ w, e)
 
-module _ (f : Figures) (first last : ℕ) (h : Hour) {phen : Fraction} {light opening : ℕ} where
-  module _ (p : Is phen (phenologyOf f first last (h .day) (aboveOf (h .temperature)))) where
+module _ (stand : Stand) (h : Hour) {phen : Fraction} {light opening : ℕ} where
+  module _ (p : Is phen (phenologyIn stand h)) where
     pub shareLow-is :
-        light ≡ lightLow f (h .ppfd) → opening ≡ openingLow f h →
-        light * phen .num / phen .den * opening / 10 ^ 11 ≡ shareLow f first last h
-    unfolding shareLow
-    shareLow-is l o = rw (l, o, p .num, p .den)
+        light ≡ lightLow (stand .figures) (h .ppfd) → opening ≡ openingLow (stand .figures) h →
+        light * phen .num / phen .den * opening / 10 ^ 11 ≡ shareLow stand h
+    unfolding shareLow roundDown
+    shareLow-is l o = rw (down-is light p, l, o)
 
     pub shareUp-is :
-        light ≡ lightUp f (h .ppfd) → opening ≡ openingUp f h →
-        ((light * phen .num + (phen .den - 1)) / phen .den * opening + (10 ^ 11 - 1)) / 10 ^ 11 ≡ shareUp f first last h
-    unfolding shareUp
-    shareUp-is l o = rw (l, o, p .num, p .den)
+        light ≡ lightUp (stand .figures) (h .ppfd) → opening ≡ openingUp (stand .figures) h →
+        ((light * phen .num + (phen .den - 1)) / phen .den * opening + (10 ^ 11 - 1)) / 10 ^ 11 ≡ shareUp stand h
+    unfolding shareUp roundUp
+    shareUp-is l o = rw (up-is light p, l, o)
 
 -- ---- times 1
 

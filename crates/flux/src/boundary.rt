@@ -1,15 +1,14 @@
 // √(leaf/wind), for Rb (document 01, "Factors").
 ghost use mathlib.Core.Path.{_≡_};
 ghost use Prim.Native.Nat.{_+_, _*_, _≤_, _<_};
-ghost use lib.Dec.{leb};
-ghost use Rattle.exact.specs.Root.{greatest};
-ghost use Rattle.doses.specs.BoundaryLayer.{windRead};
-ghost use Rattle.doses.specs.Pair.{rootLow};
+ghost use Rattle.exact.specs.Root.{squareRoot};
+ghost use Rattle.flux_spec.specs.BoundaryLayer.{windRead};
+ghost use Rattle.flux_spec.specs.Pair.{rootLow};
 
 // √n, rounded down: it lies from r to below r + gap, and each turn halves the gap.
 fn halving(n: u64) -> u64
     requires { ⌜ n < 1125899906842624 ⌝ }
-    ensures { λ r. ⌜ r ≡ greatest (λ t. leb (t * t) n) n ⌝ }
+    ensures { λ r. ⌜ r ≡ squareRoot n ⌝ }
 {
     let mut r: u64 = 0;
     let mut gap: u64 = if n < 1099511627776 { 1048576 } else { 33554432 };
@@ -44,7 +43,7 @@ fn nearer(n: u64, r: u64) -> u64 {
 fn under(n: u64, r: u64) -> u64
     requires small { ⌜ (n < 1125899906842624) × (r ≤ 33554431) ⌝ }
     requires next { ⌜ n < (r + 1) * (r + 1) ⌝ }
-    ensures { λ q. ⌜ q ≡ greatest (λ t. leb (t * t) n) n ⌝ }
+    ensures { λ q. ⌜ q ≡ squareRoot n ⌝ }
 {
     if n < r * r {
         return halving(n);
@@ -55,7 +54,7 @@ fn under(n: u64, r: u64) -> u64
 // r or the one before it where that is √n, rounded down: Newton's steps come from above.
 fn tested(n: u64, r: u64) -> u64
     requires { ⌜ n < 1125899906842624 ⌝ }
-    ensures { λ q. ⌜ q ≡ greatest (λ t. leb (t * t) n) n ⌝ }
+    ensures { λ q. ⌜ q ≡ squareRoot n ⌝ }
 {
     if 33554431 < r {
         return halving(n);
@@ -72,7 +71,7 @@ fn tested(n: u64, r: u64) -> u64
 // √n, rounded down: two steps reach it nearly always.
 fn root(n: u64) -> u64
     requires { ⌜ n < 1125899906842624 ⌝ }
-    ensures { λ r. ⌜ r ≡ greatest (λ t. leb (t * t) n) n ⌝ }
+    ensures { λ r. ⌜ r ≡ squareRoot n ⌝ }
 {
     let r = nearer(n, nearer(n, guess(n)));
     tested(n, r)

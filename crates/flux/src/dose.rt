@@ -1,7 +1,7 @@
 // An hour's dose from its share and its root (document 01, "Factors").
 ghost use mathlib.Core.Path.{_≡_};
 ghost use Prim.Native.Nat.{_≤_};
-ghost use Rattle.doses.specs.Pair.{quotient};
+ghost use Rattle.flux_spec.specs.Pair.{quotient};
 
 // 3600·F, rounded down, at a share p/10⁷ and a root s/10⁷; `more` is 1 where the divisor is rounded up.
 pub(crate) fn quotient(gmax: u64, ozone: u64, p: u64, s: u64, more: u64) -> u64

@@ -1,57 +1,72 @@
-// One hour's dose, step by step: the opening, the share of the maximal conductance, the pair.
+// One hour's dose, step by step: f_temp, the opening, the share of the maximal conductance, the pair.
 use crate::boundary;
 use crate::dose;
 use crate::light;
-use crate::reading;
+use crate::scale;
 use crate::share;
+use exact::Bounds;
+use flux_spec::Stand;
 use frames::Hour;
 use trees::Figures;
-use trees::temperature::Bounds;
 ghost use mathlib.Core.Path.{_≡_};
 ghost use Prim.Native.Nat.{_+_, _-_, _≤_};
 ghost use Rattle.trees.specs.Sound.{Sound};
+ghost use Rattle.trees.specs.Steps.{Tabled};
 ghost use Rattle.trees.specs.Temperature.{temperaturePair};
-ghost use Rattle.doses.specs.Conductance.{aboveOf};
-ghost use Rattle.doses.specs.Pair.{openingLow, openingUp, shareLow, shareUp, rootLow, quotient, lowerOf, upperOf};
-ghost use Rattle.doses.specs.Enclosure.{Limited};
+ghost use Rattle.flux_spec.specs.Conductance.{aboveOf};
+ghost use Rattle.flux_spec.specs.Pair.{openingLow, openingUp, shareLow, shareUp, rootLow, quotient, hourPair};
+ghost use Rattle.flux_spec.specs.Enclosure.{Limited};
 ghost use Rattle.records.specs.Answers.{accepted};
 ghost use Rattle.records.specs.Ranges.{checked};
 ghost use Rattle.records.specs.declared.Record.{Record};
 
-// A quantity lies from low to up.
-pub(crate) struct Span {
-    pub low: u64,
-    pub up: u64,
+// f_temp, in units of 10⁻⁹.
+fn temperature(f: Figures, h: Hour) -> Bounds
+    requires tabled { ⌜ Tabled f ⌝ }
+    requires highest { ⌜ aboveOf (h .temperature) ≤ 1100 ⌝ }
+    ensures { λ r. ⌜ r ≡ temperaturePair f (aboveOf (h .temperature)) ⌝ }
+{
+    let curve = f.curve;
+    tables::f_temp(curve, scale::above(h.temperature))
 }
 
-pub(crate) fn opening(f: Figures, t: Bounds, h: Hour) -> Span
+// max(f_min, f_temp·f_VPD·f_SW), in units of 10⁻⁹.
+fn opening(f: Figures, t: Bounds, h: Hour) -> Bounds
     requires sound { ⌜ Sound f ⌝ }
     requires temperature { ⌜ t ≡ temperaturePair f (aboveOf (h .temperature)) ⌝ }
-    ensures low { λ r. ⌜ r .low ≡ openingLow f h ⌝ }
-    ensures up { λ r. ⌜ r .up ≡ openingUp f h ⌝ }
+    ensures lower { λ r. ⌜ r .lower ≡ openingLow f h ⌝ }
+    ensures upper { λ r. ⌜ r .upper ≡ openingUp f h ⌝ }
 {
     let vpd = trees::factors::f_vpd(f, h.vpd);
     let soil = h.soil;
-    let sw = trees::factors::f_sw(f, reading::soil_number(soil));
-    Span {
-        low: share::opening_low(f.fmin, t.lower as u64, vpd, sw),
-        up: share::opening_up(f.fmin, t.upper as u64, vpd, sw),
+    let sw = trees::factors::f_sw(f, scale::soil_number(soil));
+    Bounds {
+        lower: share::opening_low(f.fmin, t.lower, vpd, sw),
+        upper: share::opening_up(f.fmin, t.upper, vpd, sw),
     }
 }
 
-pub(crate) fn shares(f: Figures, o: Span, first: u16, last: u16, h: Hour) -> Span
-    requires sound { ⌜ Sound f ⌝ }
+// f_phen × f_light × the opening, in units of 10⁻⁷.
+fn shares(stand: Stand, o: Bounds, h: Hour) -> Bounds
+    requires sound { ⌜ Sound (stand .figures) ⌝ }
     requires bright { ⌜ h .ppfd ≤ 3000 ⌝ }
-    requires low { ⌜ o .low ≡ openingLow f h ⌝ }
-    requires up { ⌜ o .up ≡ openingUp f h ⌝ }
-    ensures low { λ r. ⌜ r .low ≡ shareLow f first last h ⌝ }
-    ensures up { λ r. ⌜ r .up ≡ shareUp f first last h ⌝ }
+    requires lower { ⌜ o .lower ≡ openingLow (stand .figures) h ⌝ }
+    requires upper { ⌜ o .upper ≡ openingUp (stand .figures) h ⌝ }
+    ensures lower { λ r. ⌜ r .lower ≡ shareLow stand h ⌝ }
+    ensures upper { λ r. ⌜ r .upper ≡ shareUp stand h ⌝ }
 {
-    let phen = trees::phen::f_phen(f, first, last, h.day, reading::above(h.temperature));
+    let f = stand.figures;
+    let phen = trees::phen::f_phen(
+        f,
+        stand.first,
+        stand.last,
+        h.day,
+        scale::above(h.temperature),
+    );
     let l = light::factor(f.lighta, h.ppfd);
-    Span {
-        low: share::share_low(l.lower as u64, phen, o.low),
-        up: share::share_up(l.upper as u64, phen, o.up),
+    Bounds {
+        lower: share::share_low(l.lower, phen, o.lower),
+        upper: share::share_up(l.upper, phen, o.upper),
     }
 }
 
@@ -62,33 +77,34 @@ fn less(n: u64, m: u64) -> u64
     if m < n { n - m } else { 0 }
 }
 
-pub(crate) fn pair(gmax: u16, leaf: u16, s: Span, ozone: u16, wind: u16) -> Span
+// The pair from the share's, in nmol m⁻².
+fn pair(gmax: u16, leaf: u16, s: Bounds, ozone: u16, wind: u16) -> Bounds
     requires gmax { ⌜ gmax ≤ 500 ⌝ }
     requires leaf { ⌜ leaf ≤ 200 ⌝ }
     requires ozone { ⌜ ozone ≤ 5000 ⌝ }
-    requires low { ⌜ s .low ≤ 10000003 ⌝ }
-    requires up { ⌜ s .up ≤ 10000003 ⌝ }
-    ensures low { λ r. ⌜ r .low ≡ quotient gmax ozone (s .low) (rootLow leaf wind + 1) 1 - 3600 ⌝ }
-    ensures up { λ r. ⌜ r .up ≡ quotient gmax ozone (s .up) (rootLow leaf wind) 0 - 3599 ⌝ }
+    requires lower { ⌜ s .lower ≤ 10000003 ⌝ }
+    requires upper { ⌜ s .upper ≤ 10000003 ⌝ }
+    ensures lower { λ r. ⌜ r .lower ≡ quotient gmax ozone (s .lower) (rootLow leaf wind + 1) 1 - 3600 ⌝ }
+    ensures upper { λ r. ⌜ r .upper ≡ quotient gmax ozone (s .upper) (rootLow leaf wind) 0 - 3599 ⌝ }
 {
     let g = gmax as u64;
     let c = ozone as u64;
     let r = boundary::root_low(leaf, wind);
-    Span {
-        low: less(dose::quotient(g, c, s.low, r + 1, 1), 3600),
-        up: less(dose::quotient(g, c, s.up, r, 0), 3599),
+    Bounds {
+        lower: less(dose::quotient(g, c, s.lower, r + 1, 1), 3600),
+        upper: less(dose::quotient(g, c, s.upper, r, 0), 3599),
     }
 }
 
 // The pair of an hour that row 10 lets pass.
-pub(crate) fn dosed(f: Figures, t: Bounds, first: u16, last: u16, h: Hour) -> Span
-    requires limited { ⌜ Limited f ⌝ }
+pub(crate) fn dosed(stand: Stand, h: Hour) -> Bounds
+    requires limited { ⌜ Limited (stand .figures) ⌝ }
+    requires tabled { ⌜ Tabled (stand .figures) ⌝ }
     requires checked { ⌜ checked (Record.Hour h) ≡ accepted tt ⌝ }
-    requires temperature { ⌜ t ≡ temperaturePair f (aboveOf (h .temperature)) ⌝ }
-    ensures low { λ r. ⌜ r .low ≡ lowerOf f first last h ⌝ }
-    ensures up { λ r. ⌜ r .up ≡ upperOf f first last h ⌝ }
+    ensures { λ r. ⌜ r ≡ hourPair stand h ⌝ }
 {
-    let o = opening(f, t, h);
-    let s = shares(f, o, first, last, h);
+    let f = stand.figures;
+    let o = opening(f, temperature(f, h), h);
+    let s = shares(stand, o, h);
     pair(f.gmax, f.leaf, s, h.ozone, h.wind)
 }

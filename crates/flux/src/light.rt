@@ -2,11 +2,11 @@
 use crate::decay::HUNDREDS;
 use crate::decay::MYRIADS;
 use crate::decay::ONES;
-use trees::temperature::Bounds;
+use exact::Bounds;
 ghost use mathlib.Core.Path.{_≡_};
 ghost use Prim.Native.Nat.{_*_, _/_, _%_, _≤_, _<_};
-ghost use Rattle.doses.specs.Light.{decayEntry, decayLow, lightLowOf, lightUpOf};
-ghost use Rattle.doses.specs.DecayTable.{IsTable};
+ghost use Rattle.flux_spec.specs.Light.{decayEntry, decayLow, lightLowOf, lightUpOf};
+ghost use Rattle.flux_spec.specs.Steps.{IsDecayTable};
 
 // 1 in units of 10⁻⁹.
 const ONE: u64 = 1000000000;
@@ -15,8 +15,8 @@ const ONE: u64 = 1000000000;
 const SLACK: u64 = 7;
 
 // exp(-m/10000) for m = n's digit at a place of base 100, times that place.
-fn entry(table: &[u32], place: usize, n: usize) -> u64
-    requires table { ⌜ IsTable place (now table) ⌝ }
+fn decay_entry(table: &[u32], place: usize, n: usize) -> u64
+    requires table { ⌜ IsDecayTable place (now table) ⌝ }
     requires place { ⌜ 0 < place ⌝ }
     ensures { λ r. ⌜ r ≡ decayEntry (place * (n / place % 100)) ⌝ }
 {
@@ -34,11 +34,11 @@ pub(crate) fn decay(n: u32) -> u64
 {
     let m = n as usize;
     let ones = ONES;
-    let a = entry(&ones, 1, m);
+    let a = decay_entry(&ones, 1, m);
     let hundreds = HUNDREDS;
-    let b = entry(&hundreds, 100, m);
+    let b = decay_entry(&hundreds, 100, m);
     let myriads = MYRIADS;
-    let c = entry(&myriads, 10000, m);
+    let c = decay_entry(&myriads, 10000, m);
     a * b / ONE * c / ONE
 }
 
@@ -52,8 +52,5 @@ pub(crate) fn factor(lighta: u16, ppfd: u16) -> Bounds
     let e = decay((lighta as u32) * (ppfd as u32));
     let upper = ONE - e;
     let lower = if SLACK < upper { upper - SLACK } else { 0 };
-    Bounds {
-        lower: lower as u32,
-        upper: upper as u32,
-    }
+    Bounds { lower, upper }
 }

@@ -2,7 +2,7 @@
 use exact::Fraction;
 ghost use mathlib.Core.Path.{_≡_};
 ghost use Prim.Native.Nat.{_+_, _-_, _*_, _/_, _^_, _≤_, max};
-ghost use Rattle.flux.specs.Factor.{Factor};
+ghost use Rattle.flux.specs.Steps.{Factor};
 
 // A number times a factor, rounded down.
 fn times_down(n: u64, x: Fraction) -> u64

@@ -1,6 +1,6 @@
 // Answers as words.
-use crate::text::print;
-use crate::text::print_number;
+use cases::print;
+use cases::print_number;
 use flux::Dosed;
 use frames::Refusal;
 
@@ -16,10 +16,10 @@ pub(crate) fn print_refusal(refusal: Refusal) {
 // What an hour's dose answers.
 pub(crate) fn print_dosed(dosed: Dosed) {
     match dosed {
-        Dosed::Pair { lower, upper } => {
-            print_number(lower);
+        Dosed::Pair(pair) => {
+            print_number(pair.lower);
             print(b" ");
-            print_number(upper);
+            print_number(pair.upper);
         }
         Dosed::Refused(refusal) => print_refusal(refusal),
     }

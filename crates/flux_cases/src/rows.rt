@@ -1,7 +1,7 @@
-// Rows of a header line, a space, an hour line and a line feed, 58 bytes each; the answer for each row on a line of its own.
+// Rows of a header line, a space and an hour line, 57 bytes each; the answer for each row on a line of its own.
 use crate::answers::print_dosed;
 use crate::answers::print_refusal;
-use crate::text::print;
+use cases::print;
 use frames::Decoded;
 use frames::Header;
 use frames::Record;
@@ -30,7 +30,7 @@ fn print_season(record: Record, line: &[u8]) {
 
 // The answer for one row: the first refusal of its two lines, or the hour's pair.
 fn print_row(row: &[u8]) {
-    if row.len() != 58 {
+    if row.len() != 57 {
         return;
     }
     let decoded = frames::read_frame(0, &row[0..20]);
@@ -42,9 +42,10 @@ fn print_row(row: &[u8]) {
 }
 
 pub(crate) fn print_rows(text: &[u8]) {
-    let mut i = 0;
-    while text.len() - i >= 58 {
-        print_row(&text[i..i + 58]);
-        i += 58;
+    let mut rest = text;
+    while 0 < rest.len() {
+        print_row(cases::line(rest));
+        let next = cases::after_line(rest);
+        rest = next;
     }
 }

@@ -2,51 +2,48 @@
 use Prim.Native.Nat.{ℕ, zero, suc, _+_, _-_, _*_, _/_, _%_, _≤_, _<_}
 use mathlib.Core.Path.{_≡_, refl, sym, _∙_}
 use mathlib.Core.Bool.{Bool, true, false, true≢false, _&&_}
-use mathlib.Core.Logic.{_⊎_, inl, inr, ⊎-elim}
+use mathlib.Core.Logic.{⊎-elim}
 use mathlib.Core.List.{List, [], _∷_}
-use native.Mathlib.Decide.{decLe}
 use native.Mathlib.Numerals.{add-one}
 use native.Mathlib.Omega.{arith}
 use borrow.Author.Tests.{le-leb, lt-leb}
 use lib.ListN.{length, getD, drop}
 use lib.Seq.{drop-cons}
+use Rattle.exact.proofs.OrderLaws.{le-or-lt}
 use Rattle.frames.specs.Digits.{isDigit, valueOf, allDigits}
 use Rattle.records.proofs.AnswerLaws.{and-both}
 
 -- where a byte lies: a decimal digit, a letter, or one of the three gaps
-pub data Place (c : ℕ) : Type 0 where
-  decimal : 48 ≤ c → c ≤ 57 → Place c
-  letter : 65 ≤ c → c ≤ 70 → Place c
-  under : c < 48 → Place c
-  between : 57 < c → c < 65 → Place c
-  over : 70 < c → Place c
+pub data DigitCase (c : ℕ) : Type 0 where
+  decimal : 48 ≤ c → c ≤ 57 → DigitCase c
+  letter : 65 ≤ c → c ≤ 70 → DigitCase c
+  under : c < 48 → DigitCase c
+  between : 57 < c → c < 65 → DigitCase c
+  over : 70 < c → DigitCase c
 
-pub le-or-lt : (m n : ℕ) → (m ≤ n) ⊎ (n < m)
-le-or-lt m n = elim (decLe m n) [ yes p ↦ inl p | no q ↦ inr (omega arith) ]
-
-pub place : (c : ℕ) → Place c
-place c =
+pub digit-cases : (c : ℕ) → DigitCase c
+digit-cases c =
     ⊎-elim
     (λ p. ⊎-elim (λ q. decimal p q) (λ q. ⊎-elim (λ r. ⊎-elim (λ s. letter r s) over (le-or-lt c 70)) (λ r. between q r) (le-or-lt 65 c)) (le-or-lt c 57))
     under
     (le-or-lt 48 c)
 
 -- what a byte says, by where it lies
-abbrev pub said : (c : ℕ) → Place c → ℕ
-said c (decimal p q) = c - 48
-said c (letter p q) = c - 55
-said c (under p) = 0
-said c (between p q) = 0
-said c (over p) = 0
+abbrev pub valueIn : (c : ℕ) → DigitCase c → ℕ
+valueIn c (decimal p q) = c - 48
+valueIn c (letter p q) = c - 55
+valueIn c (under p) = 0
+valueIn c (between p q) = 0
+valueIn c (over p) = 0
 
-abbrev pub isOne : (c : ℕ) → Place c → Bool
-isOne c (decimal p q) = true
-isOne c (letter p q) = true
-isOne c (under p) = false
-isOne c (between p q) = false
-isOne c (over p) = false
+abbrev pub isDigitIn : (c : ℕ) → DigitCase c → Bool
+isDigitIn c (decimal p q) = true
+isDigitIn c (letter p q) = true
+isDigitIn c (under p) = false
+isDigitIn c (between p q) = false
+isDigitIn c (over p) = false
 
-pub value-is : (c : ℕ) (at : Place c) → said c at ≡ valueOf c
+pub value-is : (c : ℕ) (at : DigitCase c) → valueIn c at ≡ valueOf c
 unfolding valueOf
 value-is c (decimal p q) = simp (le-leb 48 c p, le-leb c 57 q)
 value-is c (letter p q) = simp (le-leb 48 c (omega arith), lt-leb c 57 (omega arith), le-leb 65 c p, le-leb c 70 q)
@@ -54,7 +51,7 @@ value-is c (under p) = simp (lt-leb 48 c p, lt-leb 65 c (omega arith))
 value-is c (between p q) = simp (le-leb 48 c (omega arith), lt-leb c 57 p, lt-leb 65 c q)
 value-is c (over p) = simp (le-leb 48 c (omega arith), lt-leb c 57 (omega arith), le-leb 65 c (omega arith), lt-leb c 70 p)
 
-pub digit-is : (c : ℕ) (at : Place c) → isOne c at ≡ isDigit c
+pub digit-is : (c : ℕ) (at : DigitCase c) → isDigitIn c at ≡ isDigit c
 unfolding isDigit
 digit-is c (decimal p q) = simp (le-leb 48 c p, le-leb c 57 q)
 digit-is c (letter p q) = simp (le-leb 48 c (omega arith), lt-leb c 57 (omega arith), le-leb 65 c p, le-leb c 70 q)
@@ -62,26 +59,26 @@ digit-is c (under p) = simp (lt-leb 48 c p, lt-leb 65 c (omega arith))
 digit-is c (between p q) = simp (le-leb 48 c (omega arith), lt-leb c 57 p, lt-leb 65 c q)
 digit-is c (over p) = simp (le-leb 48 c (omega arith), lt-leb c 57 (omega arith), le-leb 65 c (omega arith), lt-leb c 70 p)
 
-said-lt : (c : ℕ) (at : Place c) → said c at < 16
-said-lt c (decimal p q) = omega arith
-said-lt c (letter p q) = omega arith
-said-lt c (under p) = omega arith
-said-lt c (between p q) = omega arith
-said-lt c (over p) = omega arith
+case-lt : (c : ℕ) (at : DigitCase c) → valueIn c at < 16
+case-lt c (decimal p q) = omega arith
+case-lt c (letter p q) = omega arith
+case-lt c (under p) = omega arith
+case-lt c (between p q) = omega arith
+case-lt c (over p) = omega arith
 
 pub value-lt : (c : ℕ) → valueOf c < 16
-value-lt c = rw (value-is c (place c)) at (said-lt c (place c))
+value-lt c = rw (value-is c (digit-cases c)) at (case-lt c (digit-cases c))
 
 -- a digit's value by its bits: the low four, and 9 more from 64 on
-said-bits : (c : ℕ) (at : Place c) → isOne c at ≡ true → c % 16 + 9 * (c / 64) ≡ said c at
-said-bits c (decimal p q) e = omega arith
-said-bits c (letter p q) e = omega arith
-said-bits c (under p) e = absurd (true≢false (sym e))
-said-bits c (between p q) e = absurd (true≢false (sym e))
-said-bits c (over p) e = absurd (true≢false (sym e))
+case-bits : (c : ℕ) (at : DigitCase c) → isDigitIn c at ≡ true → c % 16 + 9 * (c / 64) ≡ valueIn c at
+case-bits c (decimal p q) e = omega arith
+case-bits c (letter p q) e = omega arith
+case-bits c (under p) e = absurd (true≢false (sym e))
+case-bits c (between p q) e = absurd (true≢false (sym e))
+case-bits c (over p) e = absurd (true≢false (sym e))
 
 pub value-bits : (c : ℕ) → isDigit c ≡ true → c % 16 + 9 * (c / 64) ≡ valueOf c
-value-bits c e = said-bits c (place c) (digit-is c (place c) ∙ e) ∙ value-is c (place c)
+value-bits c e = case-bits c (digit-cases c) (digit-is c (digit-cases c) ∙ e) ∙ value-is c (digit-cases c)
 
 -- ---- a line of digits, from a place on
 

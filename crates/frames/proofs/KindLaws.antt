@@ -1,17 +1,20 @@
--- The table of kinds: a walk of it finds a length or has passed it, and the kind of a line tells its length.
-use Prim.Native.Nat.{ℕ, zero, suc, _+_, _≤_, _<_}
-use mathlib.Core.Path.{_≡_, refl, sym, _∙_}
-use mathlib.Core.Bool.{true, false, _||_, or-false}
+-- The table of kinds: a walk of its lengths finds one or has passed it, every length is within the longest, and a number with a length is a kind's.
+use Prim.Native.Nat.{ℕ, zero, suc, _+_, max, _≤_, _<_}
+use mathlib.Core.Path.{_≡_, refl, sym}
+use mathlib.Core.Bool.{Bool, true, false, false≢true, _||_}
 use mathlib.Core.Logic.{⊎-elim}
-use mathlib.Core.List.{List, []}
+use mathlib.Core.List.{List, [], _∷_, map, foldr}
 use native.Mathlib.Numerals.{add-one}
 use native.Mathlib.Omega.{arith}
 use borrow.Author.Tests.{eq-eqb, ne-eqb, eqb-true}
 use lib.Dec.{eqb}
-use lib.ListN.{length, getD, drop}
+use lib.ListN.{length, getD, drop, List·getD-eq-default}
 use lib.Seq.{drop-cons}
-use Rattle.frames.specs.Kinds.{among, isLength, lengthOf}
+use Rattle.frames.specs.Kinds.{Width, one, kinds, widthsOf, sizeOf, digitsIn, lengths, longest, among, isLength, lengthOf}
+use Rattle.exact.proofs.OrderLaws.{le-or-lt}
 use Rattle.records.proofs.AnswerLaws.{or-either}
+
+-- ---- a walk of a list
 
 module _ (ms : List ℕ) (i n : ℕ) (h : i < length ms) where
   among-step : among (drop i ms) n ≡ (eqb (getD ms i 0) n || among (drop (i + 1) ms) n)
@@ -28,38 +31,69 @@ pub among-none : (n : ℕ) → among [] n ≡ false
 unfolding among
 among-none n = refl
 
--- a line of some kind has 6 to 36 digits
-length-within : (n : ℕ) → isLength n ≡ true → (6 ≤ n) × (n ≤ 36)
+-- ---- the lengths of lines
+
+among-le : (ms : List ℕ) (n : ℕ) → among ms n ≡ true → n ≤ foldr max 0 ms
 unfolding among
-length-within n e =
-    ⊎-elim (λ p. let q = eqb-true 20 n p in (omega arith, omega arith))
-    (λ q. ⊎-elim (λ p. let r = eqb-true 36 n p in (omega arith, omega arith)) (λ r. let s = eqb-true 6 n (sym (or-false (eqb 6 n)) ∙ r) in (omega arith, omega arith)) (or-either (eqb 36 n) (eqb 6 n || false) q))
-    (or-either (eqb 20 n) (eqb 36 n || (eqb 6 n || false)) e)
+among-le [] n e = absurd (false≢true e)
+among-le (m ∷ ms) n e =
+    ⊎-elim (λ p. omega (arith, eqb-true m n p)) (λ q. omega (arith, among-le ms n q)) (or-either (eqb m n) (among ms n) e)
 
-pub length-enough : (n : ℕ) → isLength n ≡ true → 6 ≤ n
-length-enough n e = length-within n e .0
+-- each has the digits of its kind
+among-ge : (table : List (List Width)) (n : ℕ) → among (map digitsIn table) n ≡ true → sizeOf one ≤ n
+unfolding among
+among-ge [] n e = absurd (false≢true e)
+among-ge (ws ∷ table) n e =
+    ⊎-elim (λ p. omega (arith, eqb-true (digitsIn ws) n p)) (λ q. among-ge table n q) (or-either (eqb (digitsIn ws) n) (among (map digitsIn table) n) e)
 
-pub length-most : (n : ℕ) → isLength n ≡ true → n ≤ 36
-length-most n e = length-within n e .1
+pub length-le : (n : ℕ) → isLength n ≡ true → n ≤ longest
+length-le n e = among-le lengths n e
 
--- the three kinds, b with lines of n digits
-pub data KindCase (b n : ℕ) : Type 0 where
-  header : b ≡ 1 → n ≡ 20 → KindCase b n
-  hour : b ≡ 2 → n ≡ 36 → KindCase b n
-  end : b ≡ 3 → n ≡ 6 → KindCase b n
+pub length-ge : (n : ℕ) → isLength n ≡ true → sizeOf one ≤ n
+length-ge n e = among-ge kinds n e
 
-pub kind-cases : (b n : ℕ) → 6 ≤ n → lengthOf b ≡ n → KindCase b n
+-- no line is longer than the longest
+pub length-none : (n : ℕ) → longest < n → isLength n ≡ false
+length-none n h = go (isLength n) refl
+  where
+    go : (t : Bool) → isLength n ≡ t → isLength n ≡ false
+    go true e = absurd (omega (arith, length-le n e))
+    go false e = e
+
+-- ---- the numbers of kinds
+
+-- no kind has the number 0, nor one past the table
+pub kind-none : (b : ℕ) → (0 < b → length kinds < b) → 0 ≡ lengthOf b
 unfolding lengthOf
-kind-cases zero n h e = absurd (omega arith)
-kind-cases (suc zero) n h e = header refl (sym e)
-kind-cases (suc (suc zero)) n h e = hour refl (sym e)
-kind-cases (suc (suc (suc zero))) n h e = end refl (sym e)
-kind-cases (suc (suc (suc (suc b)))) n h e = absurd (omega arith)
+kind-none zero h = refl
+kind-none (suc b) h = sym (List·getD-eq-default lengths 0 {n = b} (omega (arith, h (omega arith))))
 
-pub no-kind : (b : ℕ) → (b ≡ 1 → ⊥) → (b ≡ 2 → ⊥) → (b ≡ 3 → ⊥) → 0 ≡ lengthOf b
+pub kind-within : (b : ℕ) → 0 < lengthOf b → (1 ≤ b) × (b ≤ length kinds)
+kind-within b h =
+    ⊎-elim
+    (λ p. ⊎-elim (λ q. (p, q)) (λ q. absurd (omega (arith, kind-none b (λ r. q)))) (le-or-lt b (length kinds)))
+    (λ p. absurd (omega (arith, kind-none b (λ r. absurd (omega arith)))))
+    (le-or-lt 1 b)
+
+length-at : (table : List (List Width)) (i : ℕ) → i < length table → getD (map digitsIn table) i 0 ≡ digitsIn (getD table i [])
+length-at [] i h = absurd (omega arith)
+length-at (ws ∷ table) zero h = refl
+length-at (ws ∷ table) (suc i) h = length-at table i (omega arith)
+
+pub length-is : (b : ℕ) → (1 ≤ b) × (b ≤ length kinds) → lengthOf b ≡ digitsIn (widthsOf b)
 unfolding lengthOf
-no-kind zero one two three = refl
-no-kind (suc zero) one two three = absurd (one refl)
-no-kind (suc (suc zero)) one two three = absurd (two refl)
-no-kind (suc (suc (suc zero))) one two three = absurd (three refl)
-no-kind (suc (suc (suc (suc b)))) one two three = refl
+length-is zero h = absurd (omega arith)
+length-is (suc b) h = length-at kinds b (omega arith)
+
+-- the kinds, by their numbers
+pub data KindCase (b : ℕ) : Type 0 where
+  header : b ≡ 1 → KindCase b
+  hour : b ≡ 2 → KindCase b
+  end : b ≡ 3 → KindCase b
+
+pub kind-cases : (b : ℕ) → (1 ≤ b) × (b ≤ length kinds) → KindCase b
+kind-cases zero h = absurd (omega arith)
+kind-cases (suc zero) h = header refl
+kind-cases (suc (suc zero)) h = hour refl
+kind-cases (suc (suc (suc zero))) h = end refl
+kind-cases (suc (suc (suc (suc b)))) h = absurd (omega arith)

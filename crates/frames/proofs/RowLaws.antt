@@ -11,7 +11,7 @@ use Rattle.frames.specs.Digits.{within, allDigits, byteAt}
 use Rattle.frames.specs.Kinds.{among, isLength, lengthOf}
 use Rattle.records.specs.Temperature.{temperatureOut}
 use Rattle.records.specs.Ranges.{isOutside, periodOut, soilOut, checked}
-use Rattle.frames.specs.Frames.{parsedOf, soundOf, recordOf, readOf}
+use Rattle.frames.specs.Frames.{parsedOf, soundOf, recordOf, readFrameOf}
 use Rattle.frames.specs.Rows.{oneOf, ReaderRows}
 use Rattle.records.specs.declared.Raw.{Raw}
 use Rattle.records.specs.declared.Record.{Record}
@@ -92,8 +92,8 @@ record-only tree (Raw.Header h) = sound-only (Record.Header h)
 record-only tree (Raw.Hour raw) = row-only (isOutside 1 6 tree) _ _ _ refl (sound-only _)
 record-only tree (Raw.End e) = sound-only (Record.End e)
 
-pub read-only : (tree : ℕ) (l : List ℕ) → Only readRows (readOf tree l)
-unfolding readOf
+pub read-only : (tree : ℕ) (l : List ℕ) → Only readRows (readFrameOf tree l)
+unfolding readFrameOf
 read-only tree l = onward-only (parsedOf l) (recordOf tree) (parsed-only l) (record-only tree)
 
 pub reader-rows : ReaderRows

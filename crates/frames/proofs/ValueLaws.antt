@@ -1,6 +1,6 @@
 -- The values of a line's characters, read one after the other.
-use Prim.Native.Nat.{ℕ, _+_, _≤_, _<_}
-use mathlib.Core.Path.{_≡_, refl, sym, _∙_}
+use Prim.Native.Nat.{ℕ, _+_, _<_}
+use mathlib.Core.Path.{_≡_, refl, _∙_}
 use mathlib.Core.Bool.{true}
 use mathlib.Core.Logic.{⊎-elim}
 use mathlib.Core.List.{List}
@@ -8,8 +8,10 @@ use native.Mathlib.Omega.{arith}
 use lib.ListN.{length, getD, set, length-set, replicate, getD-replicate, length-replicate, List·getD-eq-default}
 use lib.Seq.{getD-set-same, getD-set-other}
 use Rattle.frames.specs.Digits.{isDigit, valueOf, allDigits}
-use Rattle.frames.specs.Values.{bitsOf, Values, Says}
-use Rattle.frames.proofs.DigitLaws.{le-or-lt, value-lt, value-bits, digit-at}
+use Rattle.frames.specs.Kinds.{longest}
+use Rattle.frames.specs.Steps.{bitsOf, Values, Says}
+use Rattle.exact.proofs.OrderLaws.{le-or-lt}
+use Rattle.frames.proofs.DigitLaws.{value-lt, value-bits, digit-at}
 
 bits-lt : (c : ℕ) → bitsOf c < 16
 unfolding bitsOf
@@ -24,17 +26,17 @@ pub record ReadTo (l : List ℕ) (n : ℕ) (vs : List ℕ) : Type 0 where
   pub values : Values vs
   pub bits : (i : ℕ) → i < n → getD vs i 0 ≡ bitsOf (getD l i 0)
 
-zeros-small : (i : ℕ) → getD (replicate 36 0) i 0 < 16
+zeros-small : (i : ℕ) → getD (replicate longest 0) i 0 < 16
 zeros-small i =
     ⊎-elim
-    (λ h. omega (arith, List·getD-eq-default {A = ℕ} (replicate 36 0) 0 {n = i} (rw (length-replicate {A = ℕ} 36 0) h)))
-    (λ h. omega (arith, getD-replicate {A = ℕ} 36 i 0 0 h))
-    (le-or-lt 36 i)
+    (λ h. omega (arith, List·getD-eq-default {A = ℕ} (replicate longest 0) 0 {n = i} (rw (length-replicate {A = ℕ} longest 0) h)))
+    (λ h. omega (arith, getD-replicate {A = ℕ} longest i 0 0 h))
+    (le-or-lt longest i)
 
-pub read-none : (l : List ℕ) → ReadTo l 0 (replicate 36 0)
-read-none l = record { values = record { size = length-replicate {A = ℕ} 36 0; small = zeros-small }; bits = λ i h. absurd (omega arith) }
+pub read-none : (l : List ℕ) → ReadTo l 0 (replicate longest 0)
+read-none l = record { values = record { size = length-replicate {A = ℕ} longest 0; small = zeros-small }; bits = λ i h. absurd (omega arith) }
 
-module _ (l : List ℕ) (n : ℕ) (vs : List ℕ) (h : n < 36) (r : ReadTo l n vs) where
+module _ (l : List ℕ) (n : ℕ) (vs : List ℕ) (h : n < longest) (r : ReadTo l n vs) where
   abbrev more : List ℕ
   more = set vs n (bitsOf (getD l n 0))
 

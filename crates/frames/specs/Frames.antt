@@ -30,5 +30,5 @@ recordOf tree (Raw.Header h) = soundOf (Record.Header h)
 recordOf tree (Raw.Hour raw) = row 5 (isOutside 1 6 tree) (soundOf (Record.Hour (hourOf raw (measureOf (figuresOf tree)))))
 recordOf tree (Raw.End e) = soundOf (Record.End e)
 
-unfoldable pub readOf : ℕ → List ℕ → Outcome Record
-readOf tree l = onward (parsedOf l) (recordOf tree)
+unfoldable pub readFrameOf : ℕ → List ℕ → Outcome Record
+readFrameOf tree l = onward (parsedOf l) (recordOf tree)

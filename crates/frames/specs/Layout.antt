@@ -1,11 +1,13 @@
--- The layout of the three kinds of line (document 01, "Frames"): after the byte of the kind, the fields in order, of one or two bytes.
-use Prim.Native.Nat.{ℕ, _+_}
+-- What a line says (document 01, "Frames"): each kind's fields as a record, the frame of a line, the line of a record.
+use Prim.Native.Nat.{ℕ}
 use mathlib.Core.Bool.{cond}
 use mathlib.Core.List.{List, [], _∷_}
 use lib.ListN.{getD}
 use lib.Dec.{eqb}
 use Rattle.trees.specs.declared.Measure.{Measure}
-use Rattle.frames.specs.Digits.{byteAt, numberAt, byte, number}
+use Rattle.frames.specs.Digits.{byteAt}
+use Rattle.frames.specs.Kinds.{one, widthsOf}
+use Rattle.frames.specs.Fields.{digitsOf, fieldsAt}
 use Rattle.records.specs.Temperature.{signedOf, complementOf}
 use Rattle.records.specs.declared.Header.{Header}
 use Rattle.records.specs.declared.Soil.{Soil}
@@ -16,35 +18,8 @@ use Rattle.records.specs.declared.End.{End}
 use Rattle.records.specs.declared.Raw.{Raw}
 use Rattle.records.specs.declared.Record.{Record}
 
-pub data Width : Type 0 where
-  one two : Width
+-- ---- a record's numbers in the order of the line, and the record of such numbers
 
--- tree; days in the year, first day A, last day E, critical level
-abbrev pub headerWidths : List Width
-headerWidths = one ∷ two ∷ two ∷ two ∷ two ∷ []
-
--- day; hour; ozone, PPFD, global radiation, temperature, VPD, wind, soil
-abbrev pub hourWidths : List Width
-hourWidths = two ∷ one ∷ two ∷ two ∷ two ∷ two ∷ two ∷ two ∷ two ∷ []
-
--- number of hour frames
-abbrev pub endWidths : List Width
-endWidths = two ∷ []
-
--- the numbers of these widths that stand in the line l from place `at` on
-abbrev pub numbersAt : List Width → ℕ → List ℕ → List ℕ
-numbersAt [] at l = []
-numbersAt (one ∷ ws) at l = byteAt at l ∷ numbersAt ws (at + 2) l
-numbersAt (two ∷ ws) at l = numberAt at l ∷ numbersAt ws (at + 4) l
-
--- the digits of numbers of these widths
-abbrev pub digitsOf : List Width → List ℕ → List ℕ
-digitsOf [] ns = []
-digitsOf (w ∷ ws) [] = []
-digitsOf (one ∷ ws) (n ∷ ns) = byte n (digitsOf ws ns)
-digitsOf (two ∷ ws) (n ∷ ns) = number n (digitsOf ws ns)
-
--- a record's numbers in the order of the line, and the record of such numbers
 abbrev pub headerNumbers : Header → List ℕ
 headerNumbers h = h .tree ∷ h .days ∷ h .first ∷ h .last ∷ h .level ∷ []
 
@@ -74,23 +49,6 @@ rawHourOf ns = record {
 abbrev pub endOf : List ℕ → End
 endOf ns = record { hours = getD ns 0 0 }
 
--- the header, hour or end in a line of its kind: the kind takes the first two digits
-unfoldable pub headerAt : List ℕ → Header
-headerAt l = headerOf (numbersAt headerWidths 2 l)
-
-unfoldable pub hourAt : List ℕ → RawHour
-hourAt l = rawHourOf (numbersAt hourWidths 2 l)
-
-unfoldable pub endAt : List ℕ → End
-endAt l = endOf (numbersAt endWidths 2 l)
-
--- the frame of a line of one of the three kinds
-unfoldable pub frameAt : List ℕ → Raw
-frameAt l =
-    cond (eqb (byteAt 0 l) 1) (Raw.Header (headerAt l))
-    (cond (eqb (byteAt 0 l) 2) (Raw.Hour (hourAt l))
-    (Raw.End (endAt l)))
-
 -- the soil number n in a measure, and the hour of a frame's numbers, its soil in that measure
 abbrev pub soilOf : Measure → ℕ → Soil
 soilOf Measure.Suction n = Suction n
@@ -109,8 +67,29 @@ hourOf raw m = record {
   soil = soilOf m (raw .soil);
 }
 
+-- ---- a kind's frame and its line: a case for each kind
+
+-- the frame of a kind with these numbers
+unfoldable pub frameOf : ℕ → List ℕ → Raw
+frameOf kind ns =
+    cond (eqb kind 1) (Raw.Header (headerOf ns))
+    (cond (eqb kind 2) (Raw.Hour (rawHourOf ns))
+    (Raw.End (endOf ns)))
+
+unfoldable pub frameAt : List ℕ → Raw
+frameAt l = frameOf (byteAt 0 l) (fieldsAt (byteAt 0 l) l)
+
+-- a record's kind and its numbers
+abbrev pub kindOf : Record → ℕ
+kindOf (Record.Header h) = 1
+kindOf (Record.Hour h) = 2
+kindOf (Record.End e) = 3
+
+abbrev pub numbersOf : Record → List ℕ
+numbersOf (Record.Header h) = headerNumbers h
+numbersOf (Record.Hour h) = hourNumbers h
+numbersOf (Record.End e) = e .hours ∷ []
+
 -- the line of a record
-unfoldable pub lineOf : Record → List ℕ
-lineOf (Record.Header h) = byte 1 (digitsOf headerWidths (headerNumbers h))
-lineOf (Record.Hour h) = byte 2 (digitsOf hourWidths (hourNumbers h))
-lineOf (Record.End e) = byte 3 (digitsOf endWidths (e .hours ∷ []))
+unfoldable pub frameLine : Record → List ℕ
+frameLine r = digitsOf (one ∷ widthsOf (kindOf r)) (kindOf r ∷ numbersOf r)

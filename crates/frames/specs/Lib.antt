@@ -1,6 +1,7 @@
 pub mod Digits
 pub mod Kinds
-pub mod Values
+pub mod Fields
 pub mod Layout
+pub mod Steps
 pub mod Frames
 pub mod Rows

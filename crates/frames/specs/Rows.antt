@@ -7,7 +7,7 @@ use lib.Dec.{eqb}
 use Rattle.records.specs.Answers.{refused}
 use Rattle.frames.specs.Digits.{within}
 use Rattle.frames.specs.Kinds.{among}
-use Rattle.frames.specs.Frames.{readOf}
+use Rattle.frames.specs.Frames.{readFrameOf}
 
 -- a row of the list, with no field; or row 10 with field 1 to 7
 abbrev pub oneOf : List ℕ → ℕ → ℕ → Bool
@@ -15,4 +15,4 @@ oneOf rows n f = among rows n && eqb f 0 || eqb n 10 && within 1 7 f
 
 -- the reader answers no other row
 pub record ReaderRows : Type 0 where
-  pub readRows : (tree : ℕ) (l : List ℕ) (n f : ℕ) → readOf tree l ≡ refused (n, f) → oneOf (1 ∷ 2 ∷ 3 ∷ 5 ∷ 6 ∷ 7 ∷ 8 ∷ []) n f ≡ true
+  pub readRows : (tree : ℕ) (l : List ℕ) (n f : ℕ) → readFrameOf tree l ≡ refused (n, f) → oneOf (1 ∷ 2 ∷ 3 ∷ 5 ∷ 6 ∷ 7 ∷ 8 ∷ []) n f ≡ true

@@ -1,10 +1,13 @@
 // Capital hexadecimal digits, and the numbers that two and four of them say, high byte first.
+use crate::widths::BYTE;
+use crate::widths::LONGEST;
 ghost use mathlib.Core.Path.{_≡_};
 ghost use Prim.Native.Nat.{_+_, _≤_};
 ghost use mathlib.Core.Bool.{true};
 ghost use lib.ListN.{length};
 ghost use Rattle.frames.specs.Digits.{isDigit, allDigits, byteAt, numberAt};
-ghost use Rattle.frames.specs.Values.{bitsOf, Values, Says, Reads};
+ghost use Rattle.frames.specs.Kinds.{one, two, sizeOf, longest};
+ghost use Rattle.frames.specs.Steps.{bitsOf, Values, Says, Finds};
 
 pub(crate) fn is_digit(c: u8) -> bool
     ensures { λ r. ⌜ r ≡ isDigit c ⌝ }
@@ -26,18 +29,18 @@ fn value(c: u8) -> u8
 // The values of a line's characters, and whether all are digits.
 pub(crate) struct Line {
     pub digits: bool,
-    pub values: [u8; 36],
+    pub values: [u8; LONGEST],
 }
 
 // No way out at a byte that is no digit, and `&`, not `&&`: with no branch the bytes are read many at a time.
 pub(crate) fn line_of(s: &[u8]) -> Line
-    requires { ⌜ length (now s) ≤ 36 ⌝ }
+    requires { ⌜ length (now s) ≤ longest ⌝ }
     ensures digits { λ r. ⌜ r .digits ≡ allDigits (now (s .entry)) ⌝ }
     ensures values { λ r. ⌜ Values (r .values) ⌝ }
     ensures says { λ r. ⌜ (allDigits (now (s .entry)) ≡ true → Says (r .values) (now (s .entry))) ⌝ }
 {
     let mut digits = true;
-    let mut values = [0; 36];
+    let mut values = [0; LONGEST];
     let mut i = 0;
     while i < s.len() {
         digits = digits & is_digit(s[i]);
@@ -51,9 +54,9 @@ pub(crate) fn line_of(s: &[u8]) -> Line
 }
 
 pub(crate) fn byte_at(values: &[u8], at: usize) -> u8
-    requires inside { ⌜ at + 2 ≤ 36 ⌝ }
+    requires inside { ⌜ at + sizeOf one ≤ longest ⌝ }
     requires values { ⌜ Values (now values) ⌝ }
-    ensures { λ r. ⌜ Reads (now (values .entry)) (at + 2) r (byteAt at) ⌝ }
+    ensures { λ r. ⌜ Finds (now (values .entry)) (at + sizeOf one) r (byteAt at) ⌝ }
 {
     let high = values[at];
     let low = values[at + 1];
@@ -61,11 +64,11 @@ pub(crate) fn byte_at(values: &[u8], at: usize) -> u8
 }
 
 pub(crate) fn number_at(values: &[u8], at: usize) -> u16
-    requires inside { ⌜ at + 4 ≤ 36 ⌝ }
+    requires inside { ⌜ at + sizeOf two ≤ longest ⌝ }
     requires values { ⌜ Values (now values) ⌝ }
-    ensures { λ r. ⌜ Reads (now (values .entry)) (at + 4) r (numberAt at) ⌝ }
+    ensures { λ r. ⌜ Finds (now (values .entry)) (at + sizeOf two) r (numberAt at) ⌝ }
 {
     let high = byte_at(values, at) as u16;
-    let low = byte_at(values, at + 2) as u16;
+    let low = byte_at(values, at + BYTE) as u16;
     high * 256 + low
 }

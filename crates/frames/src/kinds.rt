@@ -1,4 +1,8 @@
 // The number of digits of a line of each kind (rows 1 and 3), by the kind's number: a later kind is one more arm.
+use crate::widths::EndLine;
+use crate::widths::HeaderLine;
+use crate::widths::HourLine;
+use crate::widths::KINDS;
 ghost use mathlib.Core.Path.{_≡_};
 ghost use Rattle.frames.specs.Kinds.{isLength, lengthOf};
 
@@ -7,9 +11,9 @@ pub(crate) fn length_of(kind: u8) -> usize
     ensures { λ r. ⌜ r ≡ lengthOf kind ⌝ }
 {
     match kind {
-        1 => 20,
-        2 => 36,
-        3 => 6,
+        1 => HeaderLine::DIGITS,
+        2 => HourLine::DIGITS,
+        3 => EndLine::DIGITS,
         _ => 0,
     }
 }
@@ -19,7 +23,7 @@ pub(crate) fn is_length(digits: usize) -> bool
     ensures { λ r. ⌜ r ≡ isLength digits ⌝ }
 {
     let mut kind: u8 = 1;
-    while kind < 4 {
+    while kind <= KINDS {
         if length_of(kind) == digits {
             return true;
         }

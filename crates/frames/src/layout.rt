@@ -8,64 +8,62 @@ use crate::Soil;
 use crate::digits::byte_at;
 use crate::digits::number_at;
 use crate::temperature;
+use crate::widths::EndLine;
+use crate::widths::HeaderLine;
+use crate::widths::HourLine;
+use crate::widths::KIND;
 use trees::Measure;
 ghost use mathlib.Core.Path.{_≡_};
 ghost use mathlib.Core.List.{List};
-ghost use Prim.Native.Nat.{ℕ, _≤_};
-ghost use lib.ListN.{length};
-ghost use Rattle.frames.specs.Digits.{byteAt};
-ghost use Rattle.frames.specs.Values.{Values, Says, Reads};
-ghost use Rattle.frames.specs.Kinds.{lengthOf};
-ghost use Rattle.frames.specs.Layout.{headerAt, hourAt, endAt, frameAt, soilOf, hourOf};
+ghost use Prim.Native.Nat.{ℕ};
+ghost use Rattle.frames.specs.Steps.{Values, Says, Makes, Sized};
+ghost use Rattle.frames.specs.Layout.{headerOf, rawHourOf, endOf, frameAt, soilOf, hourOf};
 
-// 01 | tree 1 | days 2 | first 2 | last 2 | level 2      20 digits
 fn header_at(values: &[u8]) -> Header
     requires { ⌜ Values (now values) ⌝ }
-    ensures { λ r. ⌜ Reads (now (values .entry)) 20 r headerAt ⌝ }
+    ensures { λ r. ⌜ Makes (now (values .entry)) 1 r headerOf ⌝ }
 {
     Header {
-        tree: byte_at(values, 2),
-        days: number_at(values, 4),
-        first: number_at(values, 8),
-        last: number_at(values, 12),
-        level: number_at(values, 16),
+        tree: byte_at(values, HeaderLine::TREE),
+        days: number_at(values, HeaderLine::DAYS),
+        first: number_at(values, HeaderLine::FIRST),
+        last: number_at(values, HeaderLine::LAST),
+        level: number_at(values, HeaderLine::LEVEL),
     }
 }
 
-// 02 | day 2 | hour 1 | ozone 2 | PPFD 2 | G 2 | T 2 | VPD 2 | wind 2 | soil 2      36 digits
 fn hour_at(values: &[u8]) -> RawHour
     requires { ⌜ Values (now values) ⌝ }
-    ensures { λ r. ⌜ Reads (now (values .entry)) 36 r hourAt ⌝ }
+    ensures { λ r. ⌜ Makes (now (values .entry)) 2 r rawHourOf ⌝ }
 {
     RawHour {
-        day: number_at(values, 2),
-        hour: byte_at(values, 6),
-        ozone: number_at(values, 8),
-        ppfd: number_at(values, 12),
-        radiation: number_at(values, 16),
-        temperature: number_at(values, 20),
-        vpd: number_at(values, 24),
-        wind: number_at(values, 28),
-        soil: number_at(values, 32),
+        day: number_at(values, HourLine::DAY),
+        hour: byte_at(values, HourLine::HOUR),
+        ozone: number_at(values, HourLine::OZONE),
+        ppfd: number_at(values, HourLine::PPFD),
+        radiation: number_at(values, HourLine::RADIATION),
+        temperature: number_at(values, HourLine::TEMPERATURE),
+        vpd: number_at(values, HourLine::VPD),
+        wind: number_at(values, HourLine::WIND),
+        soil: number_at(values, HourLine::SOIL),
     }
 }
 
-// 03 | number of hour frames 2      6 digits
 fn end_at(values: &[u8]) -> End
     requires { ⌜ Values (now values) ⌝ }
-    ensures { λ r. ⌜ Reads (now (values .entry)) 6 r endAt ⌝ }
+    ensures { λ r. ⌜ Makes (now (values .entry)) 3 r endOf ⌝ }
 {
     End {
-        hours: number_at(values, 2),
+        hours: number_at(values, EndLine::HOURS),
     }
 }
 
-// The frame of a line of one of the three kinds.
+// The frame of a line that rows 1 to 3 let pass, by its kind.
 pub(crate) fn frame_at(values: &[u8]) -> Raw
     requires { ⌜ Values (now values) ⌝ }
-    ensures { λ r. ⌜ ((l : List ℕ) → Says (now (values .entry)) l → 6 ≤ length l → lengthOf (byteAt 0 l) ≡ length l → r ≡ frameAt l) ⌝ }
+    ensures { λ r. ⌜ ((l : List ℕ) → Says (now (values .entry)) l → Sized l → r ≡ frameAt l) ⌝ }
 {
-    let kind = byte_at(values, 0);
+    let kind = byte_at(values, KIND);
     match kind {
         1 => Raw::Header(header_at(values)),
         2 => Raw::Hour(hour_at(values)),

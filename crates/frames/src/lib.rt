@@ -4,6 +4,7 @@ mod digits;
 mod kinds;
 mod layout;
 mod temperature;
+pub mod widths;
 
 pub use records::Checked;
 pub use records::Decoded;
@@ -22,7 +23,7 @@ pub use records::row_of;
 ghost use mathlib.Core.Path.{_≡_};
 ghost use Rattle.records.specs.Answers.{parsedAs, decodedAs};
 ghost use Rattle.frames.specs.Digits.{isDigit};
-ghost use Rattle.frames.specs.Frames.{parsedOf, soundOf, recordOf, readOf};
+ghost use Rattle.frames.specs.Frames.{parsedOf, soundOf, recordOf, readFrameOf};
 ghost use Rattle.frames.specs.Rows.{ReaderRows};
 
 // A capital hexadecimal digit.
@@ -44,7 +45,7 @@ pub fn parse(line: &[u8]) -> Parsed
         return Parsed::Refused(Refusal::Digit);
     }
     let values = read.values;
-    if kinds::length_of(digits::byte_at(&values, 0)) != line.len() {
+    if kinds::length_of(digits::byte_at(&values, widths::KIND)) != line.len() {
         return Parsed::Refused(Refusal::Kind);
     }
     Parsed::Frame(layout::frame_at(&values))
@@ -83,7 +84,7 @@ pub fn record_of(tree: u8, frame: Raw) -> Decoded
 
 // A line read alone, its tree given.
 pub fn read_frame(tree: u8, line: &[u8]) -> Decoded
-    ensures { λ r. ⌜ decodedAs r ≡ readOf tree (now (line .entry)) ⌝ }
+    ensures { λ r. ⌜ decodedAs r ≡ readFrameOf tree (now (line .entry)) ⌝ }
     ensures rows { λ _. ⌜ ReaderRows ⌝ }
 {
     let parsed = parse(line);

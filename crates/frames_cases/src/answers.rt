@@ -1,7 +1,7 @@
 // Answers and records as words, each after a space; and an answer as one character.
-use crate::text::print;
 use crate::text::print_next;
 use crate::text::print_signed;
+use cases::print;
 use frames::Decoded;
 use frames::Hour;
 use frames::Record;

@@ -3,17 +3,11 @@
 // its soil in the tree's measure, and reads it back for the tree. Each command is printed before its answer.
 use crate::answers::print_reading;
 use crate::changes::print_marks;
-use crate::text::print;
 use crate::writing::print_writing;
-ghost use Prim.Native.Nat.{_≤_};
-ghost use lib.ListN.{length};
+use cases::print;
+use cases::u8_at;
 
-// What two hexadecimal digits say.
-fn number(high: u8, low: u8) -> u8 {
-    (high % 16 + high / 64 * 9) % 16 * 16 + (low % 16 + low / 64 * 9) % 16
-}
-
-fn answer(letter: u8, tree: u8, n: u8, line: &mut [u8]) {
+fn answer(letter: u8, tree: u8, n: u8, line: &[u8]) {
     match letter {
         b'R' => print_reading(tree, line),
         b'C' => print_marks(tree, line, n as usize),
@@ -21,36 +15,25 @@ fn answer(letter: u8, tree: u8, n: u8, line: &mut [u8]) {
     }
 }
 
-fn obey(command: &mut [u8]) {
+fn obey(command: &[u8]) {
     if command.len() < 5 {
         return;
     }
     print(command);
-    let tree = number(command[1], command[2]);
-    let n = number(command[3], command[4]);
-    answer(command[0], tree, n, &mut command[5..]);
+    answer(
+        command[0],
+        u8_at(command, 1),
+        u8_at(command, 3),
+        &command[5..],
+    );
+    print(b"\n");
 }
 
-// The bytes before the first line feed, all where there is none.
-fn line_length(s: &[u8]) -> usize
-    ensures { λ r. ⌜ r ≤ length (now (s .entry)) ⌝ }
-{
-    let mut n = 0;
-    while n < s.len() {
-        if s[n] == b'\n' {
-            return n;
-        }
-        n += 1;
-    }
-    n
-}
-
-pub(crate) fn run_lines(text: &mut [u8]) {
-    let mut i = 0;
-    while i < text.len() {
-        let end = i + line_length(&text[i..]);
-        obey(&mut text[i..end]);
-        print(b"\n");
-        i = end + 1;
+pub(crate) fn run_lines(text: &[u8]) {
+    let mut rest = text;
+    while 0 < rest.len() {
+        obey(cases::line(rest));
+        let next = cases::after_line(rest);
+        rest = next;
     }
 }

@@ -6,10 +6,8 @@ mod text;
 mod unchecked;
 mod writing;
 
-use libc::STDIN_FILENO;
-
 fn main() {
-    let mut buf = io::large_buffer();
-    let n = io::read_full(STDIN_FILENO, &mut buf);
-    commands::run_lines(&mut buf[..n]);
+    let mut text = cases::buffer();
+    let n = cases::read(&mut text);
+    commands::run_lines(&text[..n]);
 }

@@ -1,14 +1,10 @@
-// Text to standard output.
-use libc::STDOUT_FILENO;
-
-pub(crate) fn print(s: &[u8]) {
-    io::write_all(STDOUT_FILENO, s);
-}
+// Numbers of a record to standard output.
+use cases::print;
+use cases::print_number;
 
 // A space and a number.
 pub(crate) fn print_next(n: u16) {
-    print(b" ");
-    io::print_decimal(STDOUT_FILENO, n as u64);
+    cases::print_next(n as u64);
 }
 
 fn magnitude(n: i16) -> u64 {
@@ -26,5 +22,5 @@ pub(crate) fn print_signed(n: i16) {
     } else {
         print(b" ");
     }
-    io::print_decimal(STDOUT_FILENO, magnitude(n));
+    print_number(magnitude(n));
 }

@@ -1,14 +1,18 @@
-// A frame's record, checked, written into a lent part of a buffer of 40 bytes, filled with `.` before, and read back.
+// A frame's record, checked, written into a lent part of a buffer, filled with `.` before, and read back.
 use crate::answers::print_reading;
 use crate::answers::print_record;
 use crate::answers::print_refusal;
-use crate::text::print;
 use crate::unchecked::record_of;
+use cases::print;
 use frames::Checked;
 use frames::Parsed;
 use frames::Raw;
 use frames::Record;
 use frames::Written;
+use frames::widths::LONGEST;
+
+// Room for any line and four bytes more.
+const ROOM: usize = LONGEST + 4;
 
 fn print_checked(record: Record) {
     let answer = frames::check(record);
@@ -44,7 +48,7 @@ fn print_frame(tree: u8, raw: Raw, room: usize) {
     let record = record_of(tree, raw);
     print_record(record);
     print_checked(record);
-    let mut buf = [b'.'; 40];
+    let mut buf = [b'.'; ROOM];
     print_written(tree, record, &mut buf, room);
     print(b" ");
     print(&buf);

@@ -2,17 +2,20 @@
 use crate::text::byte_before;
 use crate::text::empty;
 use crate::text::number_before;
-use book::Totals;
-use book::Verdict;
-use texts::Text;
+use account_spec::Sums;
+use account_spec::Totals;
+use account_spec::Verdict;
+use report_spec::Text;
 ghost use mathlib.Core.Path.{_≡_};
 ghost use Prim.Native.Nat.{_+_, _≤_};
 ghost use mathlib.Core.List.{[], _∷_, _++_};
 ghost use lib.ListN.{length};
-ghost use Rattle.texts.specs.Text.{decimal, space, lineFeed, textIn, Whole};
-ghost use Rattle.texts.specs.Line.{wordOf, lineOf};
-ghost use Rattle.texts.specs.Months.{monthLine};
-ghost use Rattle.texts.specs.Season.{refusalLine};
+ghost use Rattle.walk_spec.specs.Lines.{lineFeed};
+ghost use Rattle.report_spec.specs.Text.{decimal, space};
+ghost use Rattle.report_spec.specs.Line.{wordOf, totalsLine};
+ghost use Rattle.report_spec.specs.Months.{monthLine};
+ghost use Rattle.report_spec.specs.Season.{refusalLine};
+ghost use Rattle.report_spec.specs.Steps.{textIn, Whole};
 
 // A word before the text.
 fn word_before(t: Text, word: &[u8]) -> Text
@@ -54,28 +57,29 @@ fn column_before(t: Text, n: u64) -> Text
 
 // Hours, counted hours, lower, upper, AOT40 and verdict.
 pub(crate) fn of_totals(t: Totals) -> Text
-    ensures text { λ r. ⌜ textIn r ≡ lineOf t ⌝ }
+    ensures text { λ r. ⌜ textIn r ≡ totalsLine t ⌝ }
     ensures room { λ r. ⌜ Whole r ⌝ }
 {
     let verdict = t.verdict;
+    let sums = t.sums;
     let end = of_verdict(verdict);
-    let aot40 = column_before(end, t.aot40 as u64);
-    let upper = column_before(aot40, t.upper);
-    let lower = column_before(upper, t.lower);
-    let counted = column_before(lower, t.counted as u64);
-    column_before(counted, t.hours as u64)
+    let aot40 = column_before(end, sums.aot40 as u64);
+    let upper = column_before(aot40, sums.upper);
+    let lower = column_before(upper, sums.lower);
+    let counted = column_before(lower, sums.counted as u64);
+    column_before(counted, sums.hours as u64)
 }
 
 // Month number, counted hours, lower, upper and AOT40.
-pub(crate) fn of_month(month: u16, t: Totals) -> Text
-    ensures text { λ r. ⌜ textIn r ≡ monthLine month t ⌝ }
+pub(crate) fn of_month(month: u16, sums: Sums) -> Text
+    ensures text { λ r. ⌜ textIn r ≡ monthLine month sums ⌝ }
     ensures room { λ r. ⌜ Whole r ⌝ }
 {
     let end = byte_before(empty(), b'\n');
-    let aot40 = number_before(end, t.aot40 as u64);
-    let upper = column_before(aot40, t.upper);
-    let lower = column_before(upper, t.lower);
-    let counted = column_before(lower, t.counted as u64);
+    let aot40 = number_before(end, sums.aot40 as u64);
+    let upper = column_before(aot40, sums.upper);
+    let lower = column_before(upper, sums.lower);
+    let counted = column_before(lower, sums.counted as u64);
     column_before(counted, month as u64)
 }
 

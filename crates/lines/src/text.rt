@@ -1,7 +1,7 @@
 // Text of up to 128 bytes, made from its end, and put into a lent buffer.
 use frames::Refusal;
 use frames::Written;
-use texts::Text;
+use report_spec::Text;
 ghost use mathlib.Core.Path.{_≡_};
 ghost use Prim.Native.Nat.{_+_, _≤_};
 ghost use mathlib.Core.List.{[], _∷_, _++_};
@@ -9,7 +9,8 @@ ghost use lib.ListN.{length};
 ghost use lib.Seq.{paste};
 ghost use Rattle.records.specs.Answers.{accepted};
 ghost use Rattle.records.specs.Buffer.{Prints};
-ghost use Rattle.texts.specs.Text.{decimal, textIn, Whole};
+ghost use Rattle.report_spec.specs.Text.{decimal};
+ghost use Rattle.report_spec.specs.Steps.{textIn, Whole};
 
 pub(crate) fn empty() -> Text
     ensures text { λ r. ⌜ textIn r ≡ [] ⌝ }

@@ -2,3 +2,4 @@ pub mod Answers
 pub mod Temperature
 pub mod Ranges
 pub mod Buffer
+pub mod Period

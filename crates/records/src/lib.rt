@@ -1,8 +1,11 @@
-// Records (document 01, "Frames"): what the three kinds of line say, why a call is refused, the rows that a record meets by itself, and what
-// is written into a lent buffer.
+// Records (document 01, "Frames"): what the three kinds of line say, why a call is refused, the rows that a record meets by itself, the hours
+// of a header's period, and what is written into a lent buffer.
 // The crate `frames` reads a line to a record, the crate `writer` has the way back.
+mod period;
 mod ranges;
 
+pub use period::all_given;
+pub use period::period_hours;
 pub use ranges::outside;
 ghost use mathlib.Core.Path.{_≡_};
 ghost use Rattle.records.specs.Answers.{rowOf, checkedAs};

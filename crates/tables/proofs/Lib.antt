@@ -1,1 +1,1 @@
-mod EntryLaws
+mod TableEntryLaws

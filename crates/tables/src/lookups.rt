@@ -1,14 +1,14 @@
 // Each tree's f_temp at a reading, tenths of a degree above -50.0 °C: f_min outside the tree's table, else out of the part where the reading lies.
 // Made by tools/temperature_tables.py.
-use crate::entries::entry;
 use crate::entries::floor_of;
+use crate::entries::table_entry;
 use crate::values::Beech;
 use crate::values::Birch;
 use crate::values::BorealSpruce;
 use crate::values::ContinentalSpruce;
 use crate::values::Evergreen;
 use crate::values::Oak;
-use trees::temperature::Bounds;
+use exact::Bounds;
 ghost use mathlib.Core.Path.{_≡_};
 ghost use Prim.Native.Nat.{_≤_};
 ghost use Rattle.trees.specs.Figures.{borealSpruce, birch, continentalSpruce, beech, oak, evergreen};
@@ -27,27 +27,27 @@ pub(crate) fn boreal_spruce_at(x: u16) -> Bounds
     match (x - 509) / 100 {
         0 => {
             let t = BorealSpruce::TEMPERATURE_509;
-            entry(&t, 509, fmin, x)
+            table_entry(&t, 509, fmin, x)
         },
         1 => {
             let t = BorealSpruce::TEMPERATURE_609;
-            entry(&t, 609, fmin, x)
+            table_entry(&t, 609, fmin, x)
         },
         2 => {
             let t = BorealSpruce::TEMPERATURE_709;
-            entry(&t, 709, fmin, x)
+            table_entry(&t, 709, fmin, x)
         },
         3 => {
             let t = BorealSpruce::TEMPERATURE_809;
-            entry(&t, 809, fmin, x)
+            table_entry(&t, 809, fmin, x)
         },
         4 => {
             let t = BorealSpruce::TEMPERATURE_909;
-            entry(&t, 909, fmin, x)
+            table_entry(&t, 909, fmin, x)
         },
         _ => {
             let t = BorealSpruce::TEMPERATURE_1009;
-            entry(&t, 1009, fmin, x)
+            table_entry(&t, 1009, fmin, x)
         },
     }
 }
@@ -64,27 +64,27 @@ pub(crate) fn birch_at(x: u16) -> Bounds
     match (x - 556) / 100 {
         0 => {
             let t = Birch::TEMPERATURE_556;
-            entry(&t, 556, fmin, x)
+            table_entry(&t, 556, fmin, x)
         },
         1 => {
             let t = Birch::TEMPERATURE_656;
-            entry(&t, 656, fmin, x)
+            table_entry(&t, 656, fmin, x)
         },
         2 => {
             let t = Birch::TEMPERATURE_756;
-            entry(&t, 756, fmin, x)
+            table_entry(&t, 756, fmin, x)
         },
         3 => {
             let t = Birch::TEMPERATURE_856;
-            entry(&t, 856, fmin, x)
+            table_entry(&t, 856, fmin, x)
         },
         4 => {
             let t = Birch::TEMPERATURE_956;
-            entry(&t, 956, fmin, x)
+            table_entry(&t, 956, fmin, x)
         },
         _ => {
             let t = Birch::TEMPERATURE_1056;
-            entry(&t, 1056, fmin, x)
+            table_entry(&t, 1056, fmin, x)
         },
     }
 }
@@ -104,19 +104,19 @@ pub(crate) fn continental_spruce_at(x: u16) -> Bounds
     match (x - 511) / 100 {
         0 => {
             let t = ContinentalSpruce::TEMPERATURE_511;
-            entry(&t, 511, fmin, x)
+            table_entry(&t, 511, fmin, x)
         },
         1 => {
             let t = ContinentalSpruce::TEMPERATURE_611;
-            entry(&t, 611, fmin, x)
+            table_entry(&t, 611, fmin, x)
         },
         2 => {
             let t = ContinentalSpruce::TEMPERATURE_711;
-            entry(&t, 711, fmin, x)
+            table_entry(&t, 711, fmin, x)
         },
         _ => {
             let t = ContinentalSpruce::TEMPERATURE_811;
-            entry(&t, 811, fmin, x)
+            table_entry(&t, 811, fmin, x)
         },
     }
 }
@@ -136,15 +136,15 @@ pub(crate) fn beech_at(x: u16) -> Bounds
     match (x - 557) / 100 {
         0 => {
             let t = Beech::TEMPERATURE_557;
-            entry(&t, 557, fmin, x)
+            table_entry(&t, 557, fmin, x)
         },
         1 => {
             let t = Beech::TEMPERATURE_657;
-            entry(&t, 657, fmin, x)
+            table_entry(&t, 657, fmin, x)
         },
         _ => {
             let t = Beech::TEMPERATURE_757;
-            entry(&t, 757, fmin, x)
+            table_entry(&t, 757, fmin, x)
         },
     }
 }
@@ -164,19 +164,19 @@ pub(crate) fn oak_at(x: u16) -> Bounds
     match (x - 517) / 100 {
         0 => {
             let t = Oak::TEMPERATURE_517;
-            entry(&t, 517, fmin, x)
+            table_entry(&t, 517, fmin, x)
         },
         1 => {
             let t = Oak::TEMPERATURE_617;
-            entry(&t, 617, fmin, x)
+            table_entry(&t, 617, fmin, x)
         },
         2 => {
             let t = Oak::TEMPERATURE_717;
-            entry(&t, 717, fmin, x)
+            table_entry(&t, 717, fmin, x)
         },
         _ => {
             let t = Oak::TEMPERATURE_817;
-            entry(&t, 817, fmin, x)
+            table_entry(&t, 817, fmin, x)
         },
     }
 }
@@ -196,19 +196,19 @@ pub(crate) fn evergreen_at(x: u16) -> Bounds
     match (x - 513) / 100 {
         0 => {
             let t = Evergreen::TEMPERATURE_513;
-            entry(&t, 513, fmin, x)
+            table_entry(&t, 513, fmin, x)
         },
         1 => {
             let t = Evergreen::TEMPERATURE_613;
-            entry(&t, 613, fmin, x)
+            table_entry(&t, 613, fmin, x)
         },
         2 => {
             let t = Evergreen::TEMPERATURE_713;
-            entry(&t, 713, fmin, x)
+            table_entry(&t, 713, fmin, x)
         },
         _ => {
             let t = Evergreen::TEMPERATURE_813;
-            entry(&t, 813, fmin, x)
+            table_entry(&t, 813, fmin, x)
         },
     }
 }

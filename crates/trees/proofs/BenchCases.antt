@@ -6,13 +6,13 @@ use mathlib.Core.List.{List, [], _∷_}
 use native.Mathlib.Omega.{arith}
 use lib.Dec.{T, eqb, eqb→eq}
 use store.Enc.{and-l, and-r}
-use Rattle.trees.specs.Figures.{continentalSpruce, beech, figuresOf}
+use Rattle.trees.specs.Figures.{continentalSpruce, beech}
 use Rattle.trees.specs.Temperature.{tried, allowed, temperatureAt}
 use Rattle.trees.specs.Deficit.{deficitOf}
 use Rattle.trees.specs.SoilWater.{soilWaterOf}
 use Rattle.trees.specs.Phenology.{byRamps, byDip, phenologyOf}
 use Rattle.trees.specs.BenchCases.{cases, AllSame, BenchCases}
-use Rattle.trees.proofs.SoundLaws.{figures-sound}
+use Rattle.trees.proofs.SoundLaws.{beech-sound}
 use Rattle.trees.proofs.TemperatureRoot.{rootAt-is}
 use Rattle.trees.proofs.TemperatureTable.{greatest-tested}
 use Rattle.trees.proofs.TemperatureLaws.{temperatureAt-le, temperatureAt-optimum}
@@ -32,12 +32,11 @@ all-same (pair ∷ rest) h =
     (record { cross = eqb→eq _ _ (and-l (same pair) (allSame rest) h) }, all-same rest (and-r (same pair) (allSame rest) h))
 
 pub bench-cases : BenchCases
-unfolding phenologyOf byRamps byDip deficitOf soilWaterOf straight tried allowed temperatureAt figuresOf
+unfolding phenologyOf byRamps byDip deficitOf soilWaterOf straight tried allowed temperatureAt
 bench-cases = record {
   factors = all-same cases tt;
   continentalSpruce7Degrees = rootAt-is continentalSpruce 570 (omega arith) (greatest-tested continentalSpruce 570 769800358 tt);
   beech5Degrees = λ k. record { cross = refl };
   beech16Degrees = λ k.
-      let s = figures-sound 4 beech refl in
-      ≼-antisym (temperatureAt-le beech s 660 k) (temperatureAt-optimum beech s k);
+      ≼-antisym (temperatureAt-le beech beech-sound 660 k) (temperatureAt-optimum beech beech-sound k);
 }

@@ -3,7 +3,7 @@ pub mod TemperatureRoot
 pub mod TemperatureTable
 pub mod TemperatureLookup
 pub mod TemperatureTrim
-pub mod TemperatureTrees
+pub mod CurveLaws
 pub mod TemperatureLaws
 pub mod PhenologyLaws
 pub mod FactorLaws

@@ -10,22 +10,22 @@ use Rattle.trees.specs.declared.Choice.the-variants.{Tree, Unknown}
 use Rattle.trees.specs.Figures.{borealSpruce, birch, continentalSpruce, beech, oak, evergreen, figuresOf}
 use Rattle.trees.specs.Sound.{Sound}
 
-borealSpruce-sound : Sound borealSpruce
+pub borealSpruce-sound : Sound borealSpruce
 borealSpruce-sound = omega arith
 
-birch-sound : Sound birch
+pub birch-sound : Sound birch
 birch-sound = omega arith
 
-continentalSpruce-sound : Sound continentalSpruce
+pub continentalSpruce-sound : Sound continentalSpruce
 continentalSpruce-sound = omega arith
 
-beech-sound : Sound beech
+pub beech-sound : Sound beech
 beech-sound = omega arith
 
-oak-sound : Sound oak
+pub oak-sound : Sound oak
 oak-sound = omega arith
 
-evergreen-sound : Sound evergreen
+pub evergreen-sound : Sound evergreen
 evergreen-sound = omega arith
 
 -- what holds of the six holds of any tree that is chosen

@@ -1,22 +1,22 @@
 -- f_temp, for any sound figures: at every k it lies between f_min and 1, it never falls as k grows, and the pair encloses it.
-use Prim.Native.Nat.{ℕ, zero, _+_, _-_, _*_, _^_, _≤_, _<_, max}
-use mathlib.Core.Path.{_≡_, refl, ap, subst}
+use Prim.Native.Nat.{ℕ, _+_, _-_, _*_, _^_, _≤_, _<_, max}
+use mathlib.Core.Path.{ap, subst}
 use mathlib.Core.Bool.{Bool, true, false, cond}
-use native.Mathlib.Nat.{add-comm, add-sub-of-le, mul-le-mul-right, one-le-pow, zero-lt-suc}
+use native.Mathlib.Nat.{add-comm, add-sub-of-le, mul-le-mul-right}
 use native.Mathlib.Omega.{arith}
-use borrow.Author.Tests.{leb-true, leb-false}
-use lib.Dec.{T, leb, ltb, ltb→lt}
+use lib.Dec.{T, ltb, ltb→lt}
 use lib.Pow.{pow-add}
 use store.Enc.{and-l, and-r}
 use Rattle.trees.specs.declared.Figures.{Figures}
-use Rattle.trees.specs.declared.temperature.Bounds.{Bounds}
 use Rattle.trees.specs.Sound.{Sound}
 use Rattle.trees.specs.Temperature.{rootAt, inside, temperatureAt, temperaturePair}
 use Rattle.trees.proofs.TemperatureRoot.{rootAt-greatest, rootAt-grows, rootAt-next, rootAt-optimum, greatest-le-one}
 use Rattle.trees.proofs.TemperatureLookup.{inside-true}
+use Rattle.exact.specs.declared.Bounds.{Bounds}
 use Rattle.exact.specs.Frac.{Frac, _over_, natural, _≼_, greater}
+use Rattle.exact.proofs.OrderLaws.{ten-pos}
 use Rattle.exact.proofs.FracLaws.{≼-refl, ≼-trans, over-le}
-use Rattle.exact.proofs.GreaterLaws.{greater-left, greater-right, greater-least}
+use Rattle.exact.proofs.GreaterLaws.{greater-left, greater-right, greater-least, max-over-least}
 
 cases : {A : Type 0} (P : A → Type 0) (b : Bool) (y z : A) → (T b → P y) → P z → P (cond b y z)
 cases P true y z h k = h tt
@@ -26,13 +26,6 @@ cases₂ :
     {A B : Type 0} (P : A → B → Type 0) (b : Bool) (o p : A) (y z : B) → (T b → P o y) → P p z → P (cond b o p) (cond b y z)
 cases₂ P true o p y z h k = h tt
 cases₂ P false o p y z h k = k
-
-max-case : (P : ℕ → Type 0) (m n : ℕ) (b : Bool) → leb m n ≡ b → P m → P n → P (max m n)
-max-case P m n true e h k = let l = leb-true m n e in subst P (omega arith) k
-max-case P m n false e h k = let l = leb-false m n e in subst P (omega arith) h
-
-ten-pos : (k : ℕ) → zero < 10 ^ k
-ten-pos k = one-le-pow k 10 (zero-lt-suc 9)
 
 module _ (f : Figures) (s : Sound f) (x : ℕ) where
   abbrev fmin : Frac
@@ -113,8 +106,7 @@ module _ (f : Figures) (s : Sound f) (x : ℕ) where
       let top = greater fmin (root 9) in
       cases₂ (λ (p : Bounds) v. (p .lower over 10 ^ 9) ≼ v) (inside (f .tmin) (f .tmax) x) found least top fmin
       (λ h.
-      max-case (λ m. (m over 10 ^ 9) ≼ top) floor (rootAt 9 f x) (leb floor (rootAt 9 f x)) refl
-      (≼-trans floor-is (greater-left fmin (root 9))) (greater-right fmin (root 9)))
+      max-over-least floor (rootAt 9 f x) (10 ^ 9) (≼-trans floor-is (greater-left fmin (root 9))) (greater-right fmin (root 9)))
       floor-is
 
   pub temperaturePair-high : (k : ℕ) → temperatureAt k f x ≼ (temperaturePair f x .upper over 10 ^ 9)

@@ -2,24 +2,21 @@
 use Prim.Native.Nat.{ℕ, _+_, _-_, _*_, _<_, _≤_, max}
 use mathlib.Core.Path.{_≡_, ap₂, _∙_, subst, sym}
 use mathlib.Core.Bool.{true, false}
-use mathlib.Core.Logic.{_⊎_, inl, inr, ⊎-elim}
+use mathlib.Core.Logic.{⊎-elim}
 use mathlib.Core.List.{List}
-use native.Mathlib.Decide.{decLe}
 use native.Mathlib.Omega.{arith}
 use borrow.Author.Tests.{lt-ltb, le-ltb}
 use lib.ListN.{length, getD}
 use Rattle.trees.specs.declared.Figures.{Figures}
-use Rattle.trees.specs.declared.temperature.Bounds.{Bounds}
 use Rattle.trees.specs.Sound.{Sound}
 use Rattle.trees.specs.Temperature.{IsGreatest, rootAt, inside, temperaturePair}
-use Rattle.trees.specs.TemperatureTable.{IsTable}
+use Rattle.trees.specs.TemperatureTable.{IsTemperatureTable}
 use Rattle.trees.proofs.TemperatureRoot.{rootAt-is}
+use Rattle.exact.specs.declared.Bounds.{Bounds}
+use Rattle.exact.proofs.OrderLaws.{le-or-lt}
 
 abbrev bounds : ℕ → ℕ → Bounds
 bounds l u = record { lower = l; upper = u }
-
-pub le-or-lt : (m n : ℕ) → (m ≤ n) ⊎ (n < m)
-le-or-lt m n = elim (decLe m n) [ yes p ↦ inl p | no q ↦ inr (omega arith) ]
 
 module _ (tmin tmax x : ℕ) where
   pub inside-true : 10 * tmin < x → x < 10 * tmax → inside tmin tmax x ≡ true
@@ -59,7 +56,7 @@ module _ (f : Figures) (x : ℕ) where
       ⊎-elim (λ out. pair-outside (λ low. omega (arith, low, out)) e)
       (λ low. ⊎-elim (λ out. pair-outside (λ l. out) e) (within low) (le-or-lt (10 * f .tmax) x)) (le-or-lt x (10 * f .tmin))
 
-module _ {f : Figures} {from x : ℕ} {ts : List ℕ} (s : Sound f) (t : IsTable f from ts) (low : 10 * f .tmin < x) (high : x < 10 * f .tmax)
+module _ {f : Figures} {from x : ℕ} {ts : List ℕ} (s : Sound f) (t : IsTemperatureTable f from ts) (low : 10 * f .tmin < x) (high : x < 10 * f .tmax)
     (first : from ≤ x) (short : x < from + length ts) where
   abbrev found : ℕ
   found = getD ts (x - from) 0

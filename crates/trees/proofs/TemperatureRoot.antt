@@ -67,7 +67,7 @@ module _ (f : Figures) (x : ℕ) where
     above = greatest-over (tried f x) (allowed k f x) (tried-above root);
   }
 
-  pub greatest-unique : {k t u : ℕ} → IsGreatest k f x t → IsGreatest k f x u → t ≡ u
+  greatest-unique : {k t u : ℕ} → IsGreatest k f x t → IsGreatest k f x u → t ≡ u
   greatest-unique {k} {t} {u} g h =
       let l : t < u + 1 = tried-lt (g .under) (h .above) in
       let m : u < t + 1 = tried-lt (h .under) (g .above) in
@@ -88,14 +88,14 @@ module _ (f : Figures) (x : ℕ) where
 
   -- t at k decimals and u at k + j: t's digits open u's
   module _ (k j : ℕ) {t u : ℕ} (g : IsGreatest k f x t) (h : IsGreatest (k + j) f x u) where
-    pub digits-le : 10 ^ j * t ≤ u
+    digits-le : 10 ^ j * t ≤ u
     digits-le =
         let fits : tried f x (10 ^ j * t) ≤ allowed (k + j) f x =
         rw (tried-scale j t, allowed-scale k j) (mul-le-mul-left (10 ^ (j * f .q)) (g .under)) in
         let l : 10 ^ j * t < u + 1 = tried-lt fits (h .above) in
         omega arith
 
-    pub digits-lt : u < 10 ^ j * (t + 1)
+    digits-lt : u < 10 ^ j * (t + 1)
     digits-lt =
         tried-lt (h .under)
         (rw (tried-scale j (t + 1), allowed-scale k j)

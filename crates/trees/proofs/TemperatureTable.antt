@@ -9,7 +9,7 @@ use lib.ListN.{length, getD}
 use store.Enc.{and-l, and-r}
 use Rattle.trees.specs.declared.Figures.{Figures}
 use Rattle.trees.specs.Temperature.{tried, allowed, IsGreatest}
-use Rattle.trees.specs.TemperatureTable.{IsTable}
+use Rattle.trees.specs.TemperatureTable.{IsTemperatureTable}
 
 abbrev pub greatestTest : Figures → ℕ → ℕ → Bool
 unfolding tried allowed
@@ -46,6 +46,6 @@ module _ (f : Figures) (from : ℕ) (ts : List ℕ) where
   unfolding tried allowed
   tableTest = everyTest f from ts
 
-  pub table-tested : T tableTest → IsTable f from ts
+  pub table-tested : T tableTest → IsTemperatureTable f from ts
   unfolding tried allowed
   table-tested h = record { entries = entry-tested f from ts h }

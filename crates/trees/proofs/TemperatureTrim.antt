@@ -9,10 +9,12 @@ use lib.Dec.{T, leb, ltb, leb→le, ltb→lt}
 use store.Enc.{and-l, and-r}
 use Rattle.trees.specs.declared.Figures.{Figures}
 use Rattle.trees.specs.Sound.{Sound}
-use Rattle.trees.specs.Temperature.{tried, allowed, rootAt}
+use Rattle.trees.specs.Temperature.{tried, allowed, rootAt, temperaturePair}
 use Rattle.trees.specs.TemperatureTable.{IsTrimmed}
 use Rattle.trees.proofs.TemperatureRoot.{rootAt-above, rootAt-below}
-use Rattle.trees.proofs.TemperatureLookup.{le-or-lt}
+use Rattle.trees.proofs.TemperatureLookup.{pair-floor}
+use Rattle.exact.specs.declared.Bounds.{Bounds}
+use Rattle.exact.proofs.OrderLaws.{le-or-lt}
 
 -- f_min, in units of 10⁻⁹
 abbrev floor : Figures → ℕ
@@ -80,7 +82,13 @@ module _ (f : Figures) (first last : ℕ) where
       }
 
   -- what the table does not hold is under f_min
-  pub trimmed-under :
+  trimmed-under :
       IsTrimmed f first last → (x : ℕ) → x ≤ 1100 → (first ≤ x → last < x) → 10 * f .tmin < x → x < 10 * f .tmax → rootAt 9 f x < floor f
   trimmed-under h x highest outside low high =
       ⊎-elim (λ l. h .warmer x (outside l) high highest) (h .colder x low) (le-or-lt first x)
+
+-- f_min at each reading that the table does not hold
+pub floor-pair :
+    {f : Figures} {first last x : ℕ} {r : Bounds} → IsTrimmed f first last → x ≤ 1100 → (first ≤ x → last < x) →
+    (r .lower ≡ f .fmin * 10000000) × (r .upper ≡ f .fmin * 10000000) → r ≡ temperaturePair f x
+floor-pair {f} {first} {last} {x} trimmed highest outside h = pair-floor f x (trimmed-under f first last trimmed x highest outside) h

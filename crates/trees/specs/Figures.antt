@@ -6,6 +6,8 @@ use Rattle.trees.specs.declared.Measure.{Measure}
 use Rattle.trees.specs.declared.Measure.the-variants.{Suction, Water}
 use Rattle.trees.specs.declared.Phenology.{Phenology}
 use Rattle.trees.specs.declared.Phenology.the-variants.{Ramps, Dip, Temperature}
+use Rattle.trees.specs.declared.Curve.{Curve}
+use Rattle.trees.specs.declared.Curve.the-variants.{BorealSpruce, Birch, ContinentalSpruce, Beech, Oak, Evergreen}
 use Rattle.trees.specs.declared.Figures.{Figures}
 use Rattle.trees.specs.declared.Choice.{Choice}
 use Rattle.trees.specs.declared.Choice.the-variants.{Tree, Unknown}
@@ -15,8 +17,8 @@ abbrev pub celsius : ℕ → ℕ
 celsius t = 50 + t
 
 -- a line of the table: the three temperatures are given in °C
-abbrev entry : ℕ → ℕ → ℕ → ℕ → ℕ → ℕ → ℕ → ℕ → ℕ → ℕ → Measure → ℕ → ℕ → ℕ → Phenology → ℕ → ℕ → ℕ → ℕ → Figures
-entry gmax′ fmin′ lighta′ tmin′ topt′ tmax′ p′ q′ vpdmax′ vpdmin′ measure′ soilmax′ soilmin′ leaf′ phenology′ a′ e′ f1′ f4′ = record {
+abbrev treeLine : Curve → ℕ → ℕ → ℕ → ℕ → ℕ → ℕ → ℕ → ℕ → ℕ → ℕ → Measure → ℕ → ℕ → ℕ → Phenology → ℕ → ℕ → ℕ → ℕ → Figures
+treeLine curve′ gmax′ fmin′ lighta′ tmin′ topt′ tmax′ p′ q′ vpdmax′ vpdmin′ measure′ soilmax′ soilmin′ leaf′ phenology′ a′ e′ f1′ f4′ = record {
   gmax = gmax′;
   fmin = fmin′;
   lighta = lighta′;
@@ -25,6 +27,7 @@ entry gmax′ fmin′ lighta′ tmin′ topt′ tmax′ p′ q′ vpdmax′ vpdm
   tmax = celsius tmax′;
   p = p′;
   q = q′;
+  curve = curve′;
   vpdmax = vpdmax′;
   vpdmin = vpdmin′;
   measure = measure′;
@@ -38,25 +41,34 @@ entry gmax′ fmin′ lighta′ tmin′ topt′ tmax′ p′ q′ vpdmax′ vpdm
   f4 = f4′;
 }
 
--- gmax, f_min, light_a, Tmin Topt Tmax, p q, VPD max min, soil max min, leaf, phenology, a e, f1 f4
+-- its curve of f_temp, gmax, f_min, light_a, Tmin Topt Tmax, p q, VPD max min, soil max min, leaf, phenology, a e, f1 f4
 abbrev pub borealSpruce : Figures
-borealSpruce = entry 125 10 60 0 20 200 9 1 800 2800 Water 150 10 8 Ramps 0 0 20 30
+borealSpruce = treeLine BorealSpruce 125 10 60 0 20 200 9 1 800 2800 Water 150 10 8 Ramps 0 0 20 30
 
 abbrev pub birch : Figures
-birch = entry 240 10 42 5 20 200 12 1 500 2700 Water 150 10 50 Ramps 0 0 20 30
+birch = treeLine Birch 240 10 42 5 20 200 12 1 500 2700 Water 150 10 50 Ramps 0 0 20 30
 
 -- a and e play no part where f_phen goes by temperature
 abbrev pub continentalSpruce : Figures
-continentalSpruce = entry 130 16 100 0 14 35 3 2 500 3000 Suction 50 500 8 Temperature 0 0 0 0
+continentalSpruce = treeLine ContinentalSpruce 130 16 100 0 14 35 3 2 500 3000 Suction 50 500 8 Temperature 0 0 0 0
 
 abbrev pub beech : Figures
-beech = entry 155 13 60 5 16 33 17 11 1000 3100 Suction 50 1250 70 Ramps 0 40 20 20
+beech = treeLine Beech 155 13 60 5 16 33 17 11 1000 3100 Suction 50 1250 70 Ramps 0 40 20 20
 
 abbrev pub oak : Figures
-oak = entry 265 13 60 0 22 35 13 22 1100 3100 Suction 1000 2000 42 Ramps 30 30 15 20
+oak = treeLine Oak 265 13 60 0 22 35 13 22 1100 3100 Suction 1000 2000 42 Ramps 30 30 15 20
 
 abbrev pub evergreen : Figures
-evergreen = entry 195 2 120 1 23 39 8 11 2200 4000 Suction 1000 4500 30 Dip 100 100 0 0
+evergreen = treeLine Evergreen 195 2 120 1 23 39 8 11 2200 4000 Suction 1000 4500 30 Dip 100 100 0 0
+
+-- the tree whose table of f_temp it is
+abbrev pub ownerOf : Curve → Figures
+ownerOf BorealSpruce = borealSpruce
+ownerOf Birch = birch
+ownerOf ContinentalSpruce = continentalSpruce
+ownerOf Beech = beech
+ownerOf Oak = oak
+ownerOf Evergreen = evergreen
 
 -- by the tree's number; a number outside 1 to 6 is no tree
 unfoldable pub figuresOf : ℕ → Choice

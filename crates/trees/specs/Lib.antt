@@ -6,3 +6,4 @@ pub mod Deficit
 pub mod SoilWater
 pub mod Phenology
 pub mod BenchCases
+pub mod Steps

@@ -6,7 +6,7 @@ use lib.ListN.{length, getD}
 use Rattle.trees.specs.declared.Figures.{Figures}
 use Rattle.trees.specs.Temperature.{IsGreatest, rootAt}
 
-pub record IsTable (f : Figures) (from : ℕ) (table : List ℕ) : Type 0 where
+pub record IsTemperatureTable (f : Figures) (from : ℕ) (table : List ℕ) : Type 0 where
   pub entries : (i : ℕ) → i < length table → IsGreatest 9 f (from + i) (getD table i 0)
 
 -- The table holds the readings from `first` to `last` (document 02, W-203): it begins and ends with a t/10⁹ that is not under f_min, and at every other

@@ -1,7 +1,6 @@
 // The tree table of document 01: each tree's figures, as constants that belong to that tree's type.
 pub mod factors;
 pub mod phen;
-pub mod temperature;
 
 ghost use mathlib.Core.Path.{_≡_};
 ghost use Rattle.trees.specs.BenchCases.{BenchCases};
@@ -20,6 +19,16 @@ pub enum Phenology {
     Temperature,
 }
 
+// Whose table of f_temp.
+pub enum Curve {
+    BorealSpruce,
+    Birch,
+    ContinentalSpruce,
+    Beech,
+    Oak,
+    Evergreen,
+}
+
 // A tree's figures. Percent: fmin, a, e. Whole degrees above -50 °C: tmin, topt, tmax.
 pub struct Figures {
     // mmol m⁻² s⁻¹
@@ -33,6 +42,7 @@ pub struct Figures {
     // (tmax - topt) / (topt - tmin), reduced
     pub p: u16,
     pub q: u16,
+    pub curve: Curve,
     // Pa
     pub vpdmax: u16,
     pub vpdmin: u16,
@@ -107,6 +117,7 @@ impl BorealSpruce {
             tmax: BorealSpruce::TMAX,
             p: BorealSpruce::P,
             q: BorealSpruce::Q,
+            curve: Curve::BorealSpruce,
             vpdmax: BorealSpruce::VPDMAX,
             vpdmin: BorealSpruce::VPDMIN,
             measure: Measure::Water,
@@ -171,6 +182,7 @@ impl Birch {
             tmax: Birch::TMAX,
             p: Birch::P,
             q: Birch::Q,
+            curve: Curve::Birch,
             vpdmax: Birch::VPDMAX,
             vpdmin: Birch::VPDMIN,
             measure: Measure::Water,
@@ -235,6 +247,7 @@ impl ContinentalSpruce {
             tmax: ContinentalSpruce::TMAX,
             p: ContinentalSpruce::P,
             q: ContinentalSpruce::Q,
+            curve: Curve::ContinentalSpruce,
             vpdmax: ContinentalSpruce::VPDMAX,
             vpdmin: ContinentalSpruce::VPDMIN,
             measure: Measure::Suction,
@@ -299,6 +312,7 @@ impl Beech {
             tmax: Beech::TMAX,
             p: Beech::P,
             q: Beech::Q,
+            curve: Curve::Beech,
             vpdmax: Beech::VPDMAX,
             vpdmin: Beech::VPDMIN,
             measure: Measure::Suction,
@@ -363,6 +377,7 @@ impl Oak {
             tmax: Oak::TMAX,
             p: Oak::P,
             q: Oak::Q,
+            curve: Curve::Oak,
             vpdmax: Oak::VPDMAX,
             vpdmin: Oak::VPDMIN,
             measure: Measure::Suction,
@@ -427,6 +442,7 @@ impl Evergreen {
             tmax: Evergreen::TMAX,
             p: Evergreen::P,
             q: Evergreen::Q,
+            curve: Curve::Evergreen,
             vpdmax: Evergreen::VPDMAX,
             vpdmin: Evergreen::VPDMIN,
             measure: Measure::Suction,

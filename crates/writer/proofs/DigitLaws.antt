@@ -8,7 +8,8 @@ use native.Mathlib.Omega.{arith}
 use borrow.Author.Tests.{lt-ltb, le-ltb}
 use lib.ListN.{getD}
 use Rattle.frames.specs.Digits.{isDigit, valueOf, byteAt, numberAt, digitOf}
-use Rattle.frames.proofs.DigitLaws.{Place, decimal, letter, under, between, over, le-or-lt, place, said, isOne, value-is, digit-is, value-lt}
+use Rattle.exact.proofs.OrderLaws.{le-or-lt}
+use Rattle.frames.proofs.DigitLaws.{DigitCase, decimal, letter, under, between, over, digit-cases, valueIn, isDigitIn, value-is, digit-is, value-lt}
 
 pub byte-lt : (at : ℕ) (l : List ℕ) → byteAt at l < 256
 unfolding byteAt
@@ -40,12 +41,12 @@ digit-valid d h =
     (λ p. rw (← digit-low d p) (sym (digit-is (d + 48) (decimal (omega arith) (omega arith)))))
     (le-or-lt 10 d)
 
-digit-said : (c : ℕ) (at : Place c) → isOne c at ≡ true → digitOf (said c at) ≡ c
-digit-said c (decimal p q) e = sym (digit-low (c - 48) (omega arith)) ∙ omega arith
-digit-said c (letter p q) e = sym (digit-high (c - 55) (omega arith)) ∙ omega arith
-digit-said c (under p) e = absurd (true≢false (sym e))
-digit-said c (between p q) e = absurd (true≢false (sym e))
-digit-said c (over p) e = absurd (true≢false (sym e))
+digit-case : (c : ℕ) (at : DigitCase c) → isDigitIn c at ≡ true → digitOf (valueIn c at) ≡ c
+digit-case c (decimal p q) e = sym (digit-low (c - 48) (omega arith)) ∙ omega arith
+digit-case c (letter p q) e = sym (digit-high (c - 55) (omega arith)) ∙ omega arith
+digit-case c (under p) e = absurd (true≢false (sym e))
+digit-case c (between p q) e = absurd (true≢false (sym e))
+digit-case c (over p) e = absurd (true≢false (sym e))
 
 pub digit-value : (c : ℕ) → isDigit c ≡ true → digitOf (valueOf c) ≡ c
-digit-value c e = rw (← value-is c (place c)) (digit-said c (place c) (digit-is c (place c) ∙ e))
+digit-value c e = rw (← value-is c (digit-cases c)) (digit-case c (digit-cases c) (digit-is c (digit-cases c) ∙ e))

@@ -1,7 +1,7 @@
 pub mod DigitLaws
 pub mod SignedLaws
 pub mod TemperatureLaws
-pub mod LayoutLaws
+pub mod FieldLaws
 pub mod WidthLaws
 pub mod LineLaws
 pub mod PutLaws

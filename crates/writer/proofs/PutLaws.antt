@@ -15,7 +15,3 @@ sets-append (x ∷ xs) ys b at =
 pub put-then :
     (b₀ : List ℕ) (at : ℕ) (xs ys : List ℕ) {b₁ b₂ : List ℕ} → b₁ ≡ sets b₀ at xs → b₂ ≡ sets b₁ (at + length xs) ys → b₂ ≡ sets b₀ at (xs ++ ys)
 put-then b₀ at xs ys e₁ e₂ = e₂ ∙ ap (λ (b : List ℕ). sets b (at + length xs) ys) e₁ ∙ sets-append xs ys b₀ at
-
--- a put on what earlier ones left
-pub put-on : (at : ℕ) (ys : List ℕ) {b₁ b b₂ : List ℕ} → b₁ ≡ b → b₂ ≡ sets b₁ at ys → b₂ ≡ sets b at ys
-put-on at ys e₁ e₂ = e₂ ∙ ap (λ (b : List ℕ). sets b at ys) e₁

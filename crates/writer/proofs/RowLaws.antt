@@ -6,7 +6,7 @@ use Rattle.records.specs.Answers.{accepted}
 use lib.Dec.{ltb}
 use lib.ListN.{length}
 use Rattle.frames.specs.Kinds.{among}
-use Rattle.frames.specs.Layout.{lineOf}
+use Rattle.frames.specs.Layout.{frameLine}
 use Rattle.records.specs.Buffer.{putOf}
 use Rattle.records.specs.Ranges.{checked}
 use Rattle.records.specs.declared.Record.{Record}
@@ -22,7 +22,7 @@ write-ranged = record { tree = refl; year = refl; period = refl; level = refl }
 
 text-only : (r : Record) → Only writeRows (textOf r)
 unfolding textOf
-text-only r = onward-only (checked r) (λ _. accepted (lineOf r)) (checked-only write-ranged r) (λ _. accepted-only _)
+text-only r = onward-only (checked r) (λ _. accepted (frameLine r)) (checked-only write-ranged r) (λ _. accepted-only _)
 
 put-only : (text : List ℕ) (room : ℕ) → Only writeRows (putOf text room)
 unfolding among

@@ -8,7 +8,7 @@ use borrow.Author.Tests.{lt-ltb, le-ltb, ltb-false}
 use lib.Dec.{ltb}
 use lib.IntN.{ℤ, pos, negsuc}
 use Rattle.records.specs.Temperature.{signedOf, complementOf, temperatureOut}
-use Rattle.frames.proofs.DigitLaws.{le-or-lt}
+use Rattle.exact.proofs.OrderLaws.{le-or-lt}
 
 signed-low : (n : ℕ) → n < 32768 → signedOf n ≡ pos n
 unfolding signedOf

@@ -1,18 +1,15 @@
 -- A line set at the front of a buffer; a record that is refused first leaves the buffer.
 use Prim.Native.Nat.{ℕ, _≤_}
 use mathlib.Core.Path.{_≡_, sym, ap, _∙_}
-use mathlib.Core.List.{List, [], _++_}
+use mathlib.Core.List.{List, _++_}
 use native.Mathlib.Nat.{zero-add}
 use lib.ListN.{length, drop}
 use lib.Seq.{sets, sets-eq}
 use Rattle.records.specs.Answers.{accepted, refused, rowOf, checkedAs}
-use Rattle.frames.specs.Digits.{number}
-use Rattle.records.specs.Temperature.{complementOf}
-use Rattle.frames.specs.Layout.{soilNumber, lineOf}
+use Rattle.frames.specs.Layout.{frameLine}
 use Rattle.writer.specs.Writer.{textOf}
 use Rattle.records.specs.Buffer.{Prints}
 use Rattle.records.specs.Ranges.{checked}
-use Rattle.records.specs.declared.Hour.{Hour}
 use Rattle.records.specs.declared.Record.{Record}
 use Rattle.records.specs.declared.Refusal.{Refusal}
 use Rattle.records.specs.declared.Checked.{Checked}
@@ -24,13 +21,6 @@ prints-set text b after n e h p =
     let front : sets b 0 text ≡ text ++ drop n b = sets-eq text b 0 (rw (zero-add, e) h) ∙ rw (zero-add, e) in
     prints-whole text b after n e h (p ∙ front)
 
--- the readings' part of an hour's line, as it is written
-pub readings-line : (h : Hour) (b after : List ℕ) (t n : ℕ) → t ≡ complementOf (h .temperature) → n ≡ soilNumber (h .soil)
-    → after ≡ sets (sets (sets (sets b 8 (number (h .ozone) (number (h .ppfd) (number (h .radiation) (number t []))))) 24 (number (h .vpd) [])) 28 (number (h .wind) [])) 32 (number n [])
-    → after ≡ sets b 8 (drop 8 (lineOf (Record.Hour h)))
-unfolding lineOf
-readings-line h b after t n p q e = rw (p, q) at e
-
 -- ---- a record that is checked first
 
 module _ (r : Record) (b : List ℕ) (answer : Checked) (e : checkedAs answer ≡ checked r) where
@@ -40,7 +30,7 @@ module _ (r : Record) (b : List ℕ) (answer : Checked) (e : checkedAs answer �
       let q : checked r ≡ refused (rowOf why) = sym e ∙ ap checkedAs p in
       record { answers = simp q; leaves = simp q }
 
-  pub write-put : (out : Written) (after : List ℕ) → answer ≡ Checked.Sound → Prints (accepted (lineOf r)) b out after → Prints (textOf r) b out after
+  pub write-put : (out : Written) (after : List ℕ) → answer ≡ Checked.Sound → Prints (accepted (frameLine r)) b out after → Prints (textOf r) b out after
   unfolding textOf
   write-put out after p put =
       let q : checked r ≡ accepted tt = sym e ∙ ap checkedAs p in

@@ -9,8 +9,8 @@ use Rattle.trees.specs.declared.Measure.{Measure}
 use Rattle.records.specs.Answers.{accepted, refused}
 use Rattle.records.specs.Buffer.{bufferAfter}
 use Rattle.records.specs.Ranges.{isOutside}
-use Rattle.frames.specs.Layout.{lineOf}
-use Rattle.frames.specs.Frames.{readOf}
+use Rattle.frames.specs.Layout.{frameLine}
+use Rattle.frames.specs.Frames.{readFrameOf}
 use Rattle.frames.specs.Rows.{oneOf}
 use Rattle.writer.specs.Writer.{writeOf}
 use Rattle.records.specs.declared.Soil.{Soil}
@@ -36,9 +36,9 @@ OfMeasure tree (Record.End e) = Unit
 pub record RoundTrip : Type 0 where
   -- a record that the writer accepts is read back as itself
   pub readBack : (r : Record) (buffer : List ℕ) (n tree : ℕ) → InWidth r → OfMeasure tree r → writeOf r (length buffer) ≡ accepted n
-      → readOf tree (take n (bufferAfter (accepted n) (lineOf r) buffer)) ≡ accepted r
+      → readFrameOf tree (take n (bufferAfter (accepted n) (frameLine r) buffer)) ≡ accepted r
   -- a line that is read as a record is written back as the same line
-  pub writtenBack : (tree : ℕ) (l : List ℕ) (r : Record) (buffer : List ℕ) → readOf tree l ≡ accepted r → length l ≤ length buffer
-      → (writeOf r (length buffer) ≡ accepted (length l)) × (bufferAfter (accepted (length l)) (lineOf r) buffer ≡ l ++ drop (length l) buffer)
+  pub writtenBack : (tree : ℕ) (l : List ℕ) (r : Record) (buffer : List ℕ) → readFrameOf tree l ≡ accepted r → length l ≤ length buffer
+      → (writeOf r (length buffer) ≡ accepted (length l)) × (bufferAfter (accepted (length l)) (frameLine r) buffer ≡ l ++ drop (length l) buffer)
   -- the writer answers no other row
   pub writeRows : (r : Record) (room n f : ℕ) → writeOf r room ≡ refused (n, f) → oneOf (5 ∷ 6 ∷ 7 ∷ 8 ∷ 12 ∷ []) n f ≡ true

@@ -5,11 +5,11 @@ use Rattle.records.specs.Answers.{Outcome, accepted, onward}
 use Rattle.records.specs.Buffer.{putOf}
 use Rattle.records.specs.Ranges.{checked}
 use Rattle.records.specs.declared.Record.{Record}
-use Rattle.frames.specs.Layout.{lineOf}
+use Rattle.frames.specs.Layout.{frameLine}
 
 -- a record's line, unless one of rows 5 to 8 or 10 refuses it
 unfoldable pub textOf : Record → Outcome (List ℕ)
-textOf r = onward (checked r) (λ _. accepted (lineOf r))
+textOf r = onward (checked r) (λ _. accepted (frameLine r))
 
 -- what writing it answers, for a buffer of `room` bytes: those rows, then row 12
 unfoldable pub writeOf : Record → ℕ → Outcome ℕ

@@ -2,6 +2,7 @@
 use crate::digits::put_byte;
 use crate::digits::put_four;
 use crate::digits::put_number;
+use crate::digits::put_two;
 use crate::temperature;
 use frames::End;
 use frames::Header;
@@ -10,25 +11,32 @@ use frames::Record;
 use frames::Refusal;
 use frames::Soil;
 use frames::Written;
+use frames::widths::EndLine;
+use frames::widths::HeaderLine;
+use frames::widths::HourLine;
+use frames::widths::KIND;
 ghost use mathlib.Core.Path.{_≡_};
+ghost use mathlib.Core.List.{_∷_};
 ghost use Prim.Native.Nat.{_≤_};
-ghost use lib.ListN.{length, drop};
+ghost use lib.ListN.{length};
 ghost use lib.Seq.{sets};
-ghost use Rattle.frames.specs.Layout.{soilNumber, lineOf};
+ghost use Rattle.frames.specs.Kinds.{one, widthsOf, digitsIn};
+ghost use Rattle.frames.specs.Fields.{digitsOf};
+ghost use Rattle.frames.specs.Layout.{soilNumber, hourNumbers, frameLine};
 ghost use Rattle.records.specs.Answers.{accepted};
 ghost use Rattle.records.specs.Buffer.{Prints};
 ghost use Rattle.records.specs.declared.Record.{Record};
 
 fn put_header(h: Header, buf: &mut [u8]) -> Written
-    ensures { λ r. ⌜ Prints (accepted (lineOf (Record.Header h))) (now (buf .entry)) r (now (buf .exit)) ⌝ }
+    ensures { λ r. ⌜ Prints (accepted (frameLine (Record.Header h))) (now (buf .entry)) r (now (buf .exit)) ⌝ }
 {
-    if buf.len() < 20 {
+    if buf.len() < HeaderLine::DIGITS {
         return Written::Refused(Refusal::Buffer);
     }
-    put_byte(buf, 0, 1);
-    put_byte(buf, 2, h.tree);
-    put_four(buf, 4, h.days, h.first, h.last, h.level);
-    Written::Bytes(20)
+    put_byte(buf, KIND, 1);
+    put_byte(buf, HeaderLine::TREE, h.tree);
+    put_four(buf, HeaderLine::DAYS, h.days, h.first, h.last, h.level);
+    Written::Bytes(HeaderLine::DIGITS)
 }
 
 fn soil_number(soil: Soil) -> u16
@@ -40,47 +48,46 @@ fn soil_number(soil: Soil) -> u16
     }
 }
 
-// The seven readings of an hour's line.
-fn put_readings(h: Hour, buf: &mut [u8])
-    requires { ⌜ 36 ≤ length (now buf) ⌝ }
-    ensures { λ _. ⌜ now (buf .exit) ≡ sets (now (buf .entry)) 8 (drop 8 (lineOf (Record.Hour h))) ⌝ }
+// What a line of any kind of hour begins with: the kind, and the nine numbers of kind 02.
+fn put_hour_fields(kind: u8, h: Hour, buf: &mut [u8])
+    requires { ⌜ digitsIn (widthsOf 2) ≤ length (now buf) ⌝ }
+    ensures { λ _. ⌜ now (buf .exit) ≡ sets (now (buf .entry)) 0 (digitsOf (one ∷ widthsOf 2) (kind ∷ hourNumbers h)) ⌝ }
 {
     let t = temperature::complement(h.temperature);
     let soil = h.soil;
     let n = soil_number(soil);
-    put_four(buf, 8, h.ozone, h.ppfd, h.radiation, t);
-    put_number(buf, 24, h.vpd);
-    put_number(buf, 28, h.wind);
-    put_number(buf, 32, n);
+    put_byte(buf, KIND, kind);
+    put_number(buf, HourLine::DAY, h.day);
+    put_byte(buf, HourLine::HOUR, h.hour);
+    put_four(buf, HourLine::OZONE, h.ozone, h.ppfd, h.radiation, t);
+    put_two(buf, HourLine::VPD, h.vpd, h.wind);
+    put_number(buf, HourLine::SOIL, n);
 }
 
 fn put_hour(h: Hour, buf: &mut [u8]) -> Written
-    ensures { λ r. ⌜ Prints (accepted (lineOf (Record.Hour h))) (now (buf .entry)) r (now (buf .exit)) ⌝ }
+    ensures { λ r. ⌜ Prints (accepted (frameLine (Record.Hour h))) (now (buf .entry)) r (now (buf .exit)) ⌝ }
 {
-    if buf.len() < 36 {
+    if buf.len() < HourLine::DIGITS {
         return Written::Refused(Refusal::Buffer);
     }
-    put_byte(buf, 0, 2);
-    put_number(buf, 2, h.day);
-    put_byte(buf, 6, h.hour);
-    put_readings(h, buf);
-    Written::Bytes(36)
+    put_hour_fields(2, h, buf);
+    Written::Bytes(HourLine::DIGITS)
 }
 
 fn put_end(e: End, buf: &mut [u8]) -> Written
-    ensures { λ r. ⌜ Prints (accepted (lineOf (Record.End e))) (now (buf .entry)) r (now (buf .exit)) ⌝ }
+    ensures { λ r. ⌜ Prints (accepted (frameLine (Record.End e))) (now (buf .entry)) r (now (buf .exit)) ⌝ }
 {
-    if buf.len() < 6 {
+    if buf.len() < EndLine::DIGITS {
         return Written::Refused(Refusal::Buffer);
     }
-    put_byte(buf, 0, 3);
-    put_number(buf, 2, e.hours);
-    Written::Bytes(6)
+    put_byte(buf, KIND, 3);
+    put_number(buf, EndLine::HOURS, e.hours);
+    Written::Bytes(EndLine::DIGITS)
 }
 
 // A record's line, whatever its kind.
 pub(crate) fn put(record: Record, buf: &mut [u8]) -> Written
-    ensures { λ r. ⌜ Prints (accepted (lineOf «record»)) (now (buf .entry)) r (now (buf .exit)) ⌝ }
+    ensures { λ r. ⌜ Prints (accepted (frameLine «record»)) (now (buf .entry)) r (now (buf .exit)) ⌝ }
 {
     match record {
         Record::Header(h) => put_header(h, buf),

@@ -1,6 +1,6 @@
 -- `account::fresh` meets its contract, the season's promise among it.
 use mathlib.Core.Path.{refl}
-use Rattle.book.proofs.RunLaws.{season}
+use Rattle.account_spec.proofs.RunLaws.{season}
 use Rattle.account.proofs.fresh.Statement.{statement}
 use Rattle.account.proofs.fresh.Tie as tie
 

@@ -7,9 +7,9 @@ use Rattle.records.specs.declared.Record.{Record}
 use Rattle.records.specs.declared.Checked.{Checked}
 use Rattle.records.specs.Answers.{Outcome, accepted, onward, checkedAs}
 use Rattle.records.specs.Ranges.{isOutside}
-use Rattle.place.specs.Rules.{placedOf}
-use Rattle.place.proofs.RuleLaws.{headerWith, placed-checked}
-use Rattle.place.proofs.PlaceLaws.{place-promise}
+use Rattle.dates_spec.specs.Rules.{placedOf}
+use Rattle.dates_spec.proofs.RuleLaws.{headerWith, placed-checked}
+use Rattle.dates_spec.proofs.PlaceLaws.{place-promise}
 use Rattle.dates.proofs.header_at.Statement.{statement}
 use Rattle.dates.proofs.header_at.Tie as tie
 

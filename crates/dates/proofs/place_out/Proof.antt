@@ -7,7 +7,7 @@ use borrow.Author.Tests.{lt-ltb, le-ltb, ne-eqb}
 use lib.Dec.{ltb}
 use Rattle.records.specs.Ranges.{isOutside}
 use Rattle.frames.specs.Kinds.{among}
-use Rattle.place.specs.Rules.{placeOut}
+use Rattle.dates_spec.specs.Rules.{placeOut}
 use Rattle.dates.proofs.place_out.Statement.{statement}
 use Rattle.dates.proofs.place_out.Tie as tie
 

@@ -1,18 +1,17 @@
 -- `frames::parse` meets its contract: rows 1 to 3 in order, then the frame.
-use Prim.Native.Nat.{ℕ, _≤_}
+use Prim.Native.Nat.{ℕ}
 use mathlib.Core.Path.{_≡_, sym, ap, _∙_}
 use mathlib.Core.Bool.{true}
 use mathlib.Core.List.{List}
-use native.Mathlib.Omega.{arith}
 use borrow.Author.Tests.{eq-eqb, ne-eqb, not-true, not-false}
 use borrow.Author.Needs.{needs}
 use lib.ListN.{length}
 use Rattle.records.specs.Answers.{accepted}
 use Rattle.frames.specs.Digits.{allDigits, byteAt}
 use Rattle.frames.specs.Kinds.{isLength, lengthOf}
-use Rattle.frames.specs.Values.{Says}
+use Rattle.frames.specs.Steps.{Says}
 use Rattle.frames.specs.Frames.{parsedOf}
-use Rattle.frames.proofs.KindLaws.{length-enough, length-most}
+use Rattle.frames.proofs.KindLaws.{length-ge, length-le}
 use Rattle.frames.proofs.parse.Statement.{statement}
 use Rattle.frames.proofs.parse.Tie as tie
 
@@ -31,11 +30,8 @@ module _ (c : tie.Else1) where
   sized : isLength (length line₁) ≡ true
   sized = sym (c .before .is-length .ensures) ∙ not-false _ (c .if1 .left)
 
-  enough : 6 ≤ length line₁
-  enough = length-enough (length line₁) sized
-
 line-of-requires : tie.Need-line-of-requires
-line-of-requires c κs = length-most (length (line₁ c)) (sized c)
+line-of-requires c κs = length-le (length (line₁ c)) (sized c)
 
 returns-2 : tie.Need-returns-2
 unfolding parsedOf
@@ -49,8 +45,8 @@ module _ (c : tie.Else2) where
   whole : allDigits line₂ ≡ true
   whole = sym (c .before .before .line-of .ensures .0) ∙ not-false _ (c .if2 .left)
 
-  said : Says (c .before .before .line-of .result .values) line₂
-  said = c .before .before .line-of .ensures .1 .1 whole
+  says : Says (c .before .before .line-of .result .values) line₂
+  says = c .before .before .line-of .ensures .1 .1 whole
 
 slice-aggregate-byte-at : tie.Need-slice-aggregate-byte-at
 slice-aggregate-byte-at c = search needs
@@ -66,7 +62,7 @@ module _ (c : tie.After-length-of) where
   line₃ = line₂ (c .before .before .before .before)
 
   span : c .length-of .result ≡ lengthOf (byteAt 0 line₃)
-  span = c .length-of .ensures ∙ ap lengthOf (c .before .byte-at .ensures line₃ (said (c .before .before .before .before)) (omega (arith, enough (c .before .before .before .before .before .before .before))))
+  span = c .length-of .ensures ∙ ap lengthOf (c .before .byte-at .ensures line₃ (says (c .before .before .before .before)) (length-ge (length line₃) (sized (c .before .before .before .before .before .before .before))))
 
 returns-3 : tie.Need-returns-3
 unfolding parsedOf
@@ -88,9 +84,9 @@ returns-4 : tie.Need-returns-4
 unfolding parsedOf
 returns-4 c =
     let e = c .before .before .before in
-    let enough₃ = enough (e .before .before .before .before .before .before .before) in
-    simp (sized (e .before .before .before .before .before .before .before), whole (e .before .before .before .before), eq-eqb (lengthOf (byteAt 0 (line₃ e))) (length (line₃ e)) (fit (c .before .before)))
-    (ap accepted (c .frame-at .ensures (line₃ e) (said (e .before .before .before .before)) enough₃ (fit (c .before .before))))
+    let sized₃ = sized (e .before .before .before .before .before .before .before) in
+    simp (sized₃, whole (e .before .before .before .before), eq-eqb (lengthOf (byteAt 0 (line₃ e))) (length (line₃ e)) (fit (c .before .before)))
+    (ap accepted (c .frame-at .ensures (line₃ e) (says (e .before .before .before .before)) (record { some = sized₃; own = fit (c .before .before) })))
 
 pub parse-spec : {M : Type 1} → statement M
 parse-spec =

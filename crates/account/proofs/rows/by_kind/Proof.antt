@@ -1,7 +1,7 @@
 -- `account::rows::by_kind` meets its contract.
 use mathlib.Core.Path.{sym, _∙_}
 use borrow.Author.Needs.{needs}
-use Rattle.book.specs.Rules.{dueOf}
+use Rattle.account_spec.specs.Rules.{dueOf}
 use Rattle.account.proofs.rows.by_kind.Statement.{statement}
 use Rattle.account.proofs.rows.by_kind.Tie as tie
 

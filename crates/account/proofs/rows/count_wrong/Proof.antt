@@ -13,7 +13,7 @@ all-given-requires : tie.Need-all-given-requires
 all-given-requires c κs = search needs
 
 returns-2 : tie.Need-returns-2
-returns-2 c = simp (eq-eqb _ _ (c .before .if1 .left)) (ap not (c .all-given .ensures))
+returns-2 c = simp (eq-eqb _ _ (c .before .before .before .if1 .left)) (ap not (c .all-given .ensures))
 
 pub count-wrong-spec : {M : Type 1} → statement M
 count-wrong-spec = tie.close (tie.spec returns all-given-requires returns-2)

@@ -1,13 +1,7 @@
 -- `account::rows::decode` meets its contract.
-use mathlib.Core.Path.{sym, ap, _∙_}
 use borrow.Author.Needs.{needs}
-use Rattle.records.specs.Answers.{parsedAs}
-use Rattle.book.specs.Rules.{answerOf}
 use Rattle.account.proofs.rows.decode.Statement.{statement}
 use Rattle.account.proofs.rows.decode.Tie as tie
-
-parse-requires : tie.Need-parse-requires
-parse-requires c κs = search needs
 
 enum-known-parsed : tie.Need-enum-known-parsed
 enum-known-parsed c = search needs
@@ -19,22 +13,10 @@ enum-known-parsed-2 : tie.Need-enum-known-parsed-2
 enum-known-parsed-2 c = search needs
 
 returns : tie.Need-returns
-unfolding answerOf
-returns c =
-    rw (sym (c .before .before .before .before .parse .ensures) ∙ ap parsedAs (c .before .before .parsed .given .1))
-    (c .in-turn .ensures)
+returns c = rw (c .before .before .parsed .given .1) (c .in-turn .ensures)
 
 returns-2 : tie.Need-returns-2
-unfolding answerOf
-returns-2 c = rw (sym (c .before .before .before .parse .ensures) ∙ ap parsedAs (c .before .parsed2 .given .1))
+returns-2 c = rw (c .before .parsed2 .given .1)
 
 pub decode-spec : {M : Type 1} → statement M
-decode-spec =
-    tie.close
-    (tie.spec
-    parse-requires
-    enum-known-parsed
-    in-turn-requires
-    enum-known-parsed-2
-    returns
-    returns-2)
+decode-spec = tie.close (tie.spec enum-known-parsed in-turn-requires enum-known-parsed-2 returns returns-2)

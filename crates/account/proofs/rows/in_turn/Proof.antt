@@ -1,7 +1,7 @@
 -- `account::rows::in_turn` meets its contract.
 use mathlib.Core.Path.{sym, _∙_}
 use borrow.Author.Needs.{needs}
-use Rattle.book.specs.Rules.{turnOf}
+use Rattle.account_spec.specs.Rules.{turnOf}
 use Rattle.account.proofs.rows.in_turn.Statement.{statement}
 use Rattle.account.proofs.rows.in_turn.Tie as tie
 

@@ -2,7 +2,7 @@
 use Prim.Native.Nat.{_≤_}
 use lib.ListN.{length}
 use Rattle.records.proofs.BufferLaws.{printed-within}
-use Rattle.texts.proofs.TextLaws.{part-length}
+use Rattle.report_spec.proofs.TextLaws.{part-length}
 use borrow.Author.Needs.{needs}
 use Rattle.account_cases.proofs.answers.print_line.Statement.{statement}
 use Rattle.account_cases.proofs.answers.print_line.Tie as tie

@@ -1,7 +1,7 @@
 -- `dates::days::first_day` meets its contract.
 use native.Mathlib.Omega.{arith}
 use borrow.Author.Needs.{needs}
-use Rattle.place.proofs.ModelLaws.{firstDay-is}
+use Rattle.dates_spec.proofs.ModelLaws.{firstDay-is}
 use Rattle.dates.proofs.days.first_day.Statement.{statement}
 use Rattle.dates.proofs.days.first_day.Tie as tie
 

@@ -1,7 +1,7 @@
 -- `dates::days::last_day` meets its contract.
 use native.Mathlib.Omega.{arith}
 use borrow.Author.Needs.{needs}
-use Rattle.place.proofs.ModelLaws.{lastDay-is}
+use Rattle.dates_spec.proofs.ModelLaws.{lastDay-is}
 use Rattle.dates.proofs.days.last_day.Statement.{statement}
 use Rattle.dates.proofs.days.last_day.Tie as tie
 

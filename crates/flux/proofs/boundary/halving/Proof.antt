@@ -5,8 +5,8 @@ use mathlib.Core.Logic.{⊎-elim}
 use native.Mathlib.Nat.{mul-le-mul}
 use native.Mathlib.Omega.{arith}
 use borrow.Author.Needs.{needs}
-use Rattle.exact.proofs.SquareLaws.{root-is}
-use Rattle.doses.proofs.BoundaryLaws.{square-small}
+use Rattle.exact.proofs.SquareLaws.{squareRoot-is}
+use Rattle.flux_spec.proofs.BoundaryLaws.{square-small}
 use Rattle.flux.proofs.boundary.halving.Statement.{statement}
 use Rattle.flux.proofs.boundary.halving.Tie as tie
 
@@ -65,7 +65,7 @@ loop-again c =
     (c .if2 .came)
 
 returns : tie.Need-returns Inv-loop μ-loop
-returns c = let at = c .before .loop in let one : at .gap ≡ 1 = omega arith in root-is _ (at .r) (at .inv .under) (rw one at (at .inv .over))
+returns c = let at = c .before .loop in let one : at .gap ≡ 1 = omega arith in squareRoot-is _ (at .r) (at .inv .under) (rw one at (at .inv .over))
 
 pub halving-spec : {M : Type 1} → statement M
 halving-spec =

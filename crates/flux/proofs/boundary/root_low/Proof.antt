@@ -3,7 +3,7 @@ use Prim.Native.Nat.{ℕ, _/_, _≤_, _<_}
 use native.Mathlib.Nat.{div-mul-le-self, mul-le-mul-left}
 use native.Mathlib.Omega.{arith}
 use borrow.Author.Needs.{needs}
-use Rattle.doses.specs.Pair.{rootLow}
+use Rattle.flux_spec.specs.Pair.{rootLow}
 use Rattle.flux.proofs.boundary.root_low.Statement.{statement}
 use Rattle.flux.proofs.boundary.root_low.Tie as tie
 

@@ -3,8 +3,8 @@ use Prim.Native.Nat.{ℕ}
 use native.Mathlib.Omega.{arith}
 use borrow.Author.Needs.{needs}
 use native.Mathlib.Nat.{sub-add-cancel}
-use Rattle.doses.proofs.BoundaryLaws.{square-small, square-pos}
-use Rattle.exact.proofs.SquareLaws.{root-is}
+use Rattle.flux_spec.proofs.BoundaryLaws.{square-small}
+use Rattle.exact.proofs.SquareLaws.{square-pos, squareRoot-is}
 use Rattle.flux.proofs.boundary.tested.Statement.{statement}
 use Rattle.flux.proofs.boundary.tested.Tie as tie
 
@@ -45,7 +45,7 @@ returns-3 : tie.Need-returns-3
 returns-3 c = search needs
 
 returns-4 : tie.Need-returns-4
-returns-4 c = root-is (c .before .before .before .args .n) (c .before .before .before .args .r) (omega arith) (omega arith)
+returns-4 c = squareRoot-is (c .before .before .before .args .n) (c .before .before .before .args .r) (omega arith) (omega arith)
 
 pub tested-spec : {M : Type 1} → statement M
 tested-spec =

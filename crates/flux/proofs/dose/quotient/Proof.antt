@@ -3,7 +3,7 @@ use Prim.Native.Nat.{ℕ, _*_, _≤_}
 use native.Mathlib.Nat.{mul-le-mul}
 use native.Mathlib.Omega.{arith}
 use borrow.Author.Needs.{needs}
-use Rattle.doses.specs.Pair.{quotient}
+use Rattle.flux_spec.specs.Pair.{quotient}
 use Rattle.flux.proofs.dose.quotient.Statement.{statement}
 use Rattle.flux.proofs.dose.quotient.Tie as tie
 

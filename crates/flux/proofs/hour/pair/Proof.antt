@@ -3,8 +3,8 @@ use Prim.Native.Nat.{_+_, _-_}
 use mathlib.Core.Path.{ap, _∙_}
 use native.Mathlib.Omega.{arith}
 use borrow.Author.Needs.{needs}
-use Rattle.doses.specs.Pair.{quotient}
-use Rattle.doses.proofs.BoundaryLaws.{rootLow-200}
+use Rattle.flux_spec.specs.Pair.{quotient}
+use Rattle.flux_spec.proofs.BoundaryLaws.{rootLow-200}
 use Rattle.flux.proofs.hour.pair.Statement.{statement}
 use Rattle.flux.proofs.hour.pair.Tie as tie
 
@@ -30,8 +30,8 @@ returns : tie.Need-returns
 returns c =
     let a = c .before .before .before .before .before .args in
     let root = c .before .before .before .before .root-low .ensures in (
-      c .before .before .less .ensures ∙ ap (λ q. q - 3600) (c .before .before .before .quotient .ensures ∙ ap (λ r. quotient (a .gmax) (a .ozone) (a .s .low) (r + 1) 1) root),
-      c .less2 .ensures ∙ ap (λ q. q - 3599) (c .before .quotient2 .ensures ∙ ap (λ r. quotient (a .gmax) (a .ozone) (a .s .up) r 0) root),
+      c .before .before .less .ensures ∙ ap (λ q. q - 3600) (c .before .before .before .quotient .ensures ∙ ap (λ r. quotient (a .gmax) (a .ozone) (a .s .lower) (r + 1) 1) root),
+      c .less2 .ensures ∙ ap (λ q. q - 3599) (c .before .quotient2 .ensures ∙ ap (λ r. quotient (a .gmax) (a .ozone) (a .s .upper) r 0) root),
     )
 
 pub pair-spec : {M : Type 1} → statement M

@@ -1,11 +1,10 @@
 -- `flux::light::factor` meets its contract: the exponential is at most 1, so its rest is a number, and the lower one is held at 0.
-use mathlib.Core.Logic.{⊎-elim}
 use Prim.Native.Nat.{_*_}
 use native.Mathlib.Omega.{arith}
 use native.Mathlib.Nat.{mul-le-mul}
 use borrow.Author.Needs.{needs}
-use Rattle.doses.specs.Light.{lightLowOf, lightUpOf}
-use Rattle.doses.proofs.DecayLaws.{decayLow-le}
+use Rattle.flux_spec.specs.Light.{lightLowOf, lightUpOf}
+use Rattle.flux_spec.proofs.DecayLaws.{decayLow-le}
 use Rattle.flux.proofs.light.factor.Statement.{statement}
 use Rattle.flux.proofs.light.factor.Tie as tie
 
@@ -21,16 +20,14 @@ sub-upper c = omega (arith, decayLow-le (c .before .args .lighta * c .before .ar
 sub-lower : tie.Need-sub-lower
 sub-lower c = search needs
 
-cast-t6 : tie.Need-cast-t6
-cast-t6 c = ⊎-elim (λ w. omega arith) (λ w. omega arith) (c .before .if1 .came)
-
-cast-t7 : tie.Need-cast-t7
-cast-t7 c = search needs
-
 returns : tie.Need-returns
 unfolding lightLowOf lightUpOf
-returns c = (⊎-elim (λ w. omega arith) (λ w. omega arith) (c .before .if1 .came), omega arith)
+returns c = (omega arith, omega arith)
+
+returns-2 : tie.Need-returns-2
+unfolding lightLowOf lightUpOf
+returns-2 c = (omega arith, omega arith)
 
 pub factor-spec : {M : Type 1} → statement M
 factor-spec =
-    tie.close (tie.spec mul-decay decay-requires sub-upper sub-lower cast-t6 cast-t7 returns)
+    tie.close (tie.spec mul-decay decay-requires sub-upper sub-lower returns returns-2)

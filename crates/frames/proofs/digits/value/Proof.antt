@@ -1,6 +1,6 @@
 -- `frames::digits::value` meets its contract.
 use borrow.Author.Needs.{needs}
-use Rattle.frames.specs.Values.{bitsOf}
+use Rattle.frames.specs.Steps.{bitsOf}
 use Rattle.frames.proofs.digits.value.Statement.{statement}
 use Rattle.frames.proofs.digits.value.Tie as tie
 

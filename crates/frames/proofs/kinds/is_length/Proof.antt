@@ -4,17 +4,17 @@ use mathlib.Core.Path.{_≡_, sym, _∙_}
 use mathlib.Core.List.{_∷_}
 use native.Mathlib.Omega.{arith}
 use borrow.Author.Needs.{needs}
-use lib.ListN.{drop, drop-of-length-le}
+use lib.ListN.{length, drop, drop-of-length-le}
 use Rattle.frames.specs.Kinds.{lengths, among, isLength, lengthOf}
 use Rattle.frames.proofs.KindLaws.{among-found, among-passed, among-none}
 use Rattle.frames.proofs.kinds.is_length.Statement.{statement}
 use Rattle.frames.proofs.kinds.is_length.Tie as tie
 
 abbrev Inv-loop : tie.InvT-loop
-Inv-loop digits kind₀ kind = (1 ≤ kind) × (kind ≤ 4) × (among (drop kind (0 ∷ lengths)) digits ≡ isLength digits)
+Inv-loop digits kind₀ kind = (1 ≤ kind) × (kind ≤ length (0 ∷ lengths)) × (among (drop kind (0 ∷ lengths)) digits ≡ isLength digits)
 
 abbrev μ-loop : tie.MeasureT-loop
-μ-loop digits kind₀ kind = 4 - kind
+μ-loop digits kind₀ kind = length (0 ∷ lengths) - kind
 
 loop-holds : tie.Need-loop-holds Inv-loop μ-loop
 loop-holds c = search needs

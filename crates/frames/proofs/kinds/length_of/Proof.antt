@@ -2,7 +2,7 @@
 use mathlib.Core.Path.{refl}
 use native.Mathlib.Omega.{arith}
 use Rattle.frames.specs.Kinds.{lengthOf}
-use Rattle.frames.proofs.KindLaws.{no-kind}
+use Rattle.frames.proofs.KindLaws.{kind-none}
 use Rattle.frames.proofs.kinds.length_of.Statement.{statement}
 use Rattle.frames.proofs.kinds.length_of.Tie as tie
 
@@ -19,7 +19,7 @@ unfolding lengthOf
 returns-3 c = rw (c .match .keys3) refl
 
 returns-4 : tie.Need-returns-4
-returns-4 c = no-kind _ (omega arith) (omega arith) (omega arith)
+returns-4 c = kind-none _ (λ h. omega arith)
 
 pub length-of-spec : {M : Type 1} → statement M
 length-of-spec = tie.close (tie.spec returns returns-2 returns-3 returns-4)

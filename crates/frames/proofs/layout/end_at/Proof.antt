@@ -1,7 +1,7 @@
 -- `frames::layout::end_at` meets its contract.
 use native.Mathlib.Omega.{arith}
 use borrow.Author.Needs.{needs}
-use Rattle.frames.specs.Layout.{endAt}
+use Rattle.frames.specs.Kinds.{lengthOf}
 use Rattle.frames.proofs.layout.end_at.Statement.{statement}
 use Rattle.frames.proofs.layout.end_at.Tie as tie
 
@@ -9,7 +9,7 @@ number-at-requires : tie.Need-number-at-requires
 number-at-requires c κs = search needs
 
 returns : tie.Need-returns
-unfolding endAt
+unfolding lengthOf
 returns c = λ l says h. let e = c .number-at .ensures l says (omega arith) in cc
 
 pub end-at-spec : {M : Type 1} → statement M

@@ -1,7 +1,7 @@
 -- `frames::layout::header_at` meets its contract.
 use native.Mathlib.Omega.{arith}
 use borrow.Author.Needs.{needs}
-use Rattle.frames.proofs.FrameLaws.{header-read}
+use Rattle.frames.specs.Kinds.{lengthOf}
 use Rattle.frames.proofs.layout.header_at.Statement.{statement}
 use Rattle.frames.proofs.layout.header_at.Tie as tie
 
@@ -21,12 +21,15 @@ number-at-requires-4 : tie.Need-number-at-requires-4
 number-at-requires-4 c κs = search needs
 
 returns : tie.Need-returns
+unfolding lengthOf
 returns c = λ l says h.
-    header-read _ (c .before .before .before .before .byte-at .ensures l says (omega arith))
-    (c .before .before .before .number-at .ensures l says (omega arith))
-    (c .before .before .number-at2 .ensures l says (omega arith))
-    (c .before .number-at3 .ensures l says (omega arith))
-    (c .number-at4 .ensures l says (omega arith))
+    rw (
+      c .before .before .before .before .byte-at .ensures l says (omega arith),
+      c .before .before .before .number-at .ensures l says (omega arith),
+      c .before .before .number-at2 .ensures l says (omega arith),
+      c .before .number-at3 .ensures l says (omega arith),
+      c .number-at4 .ensures l says (omega arith),
+    )
 
 pub header-at-spec : {M : Type 1} → statement M
 header-at-spec =

@@ -1,7 +1,7 @@
 -- `frames::layout::hour_at` meets its contract.
 use native.Mathlib.Omega.{arith}
 use borrow.Author.Needs.{needs}
-use Rattle.frames.proofs.FrameLaws.{hour-read}
+use Rattle.frames.specs.Kinds.{lengthOf}
 use Rattle.frames.proofs.layout.hour_at.Statement.{statement}
 use Rattle.frames.proofs.layout.hour_at.Tie as tie
 
@@ -33,16 +33,19 @@ number-at-requires-8 : tie.Need-number-at-requires-8
 number-at-requires-8 c κs = search needs
 
 returns : tie.Need-returns
+unfolding lengthOf
 returns c = λ l says h.
-    hour-read _ (c .before .before .before .before .before .before .before .before .number-at .ensures l says (omega arith))
-    (c .before .before .before .before .before .before .before .byte-at .ensures l says (omega arith))
-    (c .before .before .before .before .before .before .number-at2 .ensures l says (omega arith))
-    (c .before .before .before .before .before .number-at3 .ensures l says (omega arith))
-    (c .before .before .before .before .number-at4 .ensures l says (omega arith))
-    (c .before .before .before .number-at5 .ensures l says (omega arith))
-    (c .before .before .number-at6 .ensures l says (omega arith))
-    (c .before .number-at7 .ensures l says (omega arith))
-    (c .number-at8 .ensures l says (omega arith))
+    rw (
+      c .before .before .before .before .before .before .before .before .number-at .ensures l says (omega arith),
+      c .before .before .before .before .before .before .before .byte-at .ensures l says (omega arith),
+      c .before .before .before .before .before .before .number-at2 .ensures l says (omega arith),
+      c .before .before .before .before .before .number-at3 .ensures l says (omega arith),
+      c .before .before .before .before .number-at4 .ensures l says (omega arith),
+      c .before .before .before .number-at5 .ensures l says (omega arith),
+      c .before .before .number-at6 .ensures l says (omega arith),
+      c .before .number-at7 .ensures l says (omega arith),
+      c .number-at8 .ensures l says (omega arith),
+    )
 
 pub hour-at-spec : {M : Type 1} → statement M
 hour-at-spec =

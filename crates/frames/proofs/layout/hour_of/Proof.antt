@@ -2,7 +2,7 @@
 use mathlib.Core.Path.{_∙_}
 use borrow.Author.Needs.{needs}
 use Rattle.records.proofs.SignedLaws.{plain}
-use Rattle.frames.proofs.FrameLaws.{hour-said}
+use Rattle.frames.proofs.FrameLaws.{hour-is}
 use Rattle.frames.proofs.layout.hour_of.Statement.{statement}
 use Rattle.frames.proofs.layout.hour_of.Tie as tie
 
@@ -13,7 +13,7 @@ signed-requires : tie.Need-signed-requires
 signed-requires c κs = search needs
 
 returns : tie.Need-returns
-returns c = hour-said _ _ (plain (c .signed .result) (search needs) ∙ c .signed .ensures) (c .before .soil-of .ensures)
+returns c = hour-is _ _ (plain (c .signed .result) (search needs) ∙ c .signed .ensures) (c .before .soil-of .ensures)
 
 pub hour-of-spec : {M : Type 1} → statement M
 hour-of-spec = tie.close (tie.spec soil-of-requires signed-requires returns)

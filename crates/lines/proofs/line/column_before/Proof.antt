@@ -2,7 +2,7 @@
 use mathlib.Core.Path.{ap, _∙_}
 use native.Mathlib.Omega.{arith}
 use borrow.Author.Needs.{needs}
-use Rattle.texts.specs.Text.{decimal}
+use Rattle.report_spec.specs.Text.{decimal}
 use Rattle.lines.proofs.line.column_before.Statement.{statement}
 use Rattle.lines.proofs.line.column_before.Tie as tie
 

@@ -1,6 +1,6 @@
 -- `lines::line::of_month` meets its contract.
 use borrow.Author.Needs.{needs}
-use Rattle.texts.proofs.TextLaws.{month-is}
+use Rattle.report_spec.proofs.TextLaws.{month-is}
 use Rattle.lines.proofs.line.of_month.Statement.{statement}
 use Rattle.lines.proofs.line.of_month.Tie as tie
 

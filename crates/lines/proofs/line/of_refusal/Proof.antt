@@ -1,6 +1,6 @@
 -- `lines::line::of_refusal` meets its contract.
 use borrow.Author.Needs.{needs}
-use Rattle.texts.proofs.TextLaws.{refusal-is}
+use Rattle.report_spec.proofs.TextLaws.{refusal-is}
 use Rattle.lines.proofs.line.of_refusal.Statement.{statement}
 use Rattle.lines.proofs.line.of_refusal.Tie as tie
 

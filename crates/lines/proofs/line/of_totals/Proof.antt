@@ -1,6 +1,6 @@
 -- `lines::line::of_totals` meets its contract.
 use borrow.Author.Needs.{needs}
-use Rattle.texts.proofs.TextLaws.{line-is}
+use Rattle.report_spec.proofs.TextLaws.{line-is}
 use Rattle.lines.proofs.line.of_totals.Statement.{statement}
 use Rattle.lines.proofs.line.of_totals.Tie as tie
 

@@ -2,9 +2,9 @@
 use mathlib.Core.List.{[]}
 use borrow.Author.Needs.{needs}
 use lib.Dec.{lit≤}
-use Rattle.book.specs.declared.Verdict.the-variants.{None, Undecided, Exceeded, Below}
-use Rattle.texts.specs.Line.{wordOf}
-use Rattle.texts.proofs.TextLaws.{word-feed, word-room}
+use Rattle.account_spec.specs.declared.Verdict.the-variants.{None, Undecided, Exceeded, Below}
+use Rattle.report_spec.specs.Line.{wordOf}
+use Rattle.report_spec.proofs.TextLaws.{word-feed, word-room}
 use Rattle.lines.proofs.line.of_verdict.Statement.{statement}
 use Rattle.lines.proofs.line.of_verdict.Tie as tie
 

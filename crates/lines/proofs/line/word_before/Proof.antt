@@ -6,8 +6,8 @@ use native.Mathlib.Omega.{arith}
 use borrow.Author.Needs.{needs}
 use lib.ListN.{length, drop}
 use lib.Seq.{drop-length}
-use Rattle.texts.specs.Text.{textIn, Whole}
-use Rattle.texts.proofs.TextLaws.{word-step}
+use Rattle.report_spec.specs.Steps.{textIn, Whole}
+use Rattle.report_spec.proofs.TextLaws.{word-step}
 use Rattle.lines.proofs.line.word_before.Statement.{statement}
 use Rattle.lines.proofs.line.word_before.Tie as tie
 

@@ -2,7 +2,7 @@
 use native.Mathlib.Omega.{arith}
 use borrow.Author.Needs.{needs}
 use lib.ListN.{length-set}
-use Rattle.texts.proofs.TextLaws.{byte-before}
+use Rattle.report_spec.proofs.TextLaws.{byte-before}
 use Rattle.lines.proofs.text.byte_before.Statement.{statement}
 use Rattle.lines.proofs.text.byte_before.Tie as tie
 

@@ -3,14 +3,15 @@ use Prim.Native.Nat.{_/_}
 use mathlib.Core.Path.{_≡_, sym, ap, _∙_}
 use native.Mathlib.Omega.{arith}
 use borrow.Author.Needs.{needs}
-use Rattle.texts.specs.Text.{decimal, textIn, Whole}
-use Rattle.texts.proofs.DecimalLaws.{decimal-last, decimal-step}
-use Rattle.texts.proofs.TextLaws.{Room, room-start, room-step}
+use Rattle.report_spec.specs.Text.{decimal}
+use Rattle.report_spec.specs.Steps.{textIn, Whole}
+use Rattle.report_spec.proofs.DecimalLaws.{decimal-last, decimal-step}
+use Rattle.report_spec.proofs.TextLaws.{TextRoom, room-start, room-step}
 use Rattle.lines.proofs.text.number_before.Statement.{statement}
 use Rattle.lines.proofs.text.number_before.Tie as tie
 
 abbrev Inv-loop : tie.InvT-loop
-Inv-loop n made₀ left₀ made left = Whole made × Room (made₀ .at) (made .at) left × (decimal left (textIn made) ≡ decimal n (textIn made₀))
+Inv-loop n made₀ left₀ made left = Whole made × TextRoom (made₀ .at) (made .at) left × (decimal left (textIn made) ≡ decimal n (textIn made₀))
 
 abbrev μ-loop : tie.MeasureT-loop
 μ-loop n made₀ left₀ made left = left

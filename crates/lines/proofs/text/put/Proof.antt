@@ -5,9 +5,9 @@ use native.Mathlib.Omega.{arith}
 use borrow.Author.Needs.{needs}
 use lib.ListN.{length, length-drop}
 use lib.Seq.{getD-drop}
-use Rattle.texts.specs.Text.{textIn}
+use Rattle.report_spec.specs.Steps.{textIn}
 use Rattle.records.proofs.BufferLaws.{prints-short}
-use Rattle.texts.proofs.TextLaws.{copied, copied-length, copied-step, prints-done}
+use Rattle.report_spec.proofs.TextLaws.{copied, copied-length, copied-step, prints-done}
 use Rattle.lines.proofs.text.put.Statement.{statement}
 use Rattle.lines.proofs.text.put.Tie as tie
 

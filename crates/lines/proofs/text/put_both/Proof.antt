@@ -6,8 +6,8 @@ use native.Mathlib.Omega.{arith}
 use borrow.Author.Needs.{needs}
 use lib.ListN.{length, length-drop}
 use lib.Seq.{paste, take-all}
-use Rattle.texts.specs.Text.{textIn}
-use Rattle.texts.proofs.TextLaws.{both-short, both-done}
+use Rattle.report_spec.specs.Steps.{textIn}
+use Rattle.report_spec.proofs.TextLaws.{both-short, both-done}
 use Rattle.lines.proofs.text.put_both.Statement.{statement}
 use Rattle.lines.proofs.text.put_both.Tie as tie
 

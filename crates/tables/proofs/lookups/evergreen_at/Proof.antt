@@ -1,19 +1,19 @@
 -- `tables::lookups::evergreen_at` meets its contract: each array passes one computed test, and so does what was cut.
 -- Made by tools/temperature_tables.py.
-use mathlib.Core.Path.{refl}
 use native.Mathlib.Omega.{arith}
 use borrow.Author.Needs.{needs}
-use Rattle.trees.specs.Figures.{evergreen, figuresOf}
+use Rattle.trees.specs.Figures.{evergreen}
 use Rattle.trees.specs.Temperature.{tried, allowed}
 use Rattle.trees.specs.TemperatureTable.{IsTrimmed}
-use Rattle.trees.proofs.TemperatureTrees.{trimmed-table, floor-pair}
-use Rattle.tables.proofs.EntryLaws.{readable, read-pair}
+use Rattle.trees.proofs.SoundLaws.{evergreen-sound}
+use Rattle.trees.proofs.TemperatureTrim.{trimmed-tested, floor-pair}
+use Rattle.tables.proofs.TableEntryLaws.{readable, read-pair}
 use Rattle.tables.proofs.lookups.evergreen_at.Statement.{statement}
 use Rattle.tables.proofs.lookups.evergreen_at.Tie as tie
 
 trimmed : IsTrimmed evergreen 513 889
-unfolding figuresOf tried allowed
-trimmed = trimmed-table 6 evergreen 513 889 refl tt
+unfolding tried allowed
+trimmed = trimmed-tested evergreen 513 889 evergreen-sound tt
 
 floor-of-requires : tie.Need-floor-of-requires
 floor-of-requires c κs = search needs
@@ -27,45 +27,45 @@ floor-of-requires-2 c κs = search needs
 returns-2 : tie.Need-returns-2
 returns-2 c = (floor-pair trimmed (omega arith) (λ first. omega arith) (c .floor-of2 .ensures), trimmed)
 
-slice-aggregate-entry : tie.Need-slice-aggregate-entry
-slice-aggregate-entry c = search needs
+slice-aggregate-table-entry : tie.Need-slice-aggregate-table-entry
+slice-aggregate-table-entry c = search needs
 
-entry-requires : tie.Need-entry-requires
-entry-requires c κs = readable tt (omega arith) (omega arith)
+table-entry-requires : tie.Need-table-entry-requires
+table-entry-requires c κs = readable tt (omega arith) (omega arith)
 
-slice-aggregate-entry-2 : tie.Need-slice-aggregate-entry-2
-slice-aggregate-entry-2 c = search needs
+slice-aggregate-table-entry-2 : tie.Need-slice-aggregate-table-entry-2
+slice-aggregate-table-entry-2 c = search needs
 
-entry-requires-2 : tie.Need-entry-requires-2
-entry-requires-2 c κs = readable tt (omega arith) (omega arith)
+table-entry-requires-2 : tie.Need-table-entry-requires-2
+table-entry-requires-2 c κs = readable tt (omega arith) (omega arith)
 
-slice-aggregate-entry-3 : tie.Need-slice-aggregate-entry-3
-slice-aggregate-entry-3 c = search needs
+slice-aggregate-table-entry-3 : tie.Need-slice-aggregate-table-entry-3
+slice-aggregate-table-entry-3 c = search needs
 
-entry-requires-3 : tie.Need-entry-requires-3
-entry-requires-3 c κs = readable tt (omega arith) (omega arith)
+table-entry-requires-3 : tie.Need-table-entry-requires-3
+table-entry-requires-3 c κs = readable tt (omega arith) (omega arith)
 
-slice-aggregate-entry-4 : tie.Need-slice-aggregate-entry-4
-slice-aggregate-entry-4 c = search needs
+slice-aggregate-table-entry-4 : tie.Need-slice-aggregate-table-entry-4
+slice-aggregate-table-entry-4 c = search needs
 
-entry-requires-4 : tie.Need-entry-requires-4
-entry-requires-4 c κs = readable tt (omega arith) (omega arith)
+table-entry-requires-4 : tie.Need-table-entry-requires-4
+table-entry-requires-4 c κs = readable tt (omega arith) (omega arith)
 
 returns-3 : tie.Need-returns-3
-unfolding figuresOf tried allowed
-returns-3 c = (read-pair 6 evergreen refl (c .entry .ensures) tt, trimmed)
+unfolding tried allowed
+returns-3 c = (read-pair evergreen-sound (c .table-entry .ensures) tt, trimmed)
 
 returns-4 : tie.Need-returns-4
-unfolding figuresOf tried allowed
-returns-4 c = (read-pair 6 evergreen refl (c .entry2 .ensures) tt, trimmed)
+unfolding tried allowed
+returns-4 c = (read-pair evergreen-sound (c .table-entry2 .ensures) tt, trimmed)
 
 returns-5 : tie.Need-returns-5
-unfolding figuresOf tried allowed
-returns-5 c = (read-pair 6 evergreen refl (c .entry3 .ensures) tt, trimmed)
+unfolding tried allowed
+returns-5 c = (read-pair evergreen-sound (c .table-entry3 .ensures) tt, trimmed)
 
 returns-6 : tie.Need-returns-6
-unfolding figuresOf tried allowed
-returns-6 c = (read-pair 6 evergreen refl (c .entry4 .ensures) tt, trimmed)
+unfolding tried allowed
+returns-6 c = (read-pair evergreen-sound (c .table-entry4 .ensures) tt, trimmed)
 
 pub evergreen-at-spec : {M : Type 1} → statement M
 evergreen-at-spec =
@@ -75,14 +75,14 @@ evergreen-at-spec =
     returns
     floor-of-requires-2
     returns-2
-    slice-aggregate-entry
-    entry-requires
-    slice-aggregate-entry-2
-    entry-requires-2
-    slice-aggregate-entry-3
-    entry-requires-3
-    slice-aggregate-entry-4
-    entry-requires-4
+    slice-aggregate-table-entry
+    table-entry-requires
+    slice-aggregate-table-entry-2
+    table-entry-requires-2
+    slice-aggregate-table-entry-3
+    table-entry-requires-3
+    slice-aggregate-table-entry-4
+    table-entry-requires-4
     returns-3
     returns-4
     returns-5

@@ -1,19 +1,15 @@
 -- `writer::writing::put_end` meets its contract.
 use mathlib.Core.Path.{refl}
-use mathlib.Core.List.{[]}
 use native.Mathlib.Omega.{arith}
-use denote.Ref.{now}
 use borrow.Author.Needs.{needs}
-use Rattle.frames.specs.Digits.{byte, number}
-use Rattle.frames.specs.Layout.{lineOf}
-use Rattle.writer.proofs.PutLaws.{put-then}
+use Rattle.frames.specs.Layout.{frameLine}
 use Rattle.records.proofs.BufferLaws.{prints-short}
 use Rattle.writer.proofs.WriterLaws.{prints-set}
 use Rattle.writer.proofs.writing.put_end.Statement.{statement}
 use Rattle.writer.proofs.writing.put_end.Tie as tie
 
 returns : tie.Need-returns
-unfolding lineOf
+unfolding frameLine
 returns c = prints-short _ _ (omega arith)
 
 put-byte-requires : tie.Need-put-byte-requires
@@ -26,11 +22,8 @@ same-length : tie.Need-same-length
 same-length c = search needs
 
 returns-2 : tie.Need-returns-2
-unfolding lineOf
-returns-2 c =
-    let a = c .before .before .before .before .before .before .before .before .before .before .args in
-    prints-set _ _ _ _ refl (omega arith)
-    (put-then (now (a .buf)) 0 (byte 3 []) (number (a .e .hours) []) (c .before .before .before .before .before .before .put-byte .ensures) (c .before .before .put-number .ensures))
+unfolding frameLine
+returns-2 c = prints-set _ _ _ _ refl (omega arith) (rw (c .before .before .put-number .ensures, c .before .before .before .before .before .before .put-byte .ensures))
 
 pub put-end-spec : {M : Type 1} → statement M
 put-end-spec =

@@ -1,19 +1,15 @@
 -- `writer::writing::put_header` meets its contract.
 use mathlib.Core.Path.{refl}
-use mathlib.Core.List.{[]}
 use native.Mathlib.Omega.{arith}
-use denote.Ref.{now}
 use borrow.Author.Needs.{needs}
-use Rattle.frames.specs.Digits.{byte, number}
-use Rattle.frames.specs.Layout.{lineOf}
-use Rattle.writer.proofs.PutLaws.{put-then}
+use Rattle.frames.specs.Layout.{frameLine}
 use Rattle.records.proofs.BufferLaws.{prints-short}
 use Rattle.writer.proofs.WriterLaws.{prints-set}
 use Rattle.writer.proofs.writing.put_header.Statement.{statement}
 use Rattle.writer.proofs.writing.put_header.Tie as tie
 
 returns : tie.Need-returns
-unfolding lineOf
+unfolding frameLine
 returns c = prints-short _ _ (omega arith)
 
 put-byte-requires : tie.Need-put-byte-requires
@@ -29,14 +25,8 @@ same-length : tie.Need-same-length
 same-length c = search needs
 
 returns-2 : tie.Need-returns-2
-unfolding lineOf
-returns-2 c =
-    let a = c .before .before .before .before .before .before .before .before .before .before .before .before .before .before .args in
-    let b = now (a .buf) in
-    let h = a .h in
-    let two = put-then b 0 (byte 1 []) (byte (h .tree) []) (c .before .before .before .before .before .before .before .before .before .before .put-byte .ensures) (c .before .before .before .before .before .before .put-byte2 .ensures) in
-    prints-set _ _ _ _ refl (omega arith)
-    (put-then b 0 (byte 1 (byte (h .tree) [])) (number (h .days) (number (h .first) (number (h .last) (number (h .level) [])))) two (c .before .before .put-four .ensures))
+unfolding frameLine
+returns-2 c = prints-set _ _ _ _ refl (omega arith) (rw (c .before .before .put-four .ensures, c .before .before .before .before .before .before .put-byte2 .ensures, c .before .before .before .before .before .before .before .before .before .before .put-byte .ensures))
 
 pub put-header-spec : {M : Type 1} → statement M
 put-header-spec =

@@ -1,0 +1,71 @@
+-- `account::adding::add_hour` meets its contract: what `Room` leaves is enough for another hour.
+use Prim.Native.Nat.{_≤_}
+use native.Mathlib.Omega.{arith}
+use borrow.Author.Needs.{needs}
+use borrow.Author.Tests.{lt-ltb, le-ltb}
+use Rattle.records.specs.declared.Hour.{Hour}
+use Rattle.account_spec.specs.declared.Account.{Account}
+use Rattle.account_spec.specs.Limits.{mostHour}
+use Rattle.account_spec.specs.Hours.{noneCarried}
+use Rattle.account_spec.proofs.HourLaws.{pair-sized}
+use Rattle.account.proofs.AddingLaws.{counted-hour, uncounted-hour}
+use Rattle.account.proofs.adding.add_hour.Statement.{statement}
+use Rattle.account.proofs.adding.add_hour.Tie as tie
+
+add-sums : tie.Need-add-sums
+add-sums c = search needs
+
+pair-of-requires : tie.Need-pair-of-requires
+pair-of-requires c κs = search needs
+
+module _ (c : tie.After-pair-of) where
+  abbrev account : Account
+  account = c .before .before .before .before .before .before .args .a
+
+  abbrev hour : Hour
+  hour = c .before .before .before .before .before .before .args .h
+
+  lower-le : c .pair-of .result .lower ≤ mostHour (account .season)
+  lower-le = let sized = pair-sized (account .season) noneCarried hour in rw (c .pair-of .ensures) (omega arith)
+
+  upper-le : c .pair-of .result .upper ≤ mostHour (account .season)
+  upper-le = let sized = pair-sized (account .season) noneCarried hour in rw (c .pair-of .ensures) (omega arith)
+
+add-sums-2 : tie.Need-add-sums-2
+add-sums-2 c = search needs
+
+add-sums-3 : tie.Need-add-sums-3
+add-sums-3 c = omega (arith, lower-le (c .before .before .before))
+
+add-sums-4 : tie.Need-add-sums-4
+add-sums-4 c = omega (arith, upper-le (c .before .before .before .before .before))
+
+excess-requires : tie.Need-excess-requires
+excess-requires c κs = search needs
+
+add-sums-5 : tie.Need-add-sums-5
+add-sums-5 c = search needs
+
+returns : tie.Need-returns
+returns c =
+    let paired = c .before .before .before .before .before .before .before in
+    counted-hour (account paired) (hour paired) (lt-ltb 50 _ (paired .before .if1 .taken)) _ _ (paired .pair-of .ensures) (c .before .excess .ensures .0)
+
+returns-2 : tie.Need-returns-2
+returns-2 c =
+    let args = c .before .before .before .before .before .args in
+    uncounted-hour (args .a) (args .h) (le-ltb 50 _ (c .if1 .left))
+
+pub add-hour-spec : {M : Type 1} → statement M
+add-hour-spec =
+    tie.close
+    (tie.spec
+    add-sums
+    pair-of-requires
+    add-sums-2
+    add-sums-3
+    add-sums-4
+    excess-requires
+    add-sums-5
+    returns
+    returns-2)

@@ -1,0 +1,49 @@
+-- `account::adding::enter` meets its contract.
+use borrow.Author.Needs.{needs}
+use Rattle.account_spec.specs.Rules.{entered}
+use Rattle.account.proofs.adding.enter.Statement.{statement}
+use Rattle.account.proofs.adding.enter.Tie as tie
+
+enum-known-record : tie.Need-enum-known-record
+enum-known-record c = search needs
+
+open-requires : tie.Need-open-requires
+open-requires c κs = search needs
+
+enum-known-record-2 : tie.Need-enum-known-record-2
+enum-known-record-2 c = search needs
+
+add-hour-requires : tie.Need-add-hour-requires
+add-hour-requires c κs = search needs
+
+enum-told : tie.Need-enum-told
+enum-told c = search needs
+
+end-requires : tie.Need-end-requires
+end-requires c κs = search needs
+
+returns : tie.Need-returns
+unfolding entered
+returns c = rw (c .before .before .«record» .given .1) (c .«open» .ensures)
+
+returns-2 : tie.Need-returns-2
+unfolding entered
+returns-2 c = rw (c .before .before .record2 .given .1) (c .add-hour .ensures)
+
+returns-3 : tie.Need-returns-3
+unfolding entered
+returns-3 c = rw (c .before .enum-told .given .1) (c .end .ensures)
+
+pub enter-spec : {M : Type 1} → statement M
+enter-spec =
+    tie.close
+    (tie.spec
+    enum-known-record
+    open-requires
+    enum-known-record-2
+    add-hour-requires
+    enum-told
+    end-requires
+    returns
+    returns-2
+    returns-3)

@@ -1,0 +1,102 @@
+// What an accepted record adds to an account (document 01, "Account").
+use crate::Account;
+use crate::Phase;
+use crate::Season;
+use crate::Sums;
+use exact::Bounds;
+use flux::Dosed;
+use frames::Header;
+use frames::Hour;
+use frames::Record;
+ghost use Prim.Native.Nat.{_<_};
+ghost use mathlib.Core.Path.{_≡_};
+ghost use Rattle.flux_spec.specs.Dose.{excess};
+ghost use Rattle.account_spec.specs.Hours.{noneCarried, pairOf};
+ghost use Rattle.account_spec.specs.Rules.{opened, withHour, ended, entered};
+ghost use Rattle.account_spec.specs.Steps.{Room};
+
+// The pair of an hour; 0 and 0 where `hour_dose` refuses it.
+fn pair_of(season: Season, h: Hour) -> Bounds
+    ensures { λ r. ⌜ r ≡ pairOf season noneCarried h ⌝ }
+{
+    let header = season.header;
+    let dose = flux::hour_dose(header.tree, header.first, header.last, h);
+    match dose {
+        Dosed::Pair(pair) => pair,
+        Dosed::Refused(_) => Bounds { lower: 0, upper: 0 },
+    }
+}
+
+// max(ozone - 400, 0)
+fn excess(h: Hour) -> u32
+    ensures is { λ r. ⌜ r ≡ excess h ⌝ }
+    ensures small { λ r. ⌜ r < 65536 ⌝ }
+{
+    if 400 < h.ozone {
+        (h.ozone - 400) as u32
+    } else {
+        0
+    }
+}
+
+fn open(header: Header) -> Account
+    ensures { λ r. ⌜ r ≡ opened header ⌝ }
+{
+    Account {
+        phase: Phase::Open,
+        season: Season { header: header },
+        sums: Sums {
+            hours: 0,
+            counted: 0,
+            lower: 0,
+            upper: 0,
+            aot40: 0,
+        },
+    }
+}
+
+// An hour is counted if G > 50.
+fn add_hour(a: Account, h: Hour) -> Account
+    requires room { ⌜ Room a ⌝ }
+    ensures { λ r. ⌜ r ≡ withHour a h ⌝ }
+{
+    let phase = a.phase;
+    let season = a.season;
+    let mut sums = a.sums;
+    sums.hours = sums.hours + 1;
+    if 50 < h.radiation {
+        let pair = pair_of(season, h);
+        sums.counted = sums.counted + 1;
+        sums.lower = sums.lower + pair.lower;
+        sums.upper = sums.upper + pair.upper;
+        sums.aot40 = sums.aot40 + excess(h);
+    }
+    Account {
+        phase: phase,
+        season: season,
+        sums: sums,
+    }
+}
+
+fn end(a: Account) -> Account
+    ensures { λ r. ⌜ r ≡ ended a ⌝ }
+{
+    let season = a.season;
+    let sums = a.sums;
+    Account {
+        phase: Phase::Closed,
+        season: season,
+        sums: sums,
+    }
+}
+
+pub(crate) fn enter(a: Account, record: Record) -> Account
+    requires room { ⌜ Room a ⌝ }
+    ensures { λ r. ⌜ r ≡ entered a «record» ⌝ }
+{
+    match record {
+        Record::Header(h) => open(h),
+        Record::Hour(h) => add_hour(a, h),
+        Record::End(_) => end(a),
+    }
+}

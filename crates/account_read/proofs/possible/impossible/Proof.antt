@@ -1,0 +1,101 @@
+-- `account_read::possible::impossible` meets its contract: condition by condition, what is left of row 13 is the answer.
+use mathlib.Core.Path.{_≡_, sym, ap, _∙_}
+use mathlib.Core.Bool.{not, _&&_, _||_}
+use native.Mathlib.Omega.{arith}
+use borrow.Author.Needs.{needs}
+use borrow.Author.Tests.{lt-ltb, le-ltb}
+use lib.Dec.{ltb}
+use Rattle.records.specs.Period.{periodHours}
+use Rattle.account_spec.specs.declared.Account.{Account}
+use Rattle.account_spec.specs.Account.{isBegun, isBroken, impossible}
+use Rattle.account_spec.proofs.PossibleLaws.{byPhase, fresh-is, open-is, closed-is, sums-first}
+use Rattle.account_read.proofs.possible.impossible.Statement.{statement}
+use Rattle.account_read.proofs.possible.impossible.Tie as tie
+
+sums-out-requires : tie.Need-sums-out-requires
+sums-out-requires c κs = search needs
+
+returns : tie.Need-returns
+returns c = rw (sym (c .before .sums-out .ensures) ∙ c .if1 .taken) at (sums-first (c .before .before .before .before .args .a))
+
+module _ (c : tie.Else1) where
+  abbrev account1 : Account
+  account1 = c .before .before .before .before .args .a
+
+  past1 : ((isBegun (account1 .phase) && isBroken (account1 .season)) || (ltb (periodHours (account1 .season .header)) (account1 .sums .hours) || byPhase account1)) ≡ impossible account1
+  past1 = rw (sym (c .before .sums-out .ensures) ∙ c .if1 .left) at (sums-first account1)
+
+begun-broken-requires : tie.Need-begun-broken-requires
+begun-broken-requires c κs = search needs
+
+returns-2 : tie.Need-returns-2
+returns-2 c = rw (sym (c .before .begun-broken .ensures) ∙ c .if2 .taken) at (past1 (c .before .before))
+
+module _ (c : tie.Else2) where
+  abbrev account2 : Account
+  account2 = account1 (c .before .before)
+
+  past2 : (ltb (periodHours (account2 .season .header)) (account2 .sums .hours) || byPhase account2) ≡ impossible account2
+  past2 = rw (sym (c .before .begun-broken .ensures) ∙ c .if2 .left) at (past1 (c .before .before))
+
+period-hours-requires : tie.Need-period-hours-requires
+period-hours-requires c κs = search needs
+
+cast-if3 : tie.Need-cast-if3
+cast-if3 c = search needs
+
+returns-3 : tie.Need-returns-3
+returns-3 c =
+    let a = account2 (c .before .before .before .before) in
+    rw (lt-ltb (periodHours (a .season .header)) (a .sums .hours) (omega arith)) at (past2 (c .before .before .before .before))
+
+module _ (c : tie.Else3) where
+  abbrev account3 : Account
+  account3 = account2 (c .before .before .before .before)
+
+  past3 : byPhase account3 ≡ impossible account3
+  past3 = rw (le-ltb (periodHours (account3 .season .header)) (account3 .sums .hours) (omega arith)) at (past2 (c .before .before .before .before))
+
+enum-told : tie.Need-enum-told
+enum-told c = search needs
+
+blank-requires : tie.Need-blank-requires
+blank-requires c κs = search needs
+
+enum-told-2 : tie.Need-enum-told-2
+enum-told-2 c = search needs
+
+enum-told-3 : tie.Need-enum-told-3
+enum-told-3 c = search needs
+
+all-given-requires : tie.Need-all-given-requires
+all-given-requires c κs = search needs
+
+returns-4 : tie.Need-returns-4
+returns-4 c = ap not (c .blank .ensures) ∙ fresh-is (account3 (c .before .before .before)) (c .before .enum-told .given .1) ∙ past3 (c .before .before .before)
+
+returns-5 : tie.Need-returns-5
+returns-5 c = open-is (account3 (c .before .before)) (c .enum-told2 .given .1) ∙ past3 (c .before .before)
+
+returns-6 : tie.Need-returns-6
+returns-6 c = ap not (c .all-given .ensures) ∙ closed-is (account3 (c .before .before .before)) (c .before .enum-told3 .given .1) ∙ past3 (c .before .before .before)
+
+pub impossible-spec : {M : Type 1} → statement M
+impossible-spec =
+    tie.close
+    (tie.spec
+    sums-out-requires
+    returns
+    begun-broken-requires
+    returns-2
+    period-hours-requires
+    cast-if3
+    returns-3
+    enum-told
+    blank-requires
+    enum-told-2
+    enum-told-3
+    all-given-requires
+    returns-4
+    returns-5
+    returns-6)

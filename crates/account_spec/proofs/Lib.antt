@@ -1,0 +1,10 @@
+pub mod SumsLaws
+pub mod PossibleLaws
+pub mod RuleLaws
+pub mod HourLaws
+pub mod EnclosedLaws
+pub mod BookLaws
+pub mod TurnLaws
+pub mod VerdictLaws
+pub mod SeasonLaws
+pub mod RunLaws

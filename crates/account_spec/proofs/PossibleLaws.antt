@@ -1,0 +1,165 @@
+-- An account that row 13 lets pass: what each of the row's conditions says of it, and that it has room for another hour.
+use Prim.Native.Nat.{_+_, _-_, _*_, _≤_}
+use mathlib.Core.Path.{_≡_, refl, sym, ap}
+use mathlib.Core.Bool.{Bool, true, false, not, true≢false, false≢true, or-false, or-true, _&&_, _||_}
+use native.Mathlib.Nat.{mul-le-mul-left}
+use native.Mathlib.Omega.{arith}
+use lib.Dec.{eqb, ltb}
+use borrow.Author.Tests.{ltb-false, le-ltb, eqb-true, not-false}
+use Rattle.records.specs.declared.Record.{Record}
+use Rattle.records.specs.Answers.{Outcome, accepted, refused}
+use Rattle.records.specs.Ranges.{checked}
+use Rattle.records.specs.Period.{periodHours, allGiven}
+use Rattle.records.proofs.AnswerLaws.{and-both, or-neither}
+use Rattle.frames.proofs.RangeLaws.{checked-passed}
+use Rattle.account_spec.specs.declared.Phase.the-variants.{Fresh, Open, Closed}
+use Rattle.account_spec.specs.declared.Season.{Season}
+use Rattle.account_spec.specs.declared.Sums.{Sums}
+use Rattle.account_spec.specs.declared.Account.{Account}
+use Rattle.account_spec.specs.Limits.{mostHour, gapEach, mostAot40}
+use Rattle.account_spec.specs.Account.{isFresh, isClosed, isBegun, isRefused, isBroken, allZero, seasonNumbers, isBlank, anyOf, sumsOut, impossible}
+use Rattle.account_spec.specs.Steps.{Room}
+
+-- sums that hours can give
+pub record SumsIn (season : Season) (s : Sums) : Type 0 where
+  pub counted : s .counted ≤ s .hours
+  pub order : s .lower ≤ s .upper
+  pub most : s .upper ≤ mostHour season * s .counted
+  pub gap : s .upper ≤ s .lower + gapEach season * s .counted
+  pub aot40 : s .aot40 ≤ mostAot40 season * s .counted
+
+pub record Possible (a : Account) : Type 0 where
+  pub header : isBegun (a .phase) ≡ true → checked (Record.Header (a .season .header)) ≡ accepted tt
+  pub hours : a .sums .hours ≤ periodHours (a .season .header)
+  pub sums : SumsIn (a .season) (a .sums)
+  pub blank : isFresh (a .phase) ≡ true → isBlank a ≡ true
+  pub given : isClosed (a .phase) ≡ true → allGiven (a .season .header) (a .sums .hours) ≡ true
+
+-- ---- tests
+
+and-false : (a b : Bool) → (a && b) ≡ false → a ≡ true → b ≡ false
+and-false true b e h = e
+and-false false b e h = absurd (false≢true h)
+
+false-and : (a b : Bool) → (a ≡ true → b ≡ false) → (a && b) ≡ false
+false-and true b f = f refl
+false-and false b f = refl
+
+accepted-is : (o : Outcome Unit) → isRefused o ≡ false → o ≡ accepted tt
+accepted-is (accepted u) e = refl
+accepted-is (refused w) e = absurd (true≢false e)
+
+-- ---- row 13, the sums first
+
+-- the last two conditions, by the phase
+abbrev pub byPhase : Account → Bool
+byPhase a = isFresh (a .phase) && not (isBlank a) || isClosed (a .phase) && not (allGiven (a .season .header) (a .sums .hours))
+
+pub fresh-is : (a : Account) → a .phase ≡ Fresh → not (isBlank a) ≡ byPhase a
+fresh-is a e = rw e (sym (or-false (not (isBlank a))))
+
+pub open-is : (a : Account) → a .phase ≡ Open → false ≡ byPhase a
+open-is a e = rw e
+
+pub closed-is : (a : Account) → a .phase ≡ Closed → not (allGiven (a .season .header) (a .sums .hours)) ≡ byPhase a
+closed-is a e = rw e
+
+third-first : (b p s x y : Bool) → (s || (b || (p || (x || y)))) ≡ (b || p || s || x || y)
+third-first true p s x y = or-true s
+third-first false true s x y = or-true s
+third-first false false true x y = refl
+third-first false false false x y = refl
+
+pub sums-first : (a : Account) →
+    (anyOf (sumsOut (a .season) (a .sums)) || ((isBegun (a .phase) && isBroken (a .season)) || (ltb (periodHours (a .season .header)) (a .sums .hours) || byPhase a)))
+    ≡ impossible a
+unfolding impossible
+sums-first a =
+    third-first (isBegun (a .phase) && isBroken (a .season)) (ltb (periodHours (a .season .header)) (a .sums .hours)) (anyOf (sumsOut (a .season) (a .sums)))
+    (isFresh (a .phase) && not (isBlank a)) (isClosed (a .phase) && not (allGiven (a .season .header) (a .sums .hours)))
+
+-- ---- row 13, one condition after the other
+
+module _ (season : Season) (s : Sums) where
+  sums-in : anyOf (sumsOut season s) ≡ false → SumsIn season s
+  sums-in e =
+      let counted = or-neither (ltb (s .hours) (s .counted)) _ e in
+      let order = or-neither (ltb (s .upper) (s .lower)) _ (counted .1) in
+      let most = or-neither (ltb (mostHour season * s .counted) (s .upper)) _ (order .1) in
+      let gap = or-neither (ltb (gapEach season * s .counted) (s .upper - s .lower)) _ (most .1) in
+      let aot40 = or-neither (ltb (mostAot40 season * s .counted) (s .aot40)) _ (gap .1) in
+      let near = ltb-false (gapEach season * s .counted) (s .upper - s .lower) (gap .0) in
+      record {
+        counted = ltb-false _ _ (counted .0);
+        order = ltb-false _ _ (order .0);
+        most = ltb-false _ _ (most .0);
+        gap = omega (arith, near);
+        aot40 = ltb-false _ _ (aot40 .0);
+      }
+
+  in-sums : SumsIn season s → anyOf (sumsOut season s) ≡ false
+  in-sums p =
+      simp (
+        le-ltb (s .hours) (s .counted) (p .counted),
+        le-ltb (s .upper) (s .lower) (p .order),
+        le-ltb (mostHour season * s .counted) (s .upper) (p .most),
+        le-ltb (gapEach season * s .counted) (s .upper - s .lower) (omega arith),
+        le-ltb (mostAot40 season * s .counted) (s .aot40) (p .aot40),
+      )
+
+module _ (a : Account) where
+  pub possible-is : impossible a ≡ false → Possible a
+  unfolding impossible
+  possible-is e =
+      let given = or-neither _ (isClosed (a .phase) && not (allGiven (a .season .header) (a .sums .hours))) e in
+      let blank = or-neither _ (isFresh (a .phase) && not (isBlank a)) (given .0) in
+      let sums = or-neither _ (anyOf (sumsOut (a .season) (a .sums))) (blank .0) in
+      let hours = or-neither (isBegun (a .phase) && isBroken (a .season)) (ltb (periodHours (a .season .header)) (a .sums .hours)) (sums .0) in
+      record {
+        header = λ h. accepted-is (checked (Record.Header (a .season .header))) (and-false (isBegun (a .phase)) _ (hours .0) h);
+        hours = ltb-false _ _ (hours .1);
+        sums = sums-in (a .season) (a .sums) (sums .1);
+        blank = λ h. not-false (isBlank a) (and-false (isFresh (a .phase)) _ (blank .1) h);
+        given = λ h. not-false (allGiven (a .season .header) (a .sums .hours)) (and-false (isClosed (a .phase)) _ (given .1) h);
+      }
+
+  pub possible-false : Possible a → impossible a ≡ false
+  unfolding impossible
+  possible-false p =
+      simp (
+        false-and (isBegun (a .phase)) (isBroken (a .season)) (λ h. ap isRefused (p .header h)),
+        le-ltb (periodHours (a .season .header)) (a .sums .hours) (p .hours),
+        in-sums (a .season) (a .sums) (p .sums),
+        false-and (isFresh (a .phase)) (not (isBlank a)) (λ h. ap not (p .blank h)),
+        false-and (isClosed (a .phase)) (not (allGiven (a .season .header) (a .sums .hours))) (λ h. ap not (p .given h)),
+      )
+
+-- ---- room: a header that rows 5 to 8 let pass has a period of a year at most
+
+blank-last : (a : Account) → isBlank a ≡ true → a .season .header .last ≡ 0
+blank-last a e =
+    let h = a .season .header in
+    let season = and-both (allZero (seasonNumbers (a .season))) _ e in
+    let tree = and-both (eqb (h .tree) 0) _ (season .0) in
+    let days = and-both (eqb (h .days) 0) _ (tree .1) in
+    let first = and-both (eqb (h .first) 0) _ (days .1) in
+    eqb-true (h .last) 0 (and-both (eqb (h .last) 0) _ (first .1) .0)
+
+period-le : (a : Account) → Possible a → (fresh : Bool) → isFresh (a .phase) ≡ fresh → periodHours (a .season .header) ≤ 8784
+period-le a p true e = omega (arith, blank-last a (p .blank e))
+period-le a p false e =
+    let range = checked-passed (Record.Header (a .season .header)) (p .header (ap not e)) in
+    omega arith
+
+pub room-is : (a : Account) → impossible a ≡ false → Room a
+room-is a e =
+    let p = possible-is a e in
+    let period = period-le a p (isFresh (a .phase)) refl in
+    let counted : a .sums .counted ≤ 8784 = omega arith in
+    record {
+      hours = omega arith;
+      counted = counted;
+      lower = omega (arith, mul-le-mul-left (mostHour (a .season)) counted);
+      upper = omega (arith, mul-le-mul-left (mostHour (a .season)) counted);
+      aot40 = omega (arith, mul-le-mul-left (mostAot40 (a .season)) counted);
+    }

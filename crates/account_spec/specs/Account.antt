@@ -1,0 +1,83 @@
+-- The account, and row 13 (document 01, "Account" and "Turned-back lines").
+use Prim.Native.Nat.{ℕ, _-_, _*_}
+use mathlib.Core.Bool.{Bool, true, false, not, _&&_, _||_}
+use mathlib.Core.List.{List, [], _∷_}
+use lib.Dec.{eqb, ltb}
+use Rattle.records.specs.declared.Record.{Record}
+use Rattle.records.specs.Answers.{Outcome, accepted, refused}
+use Rattle.records.specs.Ranges.{checked}
+use Rattle.records.specs.Period.{periodHours, allGiven}
+use Rattle.account_spec.specs.declared.Phase.{Phase}
+use Rattle.account_spec.specs.declared.Phase.the-variants.{Fresh, Open, Closed}
+use Rattle.account_spec.specs.declared.Season.{Season}
+use Rattle.account_spec.specs.declared.Sums.{Sums}
+use Rattle.account_spec.specs.declared.Account.{Account}
+use Rattle.account_spec.specs.Limits.{mostHour, gapEach, mostAot40}
+use Rattle.account_spec.specs.Hours.{noSums}
+
+-- the fresh account: header fields and figures 0
+abbrev pub noSeason : Season
+noSeason = record { header = record { tree = 0; days = 0; first = 0; last = 0; level = 0 } }
+
+abbrev pub freshAccount : Account
+freshAccount = record { phase = Fresh; season = noSeason; sums = noSums }
+
+abbrev pub isFresh : Phase → Bool
+isFresh Fresh = true
+isFresh Open = false
+isFresh Closed = false
+
+abbrev pub isClosed : Phase → Bool
+isClosed Fresh = false
+isClosed Open = false
+isClosed Closed = true
+
+-- open or closed
+abbrev pub isBegun : Phase → Bool
+isBegun phase = not (isFresh phase)
+
+abbrev pub isRefused : {A : Type 0} → Outcome A → Bool
+isRefused (accepted a) = false
+isRefused (refused r) = true
+
+-- the header is broken by rows 5 to 8
+abbrev pub isBroken : Season → Bool
+isBroken season = isRefused (checked (Record.Header (season .header)))
+
+abbrev pub allZero : List ℕ → Bool
+allZero [] = true
+allZero (n ∷ ns) = eqb n 0 && allZero ns
+
+abbrev pub seasonNumbers : Season → List ℕ
+seasonNumbers s = let h = s .header in h .tree ∷ h .days ∷ h .first ∷ h .last ∷ h .level ∷ []
+
+abbrev pub sumsNumbers : Sums → List ℕ
+sumsNumbers s = s .hours ∷ s .counted ∷ s .lower ∷ s .upper ∷ s .aot40 ∷ []
+
+-- every header field and figure is 0
+abbrev pub isBlank : Account → Bool
+isBlank a = allZero (seasonNumbers (a .season)) && allZero (sumsNumbers (a .sums))
+
+abbrev pub anyOf : List Bool → Bool
+anyOf [] = false
+anyOf (b ∷ bs) = b || anyOf bs
+
+-- counted > hours; lower > upper; upper > 600000·counted; gap > 4·counted; AOT40 > 4600·counted
+abbrev pub sumsOut : Season → Sums → List Bool
+sumsOut season s =
+    ltb (s .hours) (s .counted)
+    ∷ ltb (s .upper) (s .lower)
+    ∷ ltb (mostHour season * s .counted) (s .upper)
+    ∷ ltb (gapEach season * s .counted) (s .upper - s .lower)
+    ∷ ltb (mostAot40 season * s .counted) (s .aot40)
+    ∷ []
+
+-- row 13: open or closed with header broken by 5 to 8; hours past the period; sums that no hours give; fresh with a header field or figure not 0;
+-- closed with hours due
+unfoldable pub impossible : Account → Bool
+impossible a =
+    (isBegun (a .phase) && isBroken (a .season))
+    || ltb (periodHours (a .season .header)) (a .sums .hours)
+    || anyOf (sumsOut (a .season) (a .sums))
+    || (isFresh (a .phase) && not (isBlank a))
+    || (isClosed (a .phase) && not (allGiven (a .season .header) (a .sums .hours)))

@@ -1,0 +1,10 @@
+pub mod Limits
+pub mod Hours
+pub mod Enclosed
+pub mod Account
+pub mod Rules
+pub mod Reading
+pub mod Book
+pub mod Runs
+pub mod Promise
+pub mod Steps

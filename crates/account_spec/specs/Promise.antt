@@ -1,0 +1,111 @@
+-- Demand 3: one claim about every list of lines fed and readings taken from a fresh account on (document 01, "The book of demand 3").
+use Prim.Native.Nat.{ℕ, zero, suc, _+_, _*_, _≤_}
+use mathlib.Core.Path.{_≡_}
+use mathlib.Core.Bool.{cond}
+use mathlib.Core.List.{List, [], _∷_, _++_}
+use lib.Dec.{eqb}
+use lib.ListN.{length}
+use Rattle.records.specs.declared.Hour.{Hour}
+use Rattle.records.specs.declared.Record.{Record}
+use Rattle.records.specs.Answers.{Outcome, accepted, refused}
+use Rattle.frames.specs.Digits.{byte, number}
+use Rattle.flux_spec.specs.Dose.{NotAbove, NotBelow}
+use Rattle.account_spec.specs.declared.Season.{Season}
+use Rattle.account_spec.specs.declared.Account.{Account}
+use Rattle.account_spec.specs.declared.Verdict.the-variants.{Exceeded, Below}
+use Rattle.account_spec.specs.declared.Totals.{Totals}
+use Rattle.account_spec.specs.declared.Fed.{Fed}
+use Rattle.account_spec.specs.declared.Reading.{Reading}
+use Rattle.account_spec.specs.Limits.{gapEach}
+use Rattle.account_spec.specs.Hours.{Carried}
+use Rattle.account_spec.specs.Enclosed.{AllChecked, HoursEnclosed}
+use Rattle.account_spec.specs.Account.{freshAccount}
+use Rattle.account_spec.specs.Rules.{leftBy}
+use Rattle.account_spec.specs.Reading.{verdictOf}
+use Rattle.account_spec.specs.Book.{Book, emptyBook, bookAnswer, bookNext, bookSums, bookPod, Above}
+use Rattle.account_spec.specs.Runs.{Event, fed, taken, Run, Call, line, reading, RunOf, replyIn, repliesOf}
+
+-- ---- a line
+
+abbrev pub reply : Outcome Record → Outcome Unit
+reply (accepted r) = accepted tt
+reply (refused row) = refused row
+
+-- the line gets the book's answer; row 13 never comes up; a refused line leaves the account as it was
+pub record LineKept (a : Account) (b : Book) (l : List ℕ) (r : Fed) : Type 0 where
+  pub answer : replyIn r ≡ reply (bookAnswer b l)
+  pub possible : (field : ℕ) → replyIn r ≡ refused (13, field) → ⊥
+  pub unchanged : (row : ℕ × ℕ) → replyIn r ≡ refused row → leftBy r ≡ a
+
+-- ---- a reading
+
+-- the book's hours, counted hours and AOT40; two numbers that enclose the exact POD1, at most 4 apart for each counted hour;
+-- the verdict by the rule, and true
+pub record TotalsKept (b : Book) (t : Totals) : Type 0 where
+  pub hours : t .sums .hours ≡ length (b .hours)
+  pub counted : t .sums .counted ≡ bookSums b .counted
+  pub aot40 : t .sums .aot40 ≡ bookSums b .aot40
+  pub low : NotAbove (t .sums .lower) (bookPod b)
+  pub high : NotBelow (t .sums .upper) (bookPod b)
+  pub order : t .sums .lower ≤ t .sums .upper
+  pub gap : t .sums .upper ≤ t .sums .lower + gapEach (b .season) * t .sums .counted
+  pub verdict : t .verdict ≡ verdictOf (b .phase) (b .season) (t .sums)
+  pub exceeded : t .verdict ≡ Exceeded → Above (b .season .header .level * 10000) (bookPod b)
+  pub below : t .verdict ≡ Below → NotBelow (b .season .header .level * 10000) (bookPod b)
+
+-- row 13 never comes up
+abbrev pub ReadingKept : Book → Reading → Type 0
+ReadingKept b (Reading.Given t) = TotalsKept b t
+ReadingKept b (Reading.Refused r) = ⊥
+
+abbrev pub SaysExceeded : Reading → Type 0
+SaysExceeded (Reading.Given t) = t .verdict ≡ Exceeded
+SaysExceeded (Reading.Refused r) = ⊥
+
+-- every reading says "exceeded"
+abbrev pub AllExceeded : List Event → Type 0
+AllExceeded [] = Unit
+AllExceeded (fed l r ∷ es) = AllExceeded es
+AllExceeded (taken r ∷ es) = SaysExceeded r × AllExceeded es
+
+-- ---- the whole list, the book kept beside the account
+
+abbrev pub Kept : Account → Book → List Event → Type 0
+Kept a b [] = Unit
+Kept a b (fed l r ∷ es) = LineKept a b l r × Kept (leftBy r) (bookNext b (bookAnswer b l)) es
+Kept a b (taken r ∷ es) = ReadingKept b r × (SaysExceeded r → AllExceeded es) × Kept a b es
+
+-- ---- a run that shows it
+
+-- document 01's evergreen day ("Report"), with one counted hour: header, a line that is refused, hours 0 to 23 with a reading after each, end
+abbrev pub dayHeader : List ℕ
+dayHeader = byte 1 (byte 6 (number 365 (number 1 (number 1 (number 520 [])))))
+
+abbrev pub atNoon : ℕ → ℕ → ℕ
+atNoon hour n = cond (eqb hour 12) n 0
+
+abbrev pub dayHour : ℕ → List ℕ
+dayHour hour =
+    byte 2 (number 1 (byte hour
+    (number 500 (number (atNoon hour 500) (number (atNoon hour 400) (number 230 (number 1000 (number 300 (number 1000 [])))))))))
+
+-- so many hours from one on
+abbrev pub dayHours : ℕ → ℕ → List Call
+dayHours hour zero = []
+dayHours hour (suc n) = line (dayHour hour) ∷ reading ∷ dayHours (1 + hour) n
+
+abbrev pub dayCalls : List Call
+dayCalls = line dayHeader ∷ line (byte 1 (byte 4 [])) ∷ reading ∷ dayHours 0 24 ++ line (byte 3 (number 24 [])) ∷ reading ∷ []
+
+abbrev pub acceptances : ℕ → List (Outcome Unit)
+acceptances zero = []
+acceptances (suc n) = accepted tt ∷ acceptances n
+
+-- ---- demand 3
+
+pub record SeasonPromise : Type 0 where
+  pub kept : (es : List Event) → Run freshAccount es → Kept freshAccount emptyBook es
+  pub exists : (calls : List Call) → RunOf freshAccount calls
+  pub day : (r : RunOf freshAccount dayCalls) → repliesOf (r .events) ≡ accepted tt ∷ refused (1, 0) ∷ acceptances 25
+  -- the sums of any part of a season
+  pub enclosed : (season : Season) (c : Carried) (hs : List Hour) → AllChecked hs → HoursEnclosed season c hs

@@ -1,0 +1,64 @@
+// The season account, the book of demand 3 and the rules of both (document 01, "Account" and "The book of demand 3"): definitions and laws only.
+use frames::Header;
+use frames::Refusal;
+
+pub enum Phase {
+    Fresh,
+    Open,
+    Closed,
+}
+
+// What the frames before the first hour said.
+pub struct Season {
+    pub header: Header,
+}
+
+// What hours add up to: POD1 at least lower and at most upper nmol m⁻², AOT40 in tenths of ppb h, their number, how many are counted.
+// The wide ones stand first, which spares an account eight bytes.
+pub struct Sums {
+    pub lower: u64,
+    pub upper: u64,
+    pub aot40: u32,
+    pub hours: u16,
+    pub counted: u16,
+}
+
+// The season so far.
+pub struct Account {
+    pub phase: Phase,
+    pub season: Season,
+    pub sums: Sums,
+}
+
+// What a line's answer depends on: an account's, or a book's, phase, season and number of hours accepted.
+pub struct State {
+    pub phase: Phase,
+    pub season: Season,
+    pub hours: u16,
+}
+
+// Whether POD1 is above the critical level.
+pub enum Verdict {
+    None,
+    Undecided,
+    Exceeded,
+    Below,
+}
+
+// What reading an account gives.
+pub struct Totals {
+    pub sums: Sums,
+    pub verdict: Verdict,
+}
+
+// The answer to a line: the new account, or the row that refuses the line and the account as it was.
+pub enum Fed {
+    Accepted(Account),
+    Refused(Refusal, Account),
+}
+
+// The answer to a reading: the figures, or row 13.
+pub enum Reading {
+    Given(Totals),
+    Refused(Refusal),
+}

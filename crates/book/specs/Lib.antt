@@ -1,4 +1,0 @@
-pub mod Account
-pub mod Rules
-pub mod Book
-pub mod Promise

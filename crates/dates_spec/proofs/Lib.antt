@@ -1,0 +1,4 @@
+pub mod ModelLaws
+pub mod RuleLaws
+pub mod HeaderLaws
+pub mod PlaceLaws

@@ -1,9 +1,0 @@
--- A table of exp(-n/10000) for a place of base 100: entry d is that of n = place·d, and 0 stands for what is past its end.
-use mathlib.Core.Path.{_≡_}
-use mathlib.Core.List.{List}
-use Prim.Native.Nat.{ℕ, _*_, _<_}
-use lib.ListN.{getD}
-use Rattle.doses.specs.Light.{decayEntry}
-
-pub record IsTable (place : ℕ) (table : List ℕ) : Type 0 where
-  pub entries : (d : ℕ) → d < 100 → getD table d 0 ≡ decayEntry (place * d)

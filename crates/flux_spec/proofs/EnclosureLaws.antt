@@ -1,0 +1,98 @@
+-- The hour's pair encloses its dose, for any sound figures of the six trees' limits.
+use Prim.Native.Nat.{ℕ, _+_, _^_, _≤_}
+use mathlib.Core.Path.{_≡_}
+use native.Mathlib.Omega.{arith}
+use Rattle.trees.specs.declared.Figures.{Figures}
+use Rattle.trees.specs.declared.Choice.{Choice}
+use Rattle.trees.specs.Figures.{figuresOf}
+use Rattle.trees.proofs.SoundLaws.{figures-all, figures-sound}
+use Rattle.flux_spec.specs.declared.Stand.{Stand}
+use Rattle.flux_spec.specs.BoundaryLayer.{windRead}
+use Rattle.flux_spec.specs.Light.{lightAt}
+use Rattle.flux_spec.specs.Conductance.{shareAt}
+use Rattle.flux_spec.specs.Dose.{fluxAt, doseAt}
+use Rattle.flux_spec.specs.Pair.{lowerOf, upperOf, shareLow, shareUp}
+use Rattle.flux_spec.specs.Enclosure.{Limited, HourEnclosed, Limits, Enclosure}
+use Rattle.exact.specs.Frac.{natural, _over_, _≼_}
+use Rattle.records.specs.declared.Hour.{Hour}
+use Rattle.records.specs.declared.Record.{Record}
+use Rattle.records.specs.Answers.{accepted}
+use Rattle.records.specs.Ranges.{checked}
+use Rattle.frames.proofs.RangeLaws.{HourIn, checked-passed}
+use Rattle.flux_spec.proofs.LightLaws.{lightAt-mono, lightTerms, light-low, light-high, light-gap, light-order, lightUp-le}
+use Rattle.flux_spec.proofs.BoundaryLaws.{rootUpAt-anti}
+use Rattle.flux_spec.proofs.FluxLaws.{doseAt-is, dose-mono}
+use Rattle.flux_spec.proofs.ShareLaws.{shareAt-mono, share-low, share-high, share-order, share-gap, shareUp-le}
+use Rattle.flux_spec.proofs.PairLaws.{lowerOf-under, upperOf-over, lowerOf-le, upperOf-le, upperOf-gap, pair-none}
+
+-- ---- one hour
+
+module _ (stand : Stand) (lim : Limited (stand .figures)) (h : Hour) where
+  abbrev f : Figures
+  f = stand .figures
+
+  light-mono : (k l : ℕ) → k ≤ l → lightAt k f (h .ppfd) ≼ lightAt l f (h .ppfd)
+  light-mono k l j = lightAt-mono f (h .ppfd) j
+
+  pub doseAt-mono : (k l : ℕ) → k ≤ l → doseAt k stand h ≼ doseAt l stand h
+  doseAt-mono k l j =
+      rw (doseAt-is k stand h, doseAt-is l stand h)
+      (dose-mono (f .gmax) (h .ozone) _ _ _ _ (shareAt-mono stand (lim .sound) h light-mono k l j)
+      (rootUpAt-anti (f .leaf) (windRead (h .wind)) (omega arith) j))
+
+  module _ (passed : checked (Record.Hour h) ≡ accepted tt) where
+    range : HourIn h
+    range = checked-passed (Record.Hour h) passed
+
+    steep : f .lighta ≤ 200
+    steep = lim .sound .lighta .1
+
+    share-under : shareLow stand h over 10 ^ 7 ≼ shareAt lightTerms stand h
+    share-under =
+        share-low stand (lim .sound) h light-mono lightTerms (light-low f (h .ppfd) steep (range .ppfd)) lightTerms (omega arith) (omega arith)
+
+    pub lower-under : natural (lowerOf stand h) ≼ doseAt lightTerms stand h
+    lower-under = lowerOf-under stand h lightTerms (omega arith) share-under
+
+    pub upper-over : (k : ℕ) → doseAt k stand h ≼ natural (upperOf stand h)
+    upper-over k = upperOf-over stand h k (share-high stand (lim .sound) h (light-high f (h .ppfd) steep (range .ppfd)) k)
+
+    pub shares-order : shareLow stand h ≤ shareUp stand h
+    shares-order = share-order stand (lim .sound) h (light-order f (h .ppfd))
+
+    pub shares-top : shareUp stand h ≤ 10000003
+    shares-top = omega (arith, shareUp-le stand (lim .sound) h (lightUp-le f (h .ppfd)))
+
+    near : shareUp stand h ≤ shareLow stand h + 3
+    near = omega (arith, share-gap stand (lim .sound) h (lightUp-le f (h .ppfd)) (light-gap f (h .ppfd)) (light-order f (h .ppfd)))
+
+    no-dose :
+        ((k : ℕ) → fluxAt k stand h ≼ 3598 over 3600) → (lowerOf stand h ≡ 0) × (upperOf stand h ≡ 0)
+    no-dose few =
+        pair-none stand h (lim .gmax) (range .ozone) shares-top shares-order near lightTerms (omega arith) share-under (few lightTerms)
+
+    pub hour-enclosed : HourEnclosed stand h
+    hour-enclosed = record {
+      low = record { at = lightTerms; under = lower-under };
+      high = record { every = upper-over };
+      order = lowerOf-le stand h shares-order;
+      gap = upperOf-gap stand h (lim .gmax) (range .ozone) shares-top shares-order near;
+      most = upperOf-le stand h (lim .gmax) (range .ozone) shares-top;
+      grows = doseAt-mono;
+      none = no-dose;
+    }
+
+-- ---- the six trees
+
+tree-limited : (tree : ℕ) (f : Figures) → figuresOf tree ≡ Choice.Tree f → Limited f
+tree-limited tree f e = record {
+  sound = figures-sound tree f e;
+  gmax =
+      figures-all (λ g. g .gmax ≤ 265) (omega arith) (omega arith) (omega arith) (omega arith) (omega arith) (omega arith) tree f e;
+}
+
+limits : Limits
+limits = record { radiation50 = λ h e. rw e; radiation51 = λ h e. rw e; ozone400 = λ h e. rw e; ozone401 = λ h e. rw e }
+
+pub enclosure : Enclosure
+enclosure = record { trees = tree-limited; hour = hour-enclosed; limits = limits }

@@ -1,0 +1,12 @@
+pub mod BoundaryLaws
+pub mod FluxLaws
+pub mod QuotientSizes
+pub mod QuotientLaws
+pub mod PairLaws
+pub mod DeficitLaws
+pub mod OpeningLaws
+pub mod ShareLaws
+pub mod DecayTests
+pub mod DecayLaws
+pub mod LightLaws
+pub mod EnclosureLaws

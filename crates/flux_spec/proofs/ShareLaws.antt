@@ -1,0 +1,104 @@
+-- f_phen × f_light × max(..), for any sound figures, period and hour: at most 1, never falling as k grows, and enclosed by its pair,
+-- which is at most 2 apart. What a law needs of f_light it takes as a premise.
+use Prim.Native.Nat.{ℕ, _+_, _*_, _^_, _≤_}
+use native.Mathlib.Nat.{mul-le-mul}
+use native.Mathlib.Omega.{arith}
+use Rattle.exact.specs.Frac.{Frac, natural, _over_, _≼_}
+use Rattle.exact.specs.Rounding.{roundUp, roundDown, timesUp, timesDown}
+use Rattle.exact.proofs.FracLaws.{≼-refl, ≼-trans, ⊗-mono, ⊗-comm, ⊗-le-one}
+use Rattle.exact.proofs.RoundingLaws.{times-down, times-up, product-down, product-up, over-gap, over-order, times-order, times-gap, timesDown-le, timesUp-le}
+use Rattle.trees.specs.declared.Figures.{Figures}
+use Rattle.trees.specs.Sound.{Sound}
+use Rattle.trees.proofs.FactorLaws.{phenology-limits}
+use Rattle.records.specs.declared.Hour.{Hour}
+use Rattle.flux_spec.specs.declared.Stand.{Stand}
+use Rattle.flux_spec.specs.Light.{lightAt, lightLow, lightUp}
+use Rattle.flux_spec.specs.Conductance.{aboveOf, phenologyIn, shareAt}
+use Rattle.flux_spec.specs.Pair.{openingLow, openingUp, shareLow, shareUp}
+use Rattle.flux_spec.proofs.OpeningLaws.{openingAt-le, openingAt-mono, opening-low, opening-high, opening-gap, opening-order, openingLow-le, openingUp-le}
+
+-- two numbers of 10⁻⁹, the greater ones at most 8 and 3 above
+pair-gap :
+    (a b a′ b′ : ℕ) → a ≤ 10 ^ 9 → b ≤ 10 ^ 9 → a′ ≤ a + 8 → b′ ≤ b + 3 →
+    roundUp ((a′ * b′) over 10 ^ 11) ≤ roundDown ((a * b) over 10 ^ 11) + 2
+pair-gap a b a′ b′ p q r t = over-gap (a * b) (a′ * b′) (10 ^ 11) 1 (omega (arith, mul-le-mul r t))
+
+pair-le : (a b : ℕ) → a ≤ 10 ^ 9 → b ≤ 10 ^ 9 + 1 → roundUp ((a * b) over 10 ^ 11) ≤ 10 ^ 7 + 1
+unfolding roundUp
+pair-le a b p q = omega (arith, mul-le-mul p q)
+
+module _ (stand : Stand) (s : Sound (stand .figures)) (h : Hour) where
+  abbrev f : Figures
+  f = stand .figures
+
+  abbrev phen : Frac
+  phen = phenologyIn stand h
+
+  phen-le : phen ≼ natural 1
+  unfolding phenologyIn
+  phen-le = phenology-limits f s (stand .first) (stand .last) (h .day) (aboveOf (h .temperature)) .below
+
+  -- f_phen × f_light, in units of 10⁻⁹
+  abbrev low : ℕ
+  low = timesDown (lightLow f (h .ppfd)) phen
+
+  abbrev up : ℕ
+  up = timesUp (lightUp f (h .ppfd)) phen
+
+  -- ---- at k
+
+  pub shareAt-le : ((k : ℕ) → lightAt k f (h .ppfd) ≼ natural 1) → (k : ℕ) → shareAt k stand h ≼ natural 1
+  unfolding shareAt
+  shareAt-le light-le k = ⊗-le-one (⊗-le-one phen-le (light-le k)) (openingAt-le f s h k)
+
+  -- f_light stands outside the floor f_min: in the dark nothing is left
+  pub share-dark : (k : ℕ) → lightAt k f (h .ppfd) ≼ natural 0 → shareAt k stand h ≼ natural 0
+  unfolding shareAt
+  share-dark k dark = ≼-trans (⊗-mono (⊗-mono phen-le dark) (openingAt-le f s h k)) (record { cross = omega arith })
+
+  module _ (light-mono : (k l : ℕ) → k ≤ l → lightAt k f (h .ppfd) ≼ lightAt l f (h .ppfd)) where
+    pub shareAt-mono : (k l : ℕ) → k ≤ l → shareAt k stand h ≼ shareAt l stand h
+    unfolding shareAt
+    shareAt-mono k l j = ⊗-mono (⊗-mono (≼-refl phen) (light-mono k l j)) (openingAt-mono f s h j)
+
+    -- ---- the pair encloses it
+
+    pub share-low :
+        (k₀ : ℕ) → lightLow f (h .ppfd) over 10 ^ 9 ≼ lightAt k₀ f (h .ppfd) →
+        (k : ℕ) → 9 ≤ k → k₀ ≤ k → shareLow stand h over 10 ^ 7 ≼ shareAt k stand h
+    unfolding shareAt shareLow
+    share-low k₀ light-low k i j =
+        ≼-trans (product-down low (openingLow f h) (10 ^ 9) (10 ^ 9) (10 ^ 7) (10 ^ 11) (omega arith))
+        (⊗-mono
+        (≼-trans (times-down (lightLow f (h .ppfd)) (10 ^ 9) phen (≼-trans light-low (light-mono k₀ k j)) (≼-refl phen)) (⊗-comm (lightAt k f (h .ppfd)) phen))
+        (≼-trans (opening-low f s h) (openingAt-mono f s h i)))
+
+  pub share-high :
+      ((k : ℕ) → lightAt k f (h .ppfd) ≼ lightUp f (h .ppfd) over 10 ^ 9) →
+      (k : ℕ) → shareAt k stand h ≼ shareUp stand h over 10 ^ 7
+  unfolding shareAt shareUp
+  share-high light-high k =
+      ≼-trans
+      (⊗-mono (≼-trans (⊗-comm phen (lightAt k f (h .ppfd))) (times-up (lightUp f (h .ppfd)) (10 ^ 9) phen (light-high k) (≼-refl phen))) (opening-high f s h k))
+      (product-up up (openingUp f h) (10 ^ 9) (10 ^ 9) (10 ^ 7) (10 ^ 11) (omega arith))
+
+  -- ---- the pair
+
+  pub share-order : lightLow f (h .ppfd) ≤ lightUp f (h .ppfd) → shareLow stand h ≤ shareUp stand h
+  unfolding shareLow shareUp
+  share-order light-order =
+      over-order (low * openingLow f h) (up * openingUp f h) (10 ^ 11)
+      (mul-le-mul (times-order (lightLow f (h .ppfd)) (lightUp f (h .ppfd)) phen light-order) (opening-order f s h))
+
+  module _ (light-top : lightUp f (h .ppfd) ≤ 10 ^ 9) where
+    pub share-gap :
+        lightUp f (h .ppfd) ≤ lightLow f (h .ppfd) + 7 → lightLow f (h .ppfd) ≤ lightUp f (h .ppfd) →
+        shareUp stand h ≤ shareLow stand h + 2
+    unfolding shareLow shareUp
+    share-gap light-gap light-order =
+        pair-gap low (openingLow f h) up (openingUp f h) (omega (arith, timesDown-le (lightLow f (h .ppfd)) phen-le)) (openingLow-le f s h)
+        (times-gap (lightLow f (h .ppfd)) (lightUp f (h .ppfd)) phen 7 phen-le light-gap) (opening-gap f s h)
+
+    pub shareUp-le : shareUp stand h ≤ 10 ^ 7 + 1
+    unfolding shareUp
+    shareUp-le = pair-le up (openingUp f h) (omega (arith, timesUp-le (lightUp f (h .ppfd)) phen-le)) (openingUp-le f s h)

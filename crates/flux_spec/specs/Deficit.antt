@@ -1,0 +1,18 @@
+-- The deficit's factor for an hour (document 01, "Factors"), worked out at k.
+use Prim.Native.Nat.{ℕ}
+use Rattle.exact.specs.Frac.{Frac}
+use Rattle.trees.specs.declared.Figures.{Figures}
+use Rattle.trees.specs.Deficit.{deficitOf}
+use Rattle.records.specs.declared.Hour.{Hour}
+
+-- VPD is read, so f_VPD is exact and the same at every k
+unfoldable pub deficitAt : ℕ → Figures → Hour → Frac
+deficitAt k f h = deficitOf f (h .vpd)
+
+-- ---- between two fractions
+
+unfoldable pub deficitLow : Figures → Hour → Frac
+deficitLow f h = deficitOf f (h .vpd)
+
+unfoldable pub deficitUp : Figures → Hour → Frac
+deficitUp f h = deficitOf f (h .vpd)

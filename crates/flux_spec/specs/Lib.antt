@@ -1,0 +1,9 @@
+pub mod Light
+pub mod Deficit
+pub mod BoundaryLayer
+pub mod Conductance
+pub mod Dose
+pub mod Pair
+pub mod HourDose
+pub mod Enclosure
+pub mod Steps

@@ -1,0 +1,17 @@
+// An hour's exact ozone dose and the pair that encloses it (document 01, "Factors" and "The exact dose"): definitions and laws only.
+use exact::Bounds;
+use frames::Refusal;
+use trees::Figures;
+
+// What an hour's dose goes by besides the hour: the tree's figures, the first and the last day of the period.
+pub struct Stand {
+    pub figures: Figures,
+    pub first: u16,
+    pub last: u16,
+}
+
+// What an hour adds to POD1, in nmol m⁻².
+pub enum Dosed {
+    Pair(Bounds),
+    Refused(Refusal),
+}

@@ -1,0 +1,68 @@
+// The places of a line's fields, counted in digits: each stands past those before it, the kind first, and a line ends past its last field.
+// Reader and writer go by these names; specs/Kinds.antt has the same table by widths.
+
+// The digits of a byte and of a two-byte number.
+pub const BYTE: usize = 2;
+
+pub const NUMBER: usize = 4;
+
+// The kind of every line, and the first of its fields.
+pub const KIND: usize = 0;
+
+pub const FIELDS: usize = KIND + BYTE;
+
+// 01 | tree 1 | days 2 | first 2 | last 2 | level 2
+pub struct HeaderLine;
+
+impl HeaderLine {
+    pub const TREE: usize = FIELDS;
+
+    pub const DAYS: usize = HeaderLine::TREE + BYTE;
+
+    pub const FIRST: usize = HeaderLine::DAYS + NUMBER;
+
+    pub const LAST: usize = HeaderLine::FIRST + NUMBER;
+
+    pub const LEVEL: usize = HeaderLine::LAST + NUMBER;
+
+    pub const DIGITS: usize = HeaderLine::LEVEL + NUMBER;
+}
+
+// 02 | day 2 | hour 1 | ozone 2 | PPFD 2 | G 2 | T 2 | VPD 2 | wind 2 | soil 2
+pub struct HourLine;
+
+impl HourLine {
+    pub const DAY: usize = FIELDS;
+
+    pub const HOUR: usize = HourLine::DAY + NUMBER;
+
+    pub const OZONE: usize = HourLine::HOUR + BYTE;
+
+    pub const PPFD: usize = HourLine::OZONE + NUMBER;
+
+    pub const RADIATION: usize = HourLine::PPFD + NUMBER;
+
+    pub const TEMPERATURE: usize = HourLine::RADIATION + NUMBER;
+
+    pub const VPD: usize = HourLine::TEMPERATURE + NUMBER;
+
+    pub const WIND: usize = HourLine::VPD + NUMBER;
+
+    pub const SOIL: usize = HourLine::WIND + NUMBER;
+
+    pub const DIGITS: usize = HourLine::SOIL + NUMBER;
+}
+
+// 03 | number of hour frames 2
+pub struct EndLine;
+
+impl EndLine {
+    pub const HOURS: usize = FIELDS;
+
+    pub const DIGITS: usize = EndLine::HOURS + NUMBER;
+}
+
+// The number of kinds, and the digits of the longest lines.
+pub const KINDS: u8 = 3;
+
+pub const LONGEST: usize = HourLine::DIGITS;

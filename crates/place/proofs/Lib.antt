@@ -1,5 +1,0 @@
-pub mod RoundingLaws
-pub mod ModelLaws
-pub mod RuleLaws
-pub mod HeaderLaws
-pub mod PlaceLaws

@@ -1,4 +1,0 @@
-pub mod Rounding
-pub mod Model
-pub mod Rules
-pub mod Promise
