@@ -3,9 +3,9 @@
 
     python3 tools/temperature_tables.py
 
-writes crates/tables/src/values.rt, src/lookups.rt and proofs/lookups/. An entry is the greatest whole t with t/10^9 not above a·w^(p/q). Entries under
-f_min go from both ends of a table until it begins and ends with one that is not. The proofs test every entry and every one that was cut, so nothing
-rests on this script.
+writes crates/tables/src/values.rt, src/lookups.rt, specs/Trimmed.antt, proofs/TrimmedLaws.antt and proofs/lookups/. An entry is the greatest whole t with
+t/10^9 not above a·w^(p/q). Entries under f_min go from both ends of a table until it begins and ends with one that is not. The proofs test every entry
+and every one that was cut, so nothing rests on this script.
 """
 from math import gcd
 from pathlib import Path
@@ -105,8 +105,7 @@ def lookup(tree: str) -> list[str]:
         "",
         f"pub(crate) fn {snake(tree)}_at(x: u16) -> Bounds",
         "    requires { ⌜ x ≤ 1100 ⌝ }",
-        f"    ensures pair {{ λ r. ⌜ r ≡ temperaturePair {camel(tree)} x ⌝ }}",
-        f"    ensures trimmed {{ λ _. ⌜ IsTrimmed {camel(tree)} {first} {last} ⌝ }}",
+        f"    ensures {{ λ r. ⌜ r ≡ temperaturePair {camel(tree)} x ⌝ }}",
         "{",
         f"    let fmin = trees::{tree}::FMIN;",
         f"    if x < {first} {{",
@@ -138,67 +137,81 @@ def lookups() -> list[str]:
         "ghost use Prim.Native.Nat.{_≤_};",
         f"ghost use Rattle.trees.specs.Figures.{{{', '.join(camel(tree) for tree in TREES)}}};",
         "ghost use Rattle.trees.specs.Temperature.{temperaturePair};",
-        "ghost use Rattle.trees.specs.TemperatureTable.{IsTrimmed};",
     ]
     for tree in TREES:
         lines += lookup(tree)
     return lines
 
 
-# ---- proofs
+# ---- specs and proofs
 
 
-def nth(name: str, n: int) -> str:
-    return name if n == 1 else f"{name}-{n}"
+def trimmed() -> list[str]:
+    return [
+        "-- Where each tree's table begins and ends (document 02, W-203): its first and its last reading, in tenths of a degree above -50.0 °C.",
+        "-- Made by tools/temperature_tables.py.",
+        f"use Rattle.trees.specs.Figures.{{{', '.join(camel(tree) for tree in TREES)}}}",
+        "use Rattle.trees.specs.TemperatureTable.{IsTrimmed}",
+        "",
+        "pub record Trimmed : Type 0 where",
+        *(f"  pub {camel(tree)}Table : IsTrimmed {camel(tree)} {min(table(tree))} {max(table(tree))}" for tree in TREES),
+    ]
 
 
-def needs(tree: str) -> dict[str, str]:
-    """Each thing that the function's proof must show, with its proof."""
-    figures, count = camel(tree), len(parts(tree))
+def trimmed_laws() -> list[str]:
+    lines = [
+        "-- What was cut from each tree's table is under f_min, and its two ends are not: one computed test a tree. Made by tools/temperature_tables.py.",
+        f"use Rattle.trees.specs.Figures.{{{', '.join(camel(tree) for tree in TREES)}}}",
+        "use Rattle.trees.specs.Temperature.{tried, allowed}",
+        "use Rattle.trees.specs.TemperatureTable.{IsTrimmed}",
+        f"use Rattle.trees.proofs.SoundLaws.{{{', '.join(camel(tree) + '-sound' for tree in TREES)}}}",
+        "use Rattle.trees.proofs.TemperatureTrim.{trimmed-tested}",
+        "use Rattle.tables.specs.Trimmed.{Trimmed}",
+    ]
+    for tree in TREES:
+        name, ends = camel(tree), f"{min(table(tree))} {max(table(tree))}"
+        lines += ["", f"pub {name}-trimmed : IsTrimmed {name} {ends}", "unfolding tried allowed", f"{name}-trimmed = trimmed-tested {name} {ends} {name}-sound tt"]
+    lines += ["", "pub trimmed : Trimmed", "trimmed = record {"]
+    return lines + [f"  {camel(tree)}Table = {camel(tree)}-trimmed;" for tree in TREES] + ["}"]
+
+
+def nth(call: str, n: int) -> str:
+    return call if n == 1 else f"{call}{n}"
+
+
+def needs(tree: str) -> list[str]:
+    """What the function's proof must show, in order, with its proofs."""
+    name, count = camel(tree), len(parts(tree))
     floors = 1 if max(table(tree)) == ZERO + HIGHEST else 2
-    out: dict[str, str] = {}
+    out = []
     for n in range(1, floors + 1):
-        call = "floor-of" if n == 1 else f"floor-of{n}"
-        out[nth("floor-of-requires", n)] = "c κs = search needs"
-        out[nth("returns", n)] = f"c = (floor-pair trimmed (omega arith) (λ first. omega arith) (c .{call} .ensures), trimmed)"
-    for n in range(1, count + 1):
-        out[nth("slice-aggregate-table-entry", n)] = "c = search needs"
-        out[nth("table-entry-requires", n)] = "c κs = readable tt (omega arith) (omega arith)"
-    for n in range(1, count + 1):
-        call = "table-entry" if n == 1 else f"table-entry{n}"
-        out[nth("returns", floors + n)] = f"c = (read-pair {figures}-sound (c .{call} .ensures) tt, trimmed)"
-    return out
+        out += ["(λ c κs. search needs)", f"(λ c. floor-pair {name}-trimmed (omega arith) (λ first. omega arith) (c .{nth('floor-of', n)} .ensures))"]
+    out += count * ["(λ c. search needs)", "(λ c κs. readable tt (omega arith) (omega arith))"]
+    return out + [f"(λ c. read-pair {name}-sound (c .{nth('table-entry', n)} .ensures) tt)" for n in range(1, count + 1)]
 
 
 def proof(tree: str) -> list[str]:
-    name, figures, shown = snake(tree), camel(tree), needs(tree)
-    first, last = min(table(tree)), max(table(tree))
+    name, figures = snake(tree), camel(tree)
+    spec = "-".join(words(tree)) + "-at-spec"
     lines = [
-        f"-- `tables::lookups::{name}_at` meets its contract: each array passes one computed test, and so does what was cut.",
-        "-- Made by tools/temperature_tables.py.",
+        f"-- `tables::lookups::{name}_at` meets its contract: each array passes one computed test. Made by tools/temperature_tables.py.",
         "use native.Mathlib.Omega.{arith}",
         "use borrow.Author.Needs.{needs}",
-        f"use Rattle.trees.specs.Figures.{{{figures}}}",
         "use Rattle.trees.specs.Temperature.{tried, allowed}",
-        "use Rattle.trees.specs.TemperatureTable.{IsTrimmed}",
         f"use Rattle.trees.proofs.SoundLaws.{{{figures}-sound}}",
-        "use Rattle.trees.proofs.TemperatureTrim.{trimmed-tested, floor-pair}",
+        "use Rattle.trees.proofs.TemperatureTrim.{floor-pair}",
+        f"use Rattle.tables.proofs.TrimmedLaws.{{{figures}-trimmed}}",
         "use Rattle.tables.proofs.TableEntryLaws.{readable, read-pair}",
         f"use Rattle.tables.proofs.lookups.{name}_at.Statement.{{statement}}",
         f"use Rattle.tables.proofs.lookups.{name}_at.Tie as tie",
         "",
-        f"trimmed : IsTrimmed {figures} {first} {last}",
+        f"pub {spec} : {{M : Type 1}} → statement M",
         "unfolding tried allowed",
-        f"trimmed = trimmed-tested {figures} {first} {last} {figures}-sound tt",
-        "",
+        f"{spec} =",
+        "    tie.close",
+        "    (tie.spec",
+        *(f"    {need}" for need in needs(tree)),
     ]
-    for need, body in shown.items():
-        lines += [f"{need} : tie.Need-{need}"]
-        lines += ["unfolding tried allowed"] if "read-pair" in body else []
-        lines += [f"{need} {body}", ""]
-    spec = "-".join(words(tree)) + "-at-spec"
-    lines += [f"pub {spec} : {{M : Type 1}} → statement M", f"{spec} =", "    tie.close", "    (tie.spec"]
-    lines += [f"    {need}" for need in shown]
     lines[-1] += ")"
     return lines
 
@@ -211,6 +224,8 @@ def write(path: Path, lines: list[str]) -> None:
 def main() -> None:
     write(CRATE / "src" / "values.rt", values())
     write(CRATE / "src" / "lookups.rt", lookups())
+    write(CRATE / "specs" / "Trimmed.antt", trimmed())
+    write(CRATE / "proofs" / "TrimmedLaws.antt", trimmed_laws())
     for tree in TREES:
         write(CRATE / "proofs" / "lookups" / f"{snake(tree)}_at" / "Proof.antt", proof(tree))
 

@@ -1,5 +1,5 @@
 #!/usr/bin/env python3
-"""The least sums that whole numbers can have: each counted hour's exact dose rounded down, and rounded up (document 01, "Factors").
+"""The least sums that whole numbers can have: each counted hour's exact dose rounded down, and rounded up (document 01, "Factors"; document 02, W-204, W-205).
 
     python3 tests/bench/least.py <SEASON
 
@@ -41,18 +41,32 @@ def phenology(tree, figures, first, last, day, degrees):
     return e + (1 - e) * (last - day) / f4 if last - day < f4 else D(1)
 
 
-def dose(tree, first, last, day, readings):
+def deficit(kind, reading, degrees):
+    """VPD in Pa: kind 05 has the humidity."""
+    if kind != 5:
+        return D(reading)
+    return (1 - D(reading) / 1000) * 611 * (D("17.502") * degrees / (degrees + D("240.97"))).exp()
+
+
+def concentration(ozone, pressure, degrees):
+    """Ozone in nmol m⁻³: kind 04 has the pressure, in tenths of hPa."""
+    ppb = D(ozone) / 10
+    return ppb * 10 * pressure[0] / (D("8.31447") * (degrees + D("273.15"))) if pressure else ppb * D("41.56")
+
+
+def dose(kind, tree, first, last, day, readings):
     figures = [D(word) for word in TREES[tree - 1]]
     gmax, fmin, light, tmin, topt, tmax, p, q, vpd_best, vpd_worst, soil_best, soil_worst, leaf = figures[:13]
-    ozone, ppfd, _, tenths, vpd, wind, soil = readings
+    ozone, ppfd, _, tenths, moisture, wind, soil, *pressure = readings
     degrees = D(tenths - 65536 if tenths > 32767 else tenths) / 10
     warmth = fmin
     if tmin < degrees < tmax:
         warmth = max(fmin, (degrees - tmin) / (topt - tmin) * (((tmax - degrees) / (tmax - topt)).ln() * p / q).exp())
+    vpd = deficit(kind, moisture, degrees)
     opening = max(fmin, warmth * straight(fmin, vpd_best, vpd_worst, vpd) * straight(fmin, soil_best, soil_worst, soil))
     g = gmax * phenology(tree, figures, first, last, day, degrees) * (1 - (-light * ppfd).exp()) * opening / 41000
     resistance = 195 * (leaf / max(wind, 10)).sqrt()
-    return 3600 * max(D(0), D(ozone) / 10 * D("41.56") * g / (1 + resistance * (g + D("0.0004"))) - 1)
+    return 3600 * max(D(0), concentration(ozone, pressure, degrees) * g / (1 + resistance * (g + D("0.0004"))) - 1)
 
 
 def main():
@@ -60,9 +74,9 @@ def main():
     tree, first, last = int(header[2:4], 16), int(header[8:12], 16), int(header[12:16], 16)
     lower = upper = 0
     for line in lines[:-1]:
-        readings = [int(line[i : i + 4], 16) for i in range(8, 36, 4)]
+        readings = [int(line[i : i + 4], 16) for i in range(8, len(line), 4)]
         if readings[2] > 50:
-            exact = dose(tree, first, last, int(line[2:6], 16), readings)
+            exact = dose(int(line[:2], 16), tree, first, last, int(line[2:6], 16), readings)
             if exact and abs(exact - round(exact)) < D(10) ** -30:
                 sys.exit(f"{line}: too near a whole number")
             lower += int(exact.to_integral_value(ROUND_FLOOR))

@@ -3,8 +3,8 @@
 #include <string.h>
 #include <unistd.h>
 
-// Like crates/pod1 it takes the first 327,680 bytes, which decide the report.
-enum { MOST_BYTES = 327680 };
+// The first 360,448 bytes are taken, which decide the report: a leap year of kind 04 has 360,172, and a line after it is refused by 41 more.
+enum { MOST_BYTES = 360448 };
 
 static uint8_t text[MOST_BYTES];
 

@@ -1,7 +1,9 @@
 #!/usr/bin/env python3
 """A leap year of plausible weather as a season text, the same at every run.
 
-    python3 tests/bench/year.py [TREE]      TREE 1 to 6, else 6 (evergreen)
+    python3 tests/bench/year.py [TREE [KIND]]      TREE 1 to 6, else 6 (evergreen); KIND of its hours 02, 04 or 05, else 02
+
+The weather is that of kind 02 in every kind: kind 04 has the pressure besides, kind 05 the humidity for the VPD.
 """
 
 import math
@@ -30,14 +32,27 @@ def soil(rng, tree, dry):
     return between(0, 30 + 2500 * dry**2 + rng.uniform(-10, 10), 10000)
 
 
-def readings(rng, tree, day, hour, sky, dry):
-    """Ozone, PPFD, global radiation, temperature, VPD, wind and soil of an hour, in the frame's units."""
+def moisture(kind, degrees, dryness):
+    """VPD in Pa, or humidity in tenths of a percent; dryness is the part that the air lacks to be saturated."""
+    if kind == 5:
+        return between(0, 1000 * (1 - dryness), 1000)
+    return between(0, 610.8 * math.exp(17.27 * degrees / (degrees + 237.3)) * dryness, 10000)
+
+
+def pressure(day, hour):
+    """Tenths of hPa: about 950 hPa, falling and rising over weeks, and a little over the day."""
+    days = day + hour / 24
+    return between(5000, 9500 + 90 * math.sin(days / 2.3) + 60 * math.sin(days / 7.1) + 6 * math.cos(4 * math.pi * days), 11000)
+
+
+def readings(rng, kind, tree, day, hour, sky, dry):
+    """Ozone, PPFD, global radiation, temperature, VPD or humidity, wind, soil and, in kind 04, pressure of an hour, in the frame's units."""
     height = sun(day, hour)
     summer = -math.cos(2 * math.pi * (day - 20) / DAYS)
     afternoon = math.cos(2 * math.pi * (hour - 15) / 24)
     radiation = between(0, 1050 * height * sky * rng.uniform(0.9, 1.1), 1500)
     degrees = 9 + 10 * summer + (2 + 4 * sky) * afternoon + rng.uniform(-2, 2)
-    vpd = 610.8 * math.exp(17.27 * degrees / (degrees + 237.3)) * (0.35 + 0.2 * sky + 0.15 * afternoon - 0.25)
+    dryness = 0.35 + 0.2 * sky + 0.15 * afternoon - 0.25
     ozone = 380 + 90 * summer + (60 + 120 * sky) * afternoon + rng.uniform(-60, 60)
     wind = 40 + 260 * rng.random() ** 2 + 40 * afternoon
     return [
@@ -45,13 +60,14 @@ def readings(rng, tree, day, hour, sky, dry):
         between(0, 2.05 * radiation, 3000),
         radiation,
         between(-500, 10 * degrees, 600) % 65536,
-        between(0, vpd, 10000),
+        moisture(kind, degrees, dryness),
         between(0, wind, 6000),
         soil(rng, tree, dry),
+        *([pressure(day, hour)] if kind == 4 else []),
     ]
 
 
-def year(tree):
+def year(tree, kind):
     rng = random.Random(2024)
     yield f"01{tree:02X}{DAYS:04X}{1:04X}{DAYS:04X}{LEVEL:04X}"
     dry = 0.3
@@ -59,15 +75,16 @@ def year(tree):
         sky = rng.uniform(0.25, 1)
         dry = min(1.0, dry + 0.01) if sky > 0.5 else max(0.0, dry - 0.03)
         for hour in range(24):
-            yield f"02{day:04X}{hour:02X}" + "".join(f"{n:04X}" for n in readings(rng, tree, day, hour, sky, dry))
+            yield f"{kind:02X}{day:04X}{hour:02X}" + "".join(f"{n:04X}" for n in readings(rng, kind, tree, day, hour, sky, dry))
     yield f"03{24 * DAYS:04X}"
 
 
 def main():
     tree = int(sys.argv[1]) if len(sys.argv) > 1 else 6
-    if not 1 <= tree <= 6:
+    kind = int(sys.argv[2]) if len(sys.argv) > 2 else 2
+    if not 1 <= tree <= 6 or kind not in (2, 4, 5):
         sys.exit(__doc__)
-    print("\n".join(year(tree)))
+    print("\n".join(year(tree, kind)))
 
 
 main()

@@ -1,6 +1,7 @@
-//! The kinds of case: each makes a text by chance.
+//! The makers of cases: each makes a text by chance.
 
 use crate::damage::*;
+use crate::frames::NEWEST;
 use crate::rng::Rng;
 use crate::season::*;
 use crate::turns::*;
@@ -12,7 +13,7 @@ enum Maker {
 }
 use Maker::{Chance, InTurn};
 
-const KINDS: [(&str, Maker); 23] = [
+const MAKERS: [(&str, Maker); 26] = [
     ("weather", Chance(weather)),
     ("every reading", InTurn(every_reading)),
     ("every field", InTurn(every_field)),
@@ -36,22 +37,31 @@ const KINDS: [(&str, Maker); 23] = [
     ("cut", Chance(cut_anywhere)),
     ("disturbed", Chance(disturbed)),
     ("noise", Chance(noise)),
+    ("mixed kinds", Chance(mixed)),
+    ("every mixture of kinds", InTurn(every_mixture)),
+    ("every tenth of a degree", InTurn(every_tenth)),
 ];
+/// The last ones need W-204's kind, or W-205's.
+const MAKERS_IN_USE: usize = match NEWEST {
+    ..=3 => 23,
+    4 => 25,
+    _ => 26,
+};
 
 /// A whole season instead, now and then.
 const WHOLE_EVERY: u64 = 150;
 
-/// The name and the text of a case; the kinds take turns, each seed starting elsewhere in their lists.
+/// The name and the text of a case; the makers take turns, each seed starting elsewhere in their lists.
 pub fn make(seed: u64, case: u64) -> (&'static str, Vec<u8>) {
     let mut rng = Rng::new(seed, case);
     if case % WHOLE_EVERY == WHOLE_EVERY - 1 {
         return ("whole season", whole(&mut rng));
     }
-    let kinds = KINDS.len() as u64;
-    let (name, maker) = &KINDS[(case % kinds) as usize];
+    let makers = MAKERS_IN_USE as u64;
+    let (name, maker) = &MAKERS[(case % makers) as usize];
     let text = match maker {
         Chance(make) => make(&mut rng),
-        InTurn(make) => make(&mut rng, seed % 10000 + case / kinds),
+        InTurn(make) => make(&mut rng, seed % 10000 + case / makers),
     };
     (name, text)
 }
@@ -108,7 +118,7 @@ fn near_few(rng: &mut Rng) -> Vec<u8> {
 fn out_of_range(rng: &mut Rng) -> Vec<u8> {
     let season = season(rng);
     let mut lines = season.lines();
-    past_range(rng, season.header.tree, &mut lines);
+    past_range(rng, &season, &mut lines);
     text(rng, &lines)
 }
 
@@ -176,6 +186,16 @@ fn disturbed(rng: &mut Rng) -> Vec<u8> {
     let season = short_season(rng);
     let whole = season_text(rng, &season);
     disturb(rng, whole)
+}
+
+/// Hours of several kinds, with other damage besides or not.
+fn mixed(rng: &mut Rng) -> Vec<u8> {
+    let season = short_season(rng);
+    let mut lines = if rng.one_in(3) { damage(rng, &season) } else { season.lines() };
+    for _ in 0..rng.between(1, 3) {
+        other_kind(rng, &season, &mut lines);
+    }
+    text(rng, &lines)
 }
 
 /// A growing season or a whole year, near the level or with corners; now and then with many lines after its end.

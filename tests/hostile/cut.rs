@@ -1,6 +1,7 @@
 //! A text on which the program differs, cut down as far as it still differs.
 
 use crate::account::{answer, lines, Answer};
+use crate::frames::{readings_of, HOUR_KINDS, NEWEST};
 use crate::program::{compare, Difference};
 use std::ops::Range;
 use std::path::Path;
@@ -9,7 +10,7 @@ use std::time::{Duration, Instant};
 const LONGEST_CUT: Duration = Duration::from_secs(20);
 /// Bytes of a text that is shortened byte by byte.
 const SHORT: usize = 4000;
-/// The digits of an hour frame's readings.
+/// The digits of the readings that every hour frame has.
 const READINGS: Range<usize> = 8..36;
 
 pub struct Cut<'a> {
@@ -106,7 +107,7 @@ impl Cut<'_> {
     }
 
     fn is_season(&self) -> bool {
-        matches!(answer(&self.text), Answer::Season(..))
+        matches!(answer(NEWEST, &self.text), Answer::Season(..))
     }
 
     /// The season's text with these of its days only.
@@ -146,9 +147,20 @@ impl Cut<'_> {
 
     fn put_to_zero(&mut self, those: Range<usize>, digits: Range<usize>) {
         let mut pieces = lines_of(&self.text);
-        for piece in pieces[those].iter_mut().filter(|piece| piece.len() >= READINGS.end && piece.starts_with(b"02")) {
+        for piece in pieces[those].iter_mut().filter(|piece| is_hour(piece)) {
             piece[digits.clone()].fill(b'0');
         }
         self.take(pieces.concat());
     }
+}
+
+/// Whether the line has the length and the kind of an hour frame, its line feed left out.
+fn is_hour(line: &[u8]) -> bool {
+    let digits = line.strip_suffix(b"\n").unwrap_or(line);
+    HOUR_KINDS.iter().any(|&kind| digits.len() == 8 + 4 * readings_of(kind) && digits.starts_with(format!("{kind:02X}").as_bytes()))
+}
+
+/// Whether it is an hour with those readings 0.
+pub fn is_still(line: &[u8]) -> bool {
+    is_hour(line) && line[READINGS].iter().all(|&digit| digit == b'0')
 }

@@ -1,9 +1,10 @@
 //! Damaged texts: what a broken sender or a bad transmission leaves of a season, and texts that never were one.
 
 use crate::account::Header;
+use crate::frames::*;
 use crate::rng::Rng;
 use crate::season::*;
-use crate::trees::*;
+use crate::trees::tree;
 
 pub type Lines = Vec<Vec<u8>>;
 
@@ -20,15 +21,16 @@ pub fn text(rng: &mut Rng, lines: &Lines) -> Vec<u8> {
 pub fn damage(rng: &mut Rng, season: &Season) -> Lines {
     let mut lines = season.lines();
     for _ in 0..rng.pick(&[1, 1, 1, 2, 3]) {
-        match rng.below(8) {
+        match rng.below(if HOUR_KINDS.len() > 1 { 9 } else { 8 }) {
             0 => wrong_length(rng, &mut lines),
             1 => wrong_digit(rng, &mut lines),
             2 => wrong_kind(rng, &mut lines),
             3 => wrong_turn(rng, &mut lines),
             4 => wrong_hour(rng, &mut lines),
-            5 => past_range(rng, season.header.tree, &mut lines),
+            5 => past_range(rng, season, &mut lines),
             6 => wrong_count(rng, &mut lines),
-            _ => after_the_end(rng, season, &mut lines),
+            7 => after_the_end(rng, season, &mut lines),
+            _ => other_kind(rng, season, &mut lines),
         }
     }
     lines
@@ -50,7 +52,7 @@ fn any_digit(rng: &mut Rng) -> u8 {
 pub fn wrong_length(rng: &mut Rng, lines: &mut Lines) {
     let at = any_line(rng, lines);
     let length = match rng.below(5) {
-        0 => rng.pick(&[0, 5, 6, 7, 19, 20, 21, 35, 36, 37]),
+        0 => rng.pick(&lengths()),
         1 => lines[at].len() + 1,
         2 => lines[at].len().saturating_sub(1),
         3 => rng.below(80),
@@ -58,6 +60,15 @@ pub fn wrong_length(rng: &mut Rng, lines: &mut Lines) {
     };
     let digit = any_digit(rng);
     lines[at].resize(length, digit);
+}
+
+/// The lengths of the frames and those next to them, in order, and 0.
+fn lengths() -> Vec<usize> {
+    let mut lengths: Vec<usize> = frames(NEWEST).iter().flat_map(|&(_, length)| [length - 1, length, length + 1]).collect();
+    lengths.push(0);
+    lengths.sort();
+    lengths.dedup();
+    lengths
 }
 
 /// A line feed lost.
@@ -86,7 +97,8 @@ pub fn wrong_digit(rng: &mut Rng, lines: &mut Lines) {
 
 pub fn wrong_kind(rng: &mut Rng, lines: &mut Lines) {
     let at = any_line(rng, lines);
-    let kind = if rng.one_in(4) { rng.between(0, 255) } else { rng.pick(&[0, 1, 2, 3, 4, 16, 255]) };
+    let near: Vec<i64> = (0..=NEWEST + 1).chain([16, 255]).collect();
+    let kind = if rng.one_in(4) { rng.between(0, 255) } else { rng.pick(&near) };
     put(&mut lines[at], 0, &format!("{kind:02X}"));
 }
 
@@ -126,10 +138,11 @@ pub fn wrong_hour(rng: &mut Rng, lines: &mut Lines) {
 }
 
 /// A reading one past its range, or anywhere out of it.
-pub fn past_range(rng: &mut Rng, tree: i64, lines: &mut Lines) {
+pub fn past_range(rng: &mut Rng, season: &Season, lines: &mut Lines) {
     let at = rng.below(lines.len());
-    let reading = rng.below(7);
-    let (least, most) = range(tree, reading);
+    let kind = season.kind();
+    let reading = rng.below(readings_of(kind));
+    let (least, most) = range(season.header.tree, kind, reading);
     let value = match rng.below(4) {
         0 => least - 1,
         1 => most + 1,
@@ -137,6 +150,19 @@ pub fn past_range(rng: &mut Rng, tree: i64, lines: &mut Lines) {
         _ => rng.between(most + 1, 0xFFFF),
     };
     put(&mut lines[at], 8 + 4 * reading, &pair(value));
+}
+
+/// An hour in a frame of any kind, for its own line or among the lines.
+pub fn other_kind(rng: &mut Rng, season: &Season, lines: &mut Lines) {
+    let n = rng.below(season.hours.len());
+    let kind = any_kind(rng);
+    let readings = season.hours[n].as_kind(season.header.tree, kind);
+    let line = hour_line(season.day(n), n as i64 % 24, &readings).into_bytes();
+    if rng.one_in(3) || n + 1 >= lines.len() {
+        lines.insert(rng.below(lines.len() + 1), line);
+    } else {
+        lines[n + 1] = line;
+    }
 }
 
 pub fn wrong_count(rng: &mut Rng, lines: &mut Lines) {
@@ -262,14 +288,14 @@ pub fn noise(rng: &mut Rng) -> Vec<u8> {
     }
 }
 
-/// A line of one of the three lengths, mostly of its kind.
+/// A line of a frame's length, mostly of its kind.
 fn frame_noise(rng: &mut Rng) -> Vec<u8> {
-    let (kind, length) = rng.pick(&[("01", 20), ("02", 36), ("03", 6)]);
+    let (kind, length) = rng.pick(&frames(NEWEST));
     let mut line: Vec<u8> = (0..length).map(|_| any_digit(rng)).collect();
     if !rng.one_in(5) {
-        put(&mut line, 0, kind);
+        put(&mut line, 0, &format!("{kind:02X}"));
     }
-    if kind == "01" && rng.one_in(2) {
+    if kind == 1 && rng.one_in(2) {
         let number = any_tree(rng);
         line = header_line(&short_period(rng, number)).into_bytes();
     }

@@ -1,10 +1,12 @@
 //! Hostile season texts, made by chance from a seed, against the report program pod1.
 //!
 //!     hostile [--seed S] [--cases N] [--seconds T] [PROGRAM]
+//!     hostile --vectors FOLDER      the account itself against season texts with known answers
 //!
 //! Written from documents 01 and 02 alone, with an account of its own in doubles. Each text's answer is compared: refusals byte for byte; hours,
 //! counted hours and AOT40 equal; the dose between lower and upper; these no more than 4 nmol m⁻² apart for each counted hour; the verdict by its
 //! rule; the same of each month touched, without a verdict; and the months' four figures add up to the season's.
+//! Which kinds of frames the program knows is NEWEST in frames.rs.
 //! At the first difference it prints the smallest text that it can cut the case down to, and exits with 1. PROGRAM is target/bin/pod1 of the
 //! repository where none is named.
 
@@ -14,11 +16,13 @@ mod cases;
 mod cut;
 mod damage;
 mod dose;
+mod frames;
 mod program;
 mod rng;
 mod season;
 mod trees;
 mod turns;
+mod vectors;
 
 use std::collections::BTreeMap;
 use std::path::{Path, PathBuf};
@@ -36,15 +40,19 @@ struct Arguments {
     seed: u64,
     cases: u64,
     seconds: u64,
+    vectors: Option<PathBuf>,
     program: PathBuf,
 }
 
 fn main() {
     let arguments = arguments().unwrap_or_else(|wrong| {
-        eprintln!("hostile: {wrong}\nusage: hostile [--seed S] [--cases N] [--seconds T] [PROGRAM]");
+        eprintln!("hostile: {wrong}\nusage: hostile [--seed S] [--cases N] [--seconds T] [PROGRAM] | --vectors FOLDER");
         exit(2);
     });
-    let Arguments { seed, cases, seconds, program } = arguments;
+    let Arguments { seed, cases, seconds, vectors, program } = arguments;
+    if let Some(folder) = vectors {
+        hold_vectors(&folder);
+    }
     println!("hostile: {}, seed {seed}, cases {}, seconds {}", program.display(), limit(cases), limit(seconds));
     if !program.is_file() {
         eprintln!("hostile: there is no {}", program.display());
@@ -66,6 +74,17 @@ fn main() {
     println!("hostile: {case} cases in {:.1} s, ok", started.elapsed().as_secs_f64());
 }
 
+fn hold_vectors(folder: &Path) -> ! {
+    match vectors::hold(folder) {
+        Ok(held) => println!("{held}"),
+        Err(why) => {
+            println!("{why}");
+            exit(1);
+        }
+    }
+    exit(0);
+}
+
 fn limit(number: u64) -> String {
     if number == u64::MAX { "any".into() } else { number.to_string() }
 }
@@ -77,9 +96,13 @@ fn default_program() -> PathBuf {
 }
 
 fn arguments() -> Result<Arguments, String> {
-    let mut found = Arguments { seed: SEED, cases: u64::MAX, seconds: u64::MAX, program: default_program() };
+    let mut found = Arguments { seed: SEED, cases: u64::MAX, seconds: u64::MAX, vectors: None, program: default_program() };
     let mut words = std::env::args().skip(1);
     while let Some(word) = words.next() {
+        if word == "--vectors" {
+            found.vectors = Some(words.next().ok_or("--vectors needs a folder")?.into());
+            continue;
+        }
         let mut number = || words.next().and_then(|word| word.parse().ok()).ok_or(format!("{word} needs a number"));
         match word.as_str() {
             "--seed" => found.seed = number()?,
@@ -114,7 +137,7 @@ fn fail(program: &Path, case: u64, kind: &str, text: Vec<u8>, difference: progra
 fn shown(text: &[u8]) -> String {
     let lines: Vec<&[u8]> = text.split_inclusive(|&byte| byte == b'\n').collect();
     let mut shown = Vec::new();
-    for run in lines.chunk_by(|one, next| is_still(one) && is_still(next)) {
+    for run in lines.chunk_by(|one, next| cut::is_still(one) && cut::is_still(next)) {
         let whole = if run.len() > LONGEST_RUN { &run[..1] } else { run };
         shown.extend(whole.iter().map(|line| format!("    {}", line.escape_ascii())));
         if whole.len() < run.len() {
@@ -122,8 +145,4 @@ fn shown(text: &[u8]) -> String {
         }
     }
     shown.join("\n")
-}
-
-fn is_still(line: &[u8]) -> bool {
-    line.len() == 37 && line.starts_with(b"02") && line[8..36].iter().all(|&digit| digit == b'0')
 }

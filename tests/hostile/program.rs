@@ -1,6 +1,7 @@
 //! The program run on a text, and its lines held to the account in doubles.
 
 use crate::account::{answer, Answer, Figures, Month};
+use crate::frames::NEWEST;
 use std::io::{Read, Write};
 use std::path::Path;
 use std::process::{Child, Command, Stdio};
@@ -10,6 +11,8 @@ use std::time::Duration;
 
 /// How far the double dose may lie outside lower and upper, nmol m⁻².
 const SLACK: f64 = 0.01;
+/// What an hour adds at most, nmol m⁻² (row 13).
+const MOST_HOUR: i64 = if NEWEST < 4 { 600_000 } else { 800_000 };
 const LONGEST_RUN: Duration = Duration::from_secs(10);
 /// No more of what it prints is read.
 const MOST_PRINTED: u64 = 4096;
@@ -21,7 +24,7 @@ pub struct Difference {
 
 /// What the program answered, or how that differs from document 01.
 pub fn compare(program: &Path, text: &[u8]) -> Result<String, Difference> {
-    let expected = answer(text);
+    let expected = answer(NEWEST, text);
     let differs = |got: String, why: &str| Difference { expected: format!("{}{why}", describe(&expected)), got };
     let printed = run(program, text).map_err(|failure| differs(failure, ""))?;
     match wrong(&expected, &printed) {
@@ -116,7 +119,7 @@ fn wrong_pair(dose: f64, counted: i64, lower: i64, upper: i64) -> Option<&'stati
     if dose < lower as f64 - SLACK || dose > upper as f64 + SLACK {
         return Some("the dose is not between lower and upper");
     }
-    let is_apart = lower > upper || upper - lower > 4 * counted || upper > 600_000 * counted;
+    let is_apart = lower > upper || upper - lower > 4 * counted || upper > MOST_HOUR * counted;
     is_apart.then_some("lower and upper are out of order, too far apart or too great")
 }
 

@@ -1,9 +1,10 @@
 //! A season of hours and its text.
 
 use crate::account::Header;
-use crate::dose::hour_dose;
+use crate::dose::{hour_dose, saturation};
+use crate::frames::*;
 use crate::rng::Rng;
-use crate::trees::*;
+use crate::trees::tree;
 
 pub struct Season {
     pub header: Header,
@@ -22,8 +23,9 @@ pub fn pair(number: i64) -> String {
 }
 
 pub fn hour_line(day: i64, hour: i64, readings: &Readings) -> String {
-    let readings: String = readings.iter().map(|&reading| pair(reading)).collect();
-    format!("02{day:04X}{hour:02X}{readings}")
+    let kind = readings.kind;
+    let readings: String = readings.sent().iter().map(|&reading| pair(reading)).collect();
+    format!("{kind:02X}{day:04X}{hour:02X}{readings}")
 }
 
 pub fn end_line(count: i64) -> String {
@@ -31,6 +33,11 @@ pub fn end_line(count: i64) -> String {
 }
 
 impl Season {
+    /// Of the first hour, which is that of a whole season.
+    pub fn kind(&self) -> i64 {
+        self.hours[0].kind
+    }
+
     pub fn day(&self, n: usize) -> i64 {
         self.header.first + n as i64 / 24
     }
@@ -57,6 +64,13 @@ impl Season {
     pub fn dose(&self) -> f64 {
         self.hours.iter().enumerate().map(|(n, readings)| self.dose_of(n, readings)).sum()
     }
+}
+
+// ---- kinds
+
+/// One of the hour kinds; nothing is drawn where there is one only.
+pub fn any_kind(rng: &mut Rng) -> i64 {
+    if HOUR_KINDS.len() == 1 { HOUR_KINDS[0] } else { rng.pick(HOUR_KINDS) }
 }
 
 // ---- periods
@@ -120,44 +134,49 @@ fn sun(day: i64, hour: i64) -> f64 {
     if from_noon.abs() < half { height * (0.7 + 0.3 * summer) } else { 0.0 }
 }
 
-/// Pa, over water.
-fn saturation(degrees: f64) -> f64 {
-    610.8 * (17.27 * degrees / (degrees + 237.3)).exp()
+/// Tenths of hPa: the colder, the higher up, with a slow swing.
+fn pressure(climate: &Climate, day: i64) -> f64 {
+    10000.0 - 200.0 * (22.0 - climate.warmth) + 120.0 * (day as f64 / 3.0).sin()
 }
 
-fn weather(rng: &mut Rng, climate: &Climate, number: i64, day: i64, hour: i64) -> Readings {
+fn weather(rng: &mut Rng, kind: i64, climate: &Climate, number: i64, day: i64, hour: i64) -> Readings {
     let sun = sun(day, hour);
     let light = sun * climate.clouds * (0.7 + 0.3 * rng.unit());
     let summer = -(std::f64::consts::TAU * (day - 20) as f64 / 365.0).cos();
     let degrees = climate.warmth + 7.0 * summer + 8.0 * (sun - 0.4) + 2.0 * rng.unit();
-    let vpd = saturation(degrees) * (0.15 + 0.6 * light + 0.2 * climate.dryness);
+    let dryness = 0.15 + 0.6 * light + 0.2 * climate.dryness;
+    let moisture = if kind == 5 { 1000.0 * (1.0 - dryness) } else { saturation(degrees) * dryness };
     let ozone = climate.ozone * (0.6 + 0.7 * sun + 0.1 * rng.unit());
     let wind = climate.wind * (0.3 + sun + rng.unit());
     let edges = tree(number).soil;
     let soil = edges[0] as f64 + (edges[1] - edges[0]) as f64 * (1.4 * climate.dryness - 0.3 + 0.05 * rng.unit());
-    let exact = [ozone, 2000.0 * light, 1000.0 * light, 10.0 * degrees, vpd, wind, soil];
-    std::array::from_fn(|reading| {
-        let (least, most) = range(number, reading);
-        (exact[reading].round() as i64).clamp(least, most)
-    })
+    let exact = [ozone, 2000.0 * light, 1000.0 * light, 10.0 * degrees, moisture, wind, soil, pressure(climate, day)];
+    Readings { kind, values: exact.map(|value| value.round() as i64) }.as_kind(number, kind)
 }
 
-/// Plausible weather over a period.
+/// Plausible weather over a period, in hours of any kind.
 pub fn plausible(rng: &mut Rng, header: Header) -> Season {
+    let kind = any_kind(rng);
+    plausible_in(rng, kind, header)
+}
+
+/// The same in hours of the kind.
+pub fn plausible_in(rng: &mut Rng, kind: i64, header: Header) -> Season {
     let climate = climate(rng, header.tree);
-    let hours = (0..header.hours()).map(|n| weather(rng, &climate, header.tree, header.first + n / 24, n % 24)).collect();
+    let hours = (0..header.hours()).map(|n| weather(rng, kind, &climate, header.tree, header.first + n / 24, n % 24)).collect();
     Season { header, hours }
 }
 
 // ---- corners
 
-/// The values around which a reading changes its meaning.
-fn edges(number: i64, reading: usize) -> Vec<i64> {
+/// The values around which one of an hour's readings changes its meaning.
+fn edges(number: i64, readings: &Readings, reading: usize) -> Vec<i64> {
     let of = tree(number);
     match reading {
         OZONE => vec![400],
         RADIATION => vec![50],
         TEMPERATURE => of.temperature.iter().copied().chain([0]).collect(),
+        HUMIDITY if readings.kind == 5 => of.vpd.map(|pascal| humidity(readings[TEMPERATURE], pascal as f64)).to_vec(),
         VPD => of.vpd.to_vec(),
         WIND => vec![10],
         SOIL => of.soil.to_vec(),
@@ -165,10 +184,15 @@ fn edges(number: i64, reading: usize) -> Vec<i64> {
     }
 }
 
+/// The humidity, in tenths of a percent, at which the deficit is so many Pa: below 0 where it never is.
+pub fn humidity(temperature: i64, pascal: f64) -> i64 {
+    (1000.0 * (1.0 - pascal / saturation(temperature as f64 / 10.0))).round() as i64
+}
+
 /// A value at most one from an edge or from an end of the range, within the range.
-fn corner(rng: &mut Rng, number: i64, reading: usize) -> i64 {
-    let (least, most) = range(number, reading);
-    let edges = edges(number, reading);
+fn corner(rng: &mut Rng, number: i64, readings: &Readings, reading: usize) -> i64 {
+    let (least, most) = range(number, readings.kind, reading);
+    let edges = edges(number, readings, reading);
     if edges.is_empty() || rng.one_in(2) {
         return rng.pick(&[least, least + 1, most - 1, most]);
     }
@@ -178,9 +202,9 @@ fn corner(rng: &mut Rng, number: i64, reading: usize) -> i64 {
 /// Some of an hour's readings put to corners.
 pub fn put_to_corners(rng: &mut Rng, number: i64, readings: &mut Readings) {
     let often = rng.between(2, 7) as usize;
-    for reading in 0..7 {
+    for reading in 0..readings_of(readings.kind) {
         if rng.one_in(often) {
-            readings[reading] = corner(rng, number, reading);
+            readings[reading] = corner(rng, number, readings, reading);
         }
     }
 }
@@ -230,8 +254,9 @@ pub fn near_level(rng: &mut Rng, season: &mut Season) {
 /// One reading moved, by little or by much, within its range; the hour stays counted.
 fn one_changed(rng: &mut Rng, number: i64, readings: &Readings) -> Readings {
     let mut changed = *readings;
-    let reading = rng.pick(&[OZONE, PPFD, TEMPERATURE, VPD, WIND, SOIL]);
-    let (least, most) = range(number, reading);
+    let movable = [OZONE, PPFD, TEMPERATURE, VPD, WIND, SOIL, PRESSURE]; // all but radiation
+    let reading = rng.pick(&movable[..readings_of(readings.kind) - 1]);
+    let (least, most) = range(number, readings.kind, reading);
     let far = rng.pick(&[1, 3, 10, 100, 1000]);
     changed[reading] = (changed[reading] + rng.between(-far, far)).clamp(least, most);
     changed

@@ -49,27 +49,3 @@ static TREES: [Tree; 6] = [
     Tree { gmax: 195.0, f_min: 0.02, light_a: 0.012, temperature: [10, 230, 390], power: 8.0 / 11.0, vpd: [2200, 4000],
            soil: [1000, 4500], soil_most: 10000, leaf: 3.0, ends: [1.0, 1.0], ramps: [0, 0] },
 ];
-
-pub const OZONE: usize = 0;
-pub const PPFD: usize = 1;
-pub const RADIATION: usize = 2;
-pub const TEMPERATURE: usize = 3;
-pub const VPD: usize = 4;
-pub const WIND: usize = 5;
-pub const SOIL: usize = 6;
-
-/// An hour's seven readings in the order of the frame.
-pub type Readings = [i64; 7];
-
-/// The least and greatest value of a reading.
-pub fn range(number: i64, reading: usize) -> (i64, i64) {
-    match reading {
-        OZONE => (0, 5000),
-        PPFD => (0, 3000),
-        RADIATION => (0, 1500),
-        TEMPERATURE => (-500, 600),
-        VPD => (0, 10000),
-        WIND => (0, 6000),
-        _ => (0, tree(number).soil_most),
-    }
-}

@@ -3,14 +3,21 @@
 use crate::account::Header;
 use crate::calendar::last_day;
 use crate::damage::{put, text, Lines};
+use crate::frames::*;
 use crate::rng::Rng;
 use crate::season::*;
-use crate::trees::*;
+use crate::trees::tree;
+
+/// A header and its first hours, of any kind.
+fn opening(rng: &mut Rng, number: i64) -> (Season, Lines) {
+    let kind = any_kind(rng);
+    opening_in(rng, kind, number)
+}
 
 /// A header and its first hours, in plausible weather or at corners.
-fn opening(rng: &mut Rng, number: i64) -> (Season, Lines) {
+fn opening_in(rng: &mut Rng, kind: i64, number: i64) -> (Season, Lines) {
     let header = short_period(rng, number);
-    let mut season = plausible(rng, Header { last: header.first, ..header });
+    let mut season = plausible_in(rng, kind, Header { last: header.first, ..header });
     season.header = header;
     if rng.one_in(2) {
         season.hours.iter_mut().for_each(|readings| put_to_corners(rng, number, readings));
@@ -36,8 +43,10 @@ pub fn every_length(rng: &mut Rng, turn: u64) -> Vec<u8> {
     let number = any_tree(rng);
     let (_, mut lines) = opening(rng, number);
     let mut line = vec![b'0'; (turn % 81) as usize];
-    let kind = rng.pick(&["01", "02", "03", "00", "G0"]);
-    put(&mut line, 0, kind);
+    let kinds = (1..=NEWEST).map(|kind| format!("{kind:02X}"));
+    let starts: Vec<String> = kinds.chain(["00", "G0"].map(String::from)).collect();
+    let start = &starts[rng.below(starts.len())];
+    put(&mut line, 0, start);
     lines.insert(rng.below(lines.len() + 1), line);
     text(rng, &lines)
 }
@@ -52,12 +61,14 @@ pub fn every_kind(rng: &mut Rng, turn: u64) -> Vec<u8> {
     text(rng, &lines)
 }
 
-/// Every reading of every tree at both ends of its range and one past them.
+/// Every reading of every kind and tree at both ends of its range and one past them.
 pub fn every_reading(rng: &mut Rng, turn: u64) -> Vec<u8> {
-    let (number, reading, place) = (turn % 6 + 1, turn / 6 % 7, turn / 42 % 4);
-    let (mut season, mut lines) = opening(rng, number as i64);
-    let (least, most) = range(number as i64, reading as usize);
-    season.hours[0][reading as usize] = [least, most, least - 1, most + 1][place as usize];
+    let (number, turn) = ((turn % 6 + 1) as i64, turn as usize / 6);
+    let (kind, turn) = (HOUR_KINDS[turn % HOUR_KINDS.len()], turn / HOUR_KINDS.len());
+    let (reading, place) = (turn % readings_of(kind), turn / readings_of(kind) % 4);
+    let (least, most) = range(number, kind, reading);
+    let (mut season, mut lines) = opening_in(rng, kind, number);
+    season.hours[0][reading] = [least, most, least - 1, most + 1][place];
     lines[1] = hour_line(season.header.first, 0, &season.hours[0]).into_bytes();
     text(rng, &lines)
 }
@@ -160,5 +171,63 @@ pub fn every_border(rng: &mut Rng, turn: u64) -> Vec<u8> {
     let mut season = plausible(rng, header);
     let days = [border, border + 1].map(|day| day.clamp(header.first, header.last));
     few_lit(rng, &mut season, &days);
+    text(rng, &season.lines())
+}
+
+/// Every hour kind after every other, alone and with another fault: rows 2 and 4 come before row 15, rows 9 and 10 after it.
+pub fn every_mixture(rng: &mut Rng, turn: u64) -> Vec<u8> {
+    let all = HOUR_KINDS.iter().flat_map(|&own| HOUR_KINDS.iter().map(move |&other| (own, other)));
+    let pairs: Vec<(i64, i64)> = all.filter(|(own, other)| own != other).collect();
+    let (own, other) = pairs[turn as usize % pairs.len()];
+    let number = rng.pick(&[3, 6]);
+    let header = short_period(rng, number);
+    let season = plausible_in(rng, own, header);
+    let mut lines = season.lines();
+    let fault = turn as usize / pairs.len() % 10;
+    // faults 0 to 4 in an hour after the first, 5 and 6 in the first, the others out of turn
+    let n = if fault < 5 { 1 + rng.below(season.hours.len() - 1) } else { 0 };
+    let line = faulty(&season, n, other, fault);
+    match fault {
+        7 => lines.insert(0, line),
+        8 => lines.insert(lines.len() - 1, line),
+        9 => lines.push(line),
+        _ => lines[n + 1] = line,
+    }
+    text(rng, &lines)
+}
+
+/// The season's n-th hour in another kind, with one of the faults that an hour's line itself can have, or with none.
+fn faulty(season: &Season, n: usize, kind: i64, fault: usize) -> Vec<u8> {
+    let (day, mut hour) = (season.day(n), n as i64 % 24);
+    let mut readings = season.hours[n].as_kind(season.header.tree, kind);
+    let mut past = |reading| readings[reading] = range(season.header.tree, kind, reading).1 + 1;
+    match fault {
+        1 => hour += 1,
+        2 | 6 => past(OZONE),
+        3 => past(readings_of(kind) - 1),
+        _ => {}
+    }
+    let mut line = hour_line(day, hour, &readings).into_bytes();
+    if fault == 4 {
+        line[10] = b'g';
+    }
+    line
+}
+
+/// Every tenth of a degree in hours of kind 05, with a humidity at which the deficit lies between the tree's two edges, where one does.
+pub fn every_tenth(rng: &mut Rng, turn: u64) -> Vec<u8> {
+    let temperature = (turn % 1101) as i64 - 500;
+    let number = rng.pick(&[1, 2, 3, 6]);
+    let header = short_period(rng, number);
+    let mut season = plausible_in(rng, 5, header);
+    let day = rng.between(header.first, header.last);
+    few_lit(rng, &mut season, &[day]);
+    let [best, worst] = tree(number).vpd;
+    for readings in season.hours.iter_mut().filter(|readings| readings[RADIATION] > 50) {
+        readings[TEMPERATURE] = temperature;
+        readings[HUMIDITY] = humidity(temperature, rng.between(best, worst) as f64).max(0);
+        readings[OZONE] = rng.between(2000, 5000);
+        readings[SOIL] = tree(number).soil[0];
+    }
     text(rng, &season.lines())
 }

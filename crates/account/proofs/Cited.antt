@@ -1,28 +1,60 @@
--- What `feed` and `read` ensure is what the runs of demand 3 are made of, no more and no less.
-use contract.Lifetimes.{Lfts}
-use borrow.Fn.World.{ArgsD, ResD}
-use denote.Triple.Clauses.{AtExit}
-use borrow.Fn.Kinds.{endedOf}
-use denote.Ref.{now}
-use Rattle.account_spec.specs.Rules.{Feeds}
-use Rattle.account_spec.specs.Reading.{Reads}
-use Rattle.account_read.proofs.read
-use Rattle.account_read.proofs.read.Kinds as read-kinds
+-- Demand 3 over runs that are tied by the contracts of `feed`, of `parse` with `feed_parsed`, and of `read`, as they stand at the functions, and by nothing else.
+use Prim.Native.Nat.{ℕ}
+use mathlib.Core.Path.{_≡_}
+use mathlib.Core.List.{List, [], _∷_}
+use denote.Ref.{RefT, now}
+use Rattle.frames.proofs.parse.Reads as parse-reads
+use Rattle.account_spec.specs.declared.Account.{Account}
+use Rattle.account_spec.specs.Account.{freshAccount}
+use Rattle.account_spec.specs.Rules.{feedOf, leftBy, Feeds}
+use Rattle.account_spec.specs.Book.{emptyBook}
+use Rattle.account_spec.specs.Runs.{Event, fed, taken, Run, stop, feeds, reads}
+use Rattle.account_spec.specs.Promise.{Kept, SeasonPromise}
+use Rattle.account_spec.proofs.RunLaws.{season}
 use Rattle.account_read.proofs.read.Reads as read-reads
-use Rattle.account.proofs.feed
-use Rattle.account.proofs.feed.Kinds as feed-kinds
 use Rattle.account.proofs.feed.Reads as feed-reads
+use Rattle.account.proofs.feed_parsed.Reads as feed-parsed-reads
 
-module _ (κs : Lfts 1) (a : ArgsD feed.signature κs) (r : ResD feed.signature κs) (s : AtExit (endedOf 1 feed-kinds.ps feed-kinds.r) κs) where
-  pub feed-feeds : feed-reads.Post κs a r s → Feeds (a .0) (now (a .1 .0)) r
-  feed-feeds p = p
+-- a call: its arguments, its result and its arguments at exit, of which the contract holds
+record Called {Lifetimes : Type 0} {Args Result Exit : Lifetimes → Type 0} (Contract : (κs : Lifetimes) → Args κs → Result κs → Exit κs → Type 0) : Type 0 where
+  κs : Lifetimes
+  args : Args κs
+  result : Result κs
+  exit : Exit κs
+  holds : Contract κs args result exit
 
-  pub feeds-feed : Feeds (a .0) (now (a .1 .0)) r → feed-reads.Post κs a r s
-  feeds-feed p = p
+-- ---- runs: each call gets the account that the one before left
 
-module _ (κs : Lfts 0) (a : ArgsD read.signature κs) (r : ResD read.signature κs) (s : AtExit (endedOf 0 read-kinds.ps read-kinds.r) κs) where
-  pub read-reads-it : read-reads.Post κs a r s → Reads (a .0) r
-  read-reads-it p = p
+data Tied : Account → List Event → Type 0 where
+  done : {a : Account} → Tied a []
+  by-feed : {es : List Event} (c : Called feed-reads.Post) → Tied (leftBy (c .result)) es → Tied (c .args .0) (fed (now (c .args .1 .0)) (c .result) ∷ es)
+  by-parts : {es : List Event} (p : Called parse-reads.Post) (c : Called feed-parsed-reads.Post) → c .args .1 .0 ≡ p .result → Tied (leftBy (c .result)) es
+      → Tied (c .args .0) (fed (now (p .args .0)) (c .result) ∷ es)
+  by-read : {es : List Event} (c : Called read-reads.Post) → Tied (c .args .0) es → Tied (c .args .0) (taken (c .result) ∷ es)
 
-  pub reads-read : Reads (a .0) r → read-reads.Post κs a r s
-  reads-read p = p
+parts-feed : (p : Called parse-reads.Post) (c : Called feed-parsed-reads.Post) → c .args .1 .0 ≡ p .result → Feeds (c .args .0) (now (p .args .0)) (c .result)
+unfolding feedOf
+parts-feed p c same = rw (← p .holds, ← same) (c .holds)
+
+-- each contract says what `Feeds` and `Reads` say, no more and no less
+
+tied-run : {a : Account} {es : List Event} → Tied a es → Run a es
+tied-run done = stop
+tied-run (by-feed c t) = feeds (c .holds) (tied-run t)
+tied-run (by-parts p c same t) = feeds (parts-feed p c same) (tied-run t)
+tied-run (by-read c t) = reads (c .holds) (tied-run t)
+
+run-tied : {a : Account} {es : List Event} → Run a es → Tied a es
+run-tied stop = done
+run-tied (feeds {a = a} {l = l} {r = r} k run) =
+    let line : RefT (List ℕ) = record { ptr = (0, 0); name = 0; now = l } in
+    by-feed (record { κs = ([], tt); args = (a, (line, tt)); result = r; exit = (a, (line, tt)); holds = k }) (run-tied run)
+run-tied (reads {a = a} {r = r} k run) = by-read (record { κs = tt; args = (a, tt); result = r; exit = (a, tt); holds = k }) (run-tied run)
+
+-- ---- demand 3
+
+tied-kept : {es : List Event} → Tied freshAccount es → Kept freshAccount emptyBook es
+tied-kept {es} t = season .kept es (tied-run t)
+
+pub season-cited : SeasonPromise
+season-cited = record { kept = λ es run. tied-kept (run-tied run); exists = season .exists; day = season .day; enclosed = season .enclosed }

@@ -102,7 +102,8 @@ fn sums_out(season: Season, s: Sums) -> bool
     limits::most_aot40(season) * n < (s.aot40 as u64)
 }
 
-// The sums are tested first, so that the account is not copied before.
+// Row 13: the account is one that no list of lines gives. The row is one condition of nine, in any order: with the sums first the account is not
+// copied before its test.
 pub fn impossible(a: Account) -> bool
     ensures { λ r. ⌜ r ≡ impossible a ⌝ }
 {

@@ -4,28 +4,22 @@ use mathlib.Core.Path.{refl}
 use mathlib.Core.List.{List, [], _∷_, _++_}
 use native.Mathlib.Nat.{mul-le-mul-right}
 use native.Mathlib.Omega.{arith}
-use Rattle.exact.specs.Frac.{Frac, natural, _⊕_, _≼_}
-use Rattle.exact.proofs.FracLaws.{≼-trans, ⊕-mono}
+use Rattle.exact.specs.Frac.{Frac, _⊕_}
+use Rattle.exact.proofs.FracLaws.{≼-trans, ⊕-mono, ⊕-low, ⊕-high}
 use Rattle.records.specs.declared.Hour.{Hour}
 use Rattle.account_spec.specs.declared.Season.{Season}
 use Rattle.account_spec.specs.declared.Sums.{Sums}
 use Rattle.account_spec.specs.Limits.{gapEach}
 use Rattle.account_spec.specs.Hours.{noSums, plus, Carried, carriedAfter, sumsOf, podOf}
-use Rattle.account_spec.specs.Enclosed.{AllChecked, Encloses, HoursEnclosed}
+use Rattle.account_spec.specs.Enclosed.{AllDosed, Encloses, HoursEnclosed}
 use Rattle.account_spec.proofs.SumsLaws.{counted-le, aot40-le}
 use Rattle.account_spec.proofs.PossibleLaws.{SumsIn}
 use Rattle.account_spec.proofs.HourLaws.{none-encloses, hour-encloses}
 
 -- ---- two parts
 
-low-sum : {l m : ℕ} {x y : Frac} → natural l ≼ x → natural m ≼ y → natural (l + m) ≼ x ⊕ y
-low-sum {l} {m} p q = ≼-trans {y = natural l ⊕ natural m} (record { cross = omega arith }) (⊕-mono p q)
-
-high-sum : {l m : ℕ} {x y : Frac} → x ≼ natural l → y ≼ natural m → x ⊕ y ≼ natural (l + m)
-high-sum {l} {m} p q = ≼-trans {y = natural l ⊕ natural m} (⊕-mono p q) (record { cross = omega arith })
-
 -- the greater k serves both
-pub plus-encloses :
+plus-encloses :
     {season : Season} {s t : Sums} {p q : ℕ → Frac} → Encloses season s p → Encloses season t q → Encloses season (plus s t) (λ k. p k ⊕ q k)
 plus-encloses e f =
     let k = max (e .low .at) (f .low .at) in
@@ -34,9 +28,9 @@ plus-encloses e f =
           record {
             at = k;
             under =
-                low-sum (≼-trans (e .low .under) (e .grows (e .low .at) k (omega arith))) (≼-trans (f .low .under) (f .grows (f .low .at) k (omega arith)));
+                ⊕-low (≼-trans (e .low .under) (e .grows (e .low .at) k (omega arith))) (≼-trans (f .low .under) (f .grows (f .low .at) k (omega arith)));
           };
-      high = record { every = λ j. high-sum (e .high .every j) (f .high .every j) };
+      high = record { every = λ j. ⊕-high (e .high .every j) (f .high .every j) };
       order = omega arith;
       gap = omega arith;
       most = omega arith;
@@ -51,24 +45,24 @@ encloses-gap {season} {s} e =
 
 -- ---- hours in a row
 
-pub hours-enclosed : (season : Season) (c : Carried) (hs : List Hour) → AllChecked hs → HoursEnclosed season c hs
+pub hours-enclosed : (season : Season) (c : Carried) (hs : List Hour) → AllDosed season hs → HoursEnclosed season c hs
 unfolding sumsOf podOf
 hours-enclosed season c [] all = none-encloses season noSums refl refl
 hours-enclosed season c (h ∷ hs) all =
     plus-encloses (hour-encloses season c h (all .0)) (hours-enclosed season (carriedAfter season c h) hs (all .1))
 
 -- row 13 lets their sums pass
-pub hours-in : (season : Season) (c : Carried) (hs : List Hour) → AllChecked hs → SumsIn season (sumsOf season c hs)
+pub hours-in : (season : Season) (c : Carried) (hs : List Hour) → AllDosed season hs → SumsIn season (sumsOf season c hs)
 hours-in season c hs all =
     let e = hours-enclosed season c hs all in
     record { counted = counted-le season c hs; order = e .order; most = e .most; gap = encloses-gap e; aot40 = aot40-le season c hs all }
 
--- ---- hours that row 10 lets pass
+-- ---- hours whose dose no row refuses
 
-pub checked-append : (xs ys : List Hour) → AllChecked xs → AllChecked ys → AllChecked (xs ++ ys)
-checked-append [] ys p q = q
-checked-append (x ∷ xs) ys p q = (p .0, checked-append xs ys (p .1) q)
+pub dosed-append : (season : Season) (xs ys : List Hour) → AllDosed season xs → AllDosed season ys → AllDosed season (xs ++ ys)
+dosed-append season [] ys p q = q
+dosed-append season (x ∷ xs) ys p q = (p .0, dosed-append season xs ys (p .1) q)
 
-pub checked-split : (xs ys : List Hour) → AllChecked (xs ++ ys) → AllChecked xs × AllChecked ys
-checked-split [] ys p = (tt, p)
-checked-split (x ∷ xs) ys p = let rest = checked-split xs ys (p .1) in ((p .0, rest .0), rest .1)
+pub dosed-split : (season : Season) (xs ys : List Hour) → AllDosed season (xs ++ ys) → AllDosed season xs × AllDosed season ys
+dosed-split season [] ys p = (tt, p)
+dosed-split season (x ∷ xs) ys p = let rest = dosed-split season xs ys (p .1) in ((p .0, rest .0), rest .1)

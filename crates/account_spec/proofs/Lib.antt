@@ -5,6 +5,7 @@ pub mod HourLaws
 pub mod EnclosedLaws
 pub mod BookLaws
 pub mod TurnLaws
+pub mod RowLaws
 pub mod VerdictLaws
 pub mod SeasonLaws
 pub mod RunLaws

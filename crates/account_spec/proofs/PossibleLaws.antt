@@ -11,7 +11,7 @@ use Rattle.records.specs.Answers.{Outcome, accepted, refused}
 use Rattle.records.specs.Ranges.{checked}
 use Rattle.records.specs.Period.{periodHours, allGiven}
 use Rattle.records.proofs.AnswerLaws.{and-both, or-neither}
-use Rattle.frames.proofs.RangeLaws.{checked-passed}
+use Rattle.frames.proofs.RangeLaws.{period-le}
 use Rattle.account_spec.specs.declared.Phase.the-variants.{Fresh, Open, Closed}
 use Rattle.account_spec.specs.declared.Season.{Season}
 use Rattle.account_spec.specs.declared.Sums.{Sums}
@@ -145,16 +145,14 @@ blank-last a e =
     let first = and-both (eqb (h .first) 0) _ (days .1) in
     eqb-true (h .last) 0 (and-both (eqb (h .last) 0) _ (first .1) .0)
 
-period-le : (a : Account) → Possible a → (fresh : Bool) → isFresh (a .phase) ≡ fresh → periodHours (a .season .header) ≤ 8784
-period-le a p true e = omega (arith, blank-last a (p .blank e))
-period-le a p false e =
-    let range = checked-passed (Record.Header (a .season .header)) (p .header (ap not e)) in
-    omega arith
+hours-le : (a : Account) → Possible a → (fresh : Bool) → isFresh (a .phase) ≡ fresh → periodHours (a .season .header) ≤ 8784
+hours-le a p true e = omega (arith, blank-last a (p .blank e))
+hours-le a p false e = period-le (a .season .header) (p .header (ap not e))
 
 pub room-is : (a : Account) → impossible a ≡ false → Room a
 room-is a e =
     let p = possible-is a e in
-    let period = period-le a p (isFresh (a .phase)) refl in
+    let period = hours-le a p (isFresh (a .phase)) refl in
     let counted : a .sums .counted ≤ 8784 = omega arith in
     record {
       hours = omega arith;

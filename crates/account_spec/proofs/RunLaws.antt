@@ -22,7 +22,7 @@ use Rattle.account_spec.specs.Promise.{reply, Kept, dayCalls, acceptance
 use Rattle.account_spec.specs.Steps.{accountOf, Proper}
 use Rattle.account_spec.proofs.BookLaws.{fresh-same}
 use Rattle.account_spec.proofs.EnclosedLaws.{hours-enclosed}
-use Rattle.account_spec.proofs.TurnLaws.{answer-row}
+use Rattle.account_spec.proofs.RowLaws.{answer-row}
 use Rattle.account_spec.proofs.SeasonLaws.{feedOf-is, left-is, next-is-proper, readOf-is, fresh-proper, season-kept}
 
 -- ---- there is a reply to each line

@@ -12,17 +12,16 @@ use Rattle.frames.specs.Digits.{byte, number}
 use Rattle.flux_spec.specs.Dose.{NotAbove, NotBelow}
 use Rattle.account_spec.specs.declared.Season.{Season}
 use Rattle.account_spec.specs.declared.Account.{Account}
-use Rattle.account_spec.specs.declared.Verdict.the-variants.{Exceeded, Below}
 use Rattle.account_spec.specs.declared.Totals.{Totals}
 use Rattle.account_spec.specs.declared.Fed.{Fed}
 use Rattle.account_spec.specs.declared.Reading.{Reading}
 use Rattle.account_spec.specs.Limits.{gapEach}
 use Rattle.account_spec.specs.Hours.{Carried}
-use Rattle.account_spec.specs.Enclosed.{AllChecked, HoursEnclosed}
+use Rattle.account_spec.specs.Enclosed.{AllDosed, HoursEnclosed}
 use Rattle.account_spec.specs.Account.{freshAccount}
 use Rattle.account_spec.specs.Rules.{leftBy}
-use Rattle.account_spec.specs.Reading.{verdictOf}
-use Rattle.account_spec.specs.Book.{Book, emptyBook, bookAnswer, bookNext, bookSums, bookPod, Above}
+use Rattle.account_spec.specs.Reading.{exceededWord, belowWord, wordOf, verdictWord}
+use Rattle.account_spec.specs.Book.{Book, emptyBook, bookAnswer, bookNext, countedOf, excessOver, bookPod, Above}
 use Rattle.account_spec.specs.Runs.{Event, fed, taken, Run, Call, line, reading, RunOf, replyIn, repliesOf}
 
 -- ---- a line
@@ -43,15 +42,15 @@ pub record LineKept (a : Account) (b : Book) (l : List ℕ) (r : Fed) : Type 0 w
 -- the verdict by the rule, and true
 pub record TotalsKept (b : Book) (t : Totals) : Type 0 where
   pub hours : t .sums .hours ≡ length (b .hours)
-  pub counted : t .sums .counted ≡ bookSums b .counted
-  pub aot40 : t .sums .aot40 ≡ bookSums b .aot40
+  pub counted : t .sums .counted ≡ length (countedOf (b .hours))
+  pub aot40 : t .sums .aot40 ≡ excessOver (countedOf (b .hours))
   pub low : NotAbove (t .sums .lower) (bookPod b)
   pub high : NotBelow (t .sums .upper) (bookPod b)
   pub order : t .sums .lower ≤ t .sums .upper
   pub gap : t .sums .upper ≤ t .sums .lower + gapEach (b .season) * t .sums .counted
-  pub verdict : t .verdict ≡ verdictOf (b .phase) (b .season) (t .sums)
-  pub exceeded : t .verdict ≡ Exceeded → Above (b .season .header .level * 10000) (bookPod b)
-  pub below : t .verdict ≡ Below → NotBelow (b .season .header .level * 10000) (bookPod b)
+  pub verdict : wordOf (t .verdict) ≡ verdictWord (b .phase) (b .season) (t .sums)
+  pub exceeded : wordOf (t .verdict) ≡ exceededWord → Above (b .season .header .level * 10000) (bookPod b)
+  pub below : wordOf (t .verdict) ≡ belowWord → NotBelow (b .season .header .level * 10000) (bookPod b)
 
 -- row 13 never comes up
 abbrev pub ReadingKept : Book → Reading → Type 0
@@ -59,7 +58,7 @@ ReadingKept b (Reading.Given t) = TotalsKept b t
 ReadingKept b (Reading.Refused r) = ⊥
 
 abbrev pub SaysExceeded : Reading → Type 0
-SaysExceeded (Reading.Given t) = t .verdict ≡ Exceeded
+SaysExceeded (Reading.Given t) = wordOf (t .verdict) ≡ exceededWord
 SaysExceeded (Reading.Refused r) = ⊥
 
 -- every reading says "exceeded"
@@ -78,19 +77,19 @@ Kept a b (taken r ∷ es) = ReadingKept b r × (SaysExceeded r → AllExceeded e
 -- ---- a run that shows it
 
 -- document 01's evergreen day ("Report"), with one counted hour: header, a line that is refused, hours 0 to 23 with a reading after each, end
-abbrev pub dayHeader : List ℕ
+abbrev dayHeader : List ℕ
 dayHeader = byte 1 (byte 6 (number 365 (number 1 (number 1 (number 520 [])))))
 
-abbrev pub atNoon : ℕ → ℕ → ℕ
+abbrev atNoon : ℕ → ℕ → ℕ
 atNoon hour n = cond (eqb hour 12) n 0
 
-abbrev pub dayHour : ℕ → List ℕ
+abbrev dayHour : ℕ → List ℕ
 dayHour hour =
     byte 2 (number 1 (byte hour
     (number 500 (number (atNoon hour 500) (number (atNoon hour 400) (number 230 (number 1000 (number 300 (number 1000 [])))))))))
 
 -- so many hours from one on
-abbrev pub dayHours : ℕ → ℕ → List Call
+abbrev dayHours : ℕ → ℕ → List Call
 dayHours hour zero = []
 dayHours hour (suc n) = line (dayHour hour) ∷ reading ∷ dayHours (1 + hour) n
 
@@ -108,4 +107,4 @@ pub record SeasonPromise : Type 0 where
   pub exists : (calls : List Call) → RunOf freshAccount calls
   pub day : (r : RunOf freshAccount dayCalls) → repliesOf (r .events) ≡ accepted tt ∷ refused (1, 0) ∷ acceptances 25
   -- the sums of any part of a season
-  pub enclosed : (season : Season) (c : Carried) (hs : List Hour) → AllChecked hs → HoursEnclosed season c hs
+  pub enclosed : (season : Season) (c : Carried) (hs : List Hour) → AllDosed season hs → HoursEnclosed season c hs

@@ -2,6 +2,7 @@
 use frames::Header;
 use frames::Refusal;
 
+// An account's phase: before a header, after it, and after the right end frame.
 pub enum Phase {
     Fresh,
     Open,
@@ -37,7 +38,7 @@ pub struct State {
     pub hours: u16,
 }
 
-// Whether POD1 is above the critical level.
+// Whether POD1 is above the critical level; `wordOf` (specs/Reading.antt) gives each case's word.
 pub enum Verdict {
     None,
     Undecided,

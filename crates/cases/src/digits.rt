@@ -3,6 +3,7 @@ ghost use Prim.Native.Nat.{_+_, _^_, _≤_, _<_};
 ghost use mathlib.Core.Path.{_≡_};
 ghost use lib.ListN.{getD};
 ghost use Rattle.frames.specs.Digits.{valueOf};
+ghost use Rattle.records.specs.Temperature.{signedOf};
 ghost use Rattle.cases.specs.Digits.{hexAt};
 
 fn value(c: u8) -> u8
@@ -53,6 +54,24 @@ pub fn u16_at(line: &[u8], at: usize) -> u16
     ensures { λ r. ⌜ r ≡ hexAt 4 at (now (line .entry)) ⌝ }
 {
     number(line, at, 4) as u16
+}
+
+// A number's two bytes in two's complement.
+fn signed(n: u16) -> i16
+    ensures { λ r. ⌜ r ≡ signedOf n ⌝ }
+{
+    if n < 32768 {
+        n as i16
+    } else {
+        -((65535 - n) as i16) - 1
+    }
+}
+
+// What four digits from a place on say in two's complement.
+pub fn i16_at(line: &[u8], at: usize) -> i16
+    ensures { λ r. ⌜ r ≡ signedOf (hexAt 4 at (now (line .entry))) ⌝ }
+{
+    signed(u16_at(line, at))
 }
 
 // What eight digits from a place on say.

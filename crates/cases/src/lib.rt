@@ -3,6 +3,7 @@ mod digits;
 mod lines;
 mod stdio;
 
+pub use digits::i16_at;
 pub use digits::u8_at;
 pub use digits::u16_at;
 pub use digits::u32_at;

@@ -8,6 +8,7 @@ use frames::Checked;
 use frames::Header;
 use frames::Record;
 use frames::Refusal;
+use trees::Choice;
 ghost use mathlib.Core.Path.{_≡_};
 ghost use Rattle.dates_spec.specs.Rules.{placeOut, placedOf, placedAs};
 ghost use Rattle.dates_spec.specs.Promise.{PlacePromise};
@@ -36,9 +37,9 @@ pub fn header_at(tree: u8, days: u16, level: u16, latitude: u16, height: u16) ->
     ensures { λ r. ⌜ placedAs r ≡ placedOf tree days level latitude height ⌝ }
     ensures promise { λ _. ⌜ PlacePromise ⌝ }
 {
-    if records::outside(1, 6, tree as u16) {
+    let Choice::Tree(_) = trees::figures_of(tree) else {
         return Placed::Refused(Refusal::Tree);
-    }
+    };
     if records::outside(365, 366, days) {
         return Placed::Refused(Refusal::Year);
     }

@@ -1,4 +1,5 @@
 pub mod ModelLaws
 pub mod RuleLaws
+pub mod MadeLaws
 pub mod HeaderLaws
 pub mod PlaceLaws

@@ -1,20 +1,22 @@
 -- The rows of a header made from a place: row 14 before row 7, row 7 never.
 use Prim.Native.Nat.{ℕ, _-_, _≤_}
-use mathlib.Core.Path.{_≡_, refl, sym, subst, _∙_}
-use mathlib.Core.Bool.{Bool, true, false, cond, not, _&&_, _||_, or-true, false≢true}
+use mathlib.Core.Path.{_≡_, refl, sym, subst}
+use mathlib.Core.Bool.{Bool, true, false, cond, not, _||_, or-true, true≢false, false≢true}
 use mathlib.Core.List.{List, [], _∷_}
-use mathlib.Core.Logic.{⊎-elim}
 use native.Mathlib.Omega.{arith}
-use borrow.Author.Tests.{leb-true, ltb-false, le-ltb, eqb-true, not-true, not-false}
-use lib.Dec.{eqb, ltb, leb}
-use Rattle.trees.specs.Figures.{figuresOf, rampDays}
+use borrow.Author.Tests.{leb-true, ltb-false, le-ltb, not-false}
+use lib.Dec.{ltb, leb}
+use Rattle.trees.specs.declared.Figures.{Figures}
+use Rattle.trees.specs.declared.Choice.{Choice}
+use Rattle.trees.specs.Figures.{beech, figuresOf, rampDays}
 use Rattle.records.specs.declared.Header.{Header}
 use Rattle.records.specs.declared.Record.{Record}
-use Rattle.records.specs.declared.Checked.{Checked}
-use Rattle.records.specs.Answers.{Outcome, accepted, refused, row, onward, checkedAs}
-use Rattle.records.specs.Ranges.{isOutside, periodOut, checked}
-use Rattle.records.proofs.AnswerLaws.{and-both, or-either, or-neither, row-passed, accepted-same}
+use Rattle.records.specs.Answers.{Outcome, accepted, refused}
+use Rattle.records.specs.Ranges.{isOutside, onTree, periodOut, checked}
+use Rattle.records.proofs.AnswerLaws.{or-neither, refused-not-accepted, accepted-same, row-passed, onTree-passed}
+use Rattle.records.proofs.CheckLaws.{level-in}
 use Rattle.frames.specs.Kinds.{among}
+use Rattle.frames.proofs.KindLaws.{among-passes}
 use Rattle.exact.specs.Rounding.{roundUp, roundDown}
 use Rattle.dates_spec.specs.Model.{modelStart, modelEnd, firstDay, lastDay}
 use Rattle.dates_spec.specs.Rules.{leastLatitude, mostLatitude, mostHeight, withModel, hasModel, placeOut, madeHeader, placedOf}
@@ -22,7 +24,7 @@ use Rattle.dates_spec.specs.Promise.{InPlace}
 use Rattle.dates_spec.proofs.ModelLaws.{model-kept, extremes-is}
 
 -- where both rows' conditions hold, row 14 answers
-pub pole-is : (periodOut (madeHeader 4 365 520 900 3000) (rampDays (figuresOf 4)) ≡ true) × (placedOf 4 365 520 900 3000 ≡ refused (14, 0))
+pub pole-is : (periodOut (madeHeader 4 365 520 900 3000) (rampDays beech) ≡ true) × (placedOf 4 365 520 900 3000 ≡ refused (14, 0))
 unfolding roundUp modelStart roundDown modelEnd figuresOf madeHeader among placeOut placedOf
 pole-is = (refl, refl)
 
@@ -45,42 +47,42 @@ module _ (tree latitude height : ℕ) (e : placeOut tree latitude height ≡ fal
         highest = ltb-false mostHeight height (passed .1);
       }
 
--- a test that every number of a list passes is passed by each that is among them
-abbrev allPass : (test : ℕ → Bool) → List ℕ → Bool
-allPass test [] = true
-allPass test (m ∷ ms) = test m && allPass test ms
+-- a tree with the model: it is one, and its ramps take 50 days at most
+abbrev short : Choice → Bool
+short (Choice.Tree f) = leb (rampDays f) 50
+short Choice.Unknown = false
 
-among-passes : (test : ℕ → Bool) (l : List ℕ) (n : ℕ) → allPass test l ≡ true → among l n ≡ true → test n ≡ true
-unfolding among
-among-passes test [] n all e = absurd (false≢true e)
-among-passes test (m ∷ ms) n all e =
-    let p = and-both (test m) (allPass test ms) all in
-    ⊎-elim (λ same. subst (λ k. test k ≡ true) (eqb-true m n same) (p .0)) (λ rest. among-passes test ms n (p .1) rest) (or-either (eqb m n) (among ms n) e)
+record Modelled (tree : ℕ) : Type 0 where
+  figures : Figures
+  is : figuresOf tree ≡ Choice.Tree figures
+  ramps : rampDays figures ≤ 50
 
-module _ (tree : ℕ) (e : hasModel tree ≡ true) where
-  model-known : isOutside 1 6 tree ≡ false
-  unfolding among
-  model-known = not-true (isOutside 1 6 tree) (among-passes (λ n. not (isOutside 1 6 n)) withModel tree refl e)
+short-is : (tree : ℕ) (choice : Choice) → figuresOf tree ≡ choice → short choice ≡ true → Modelled tree
+short-is tree (Choice.Tree f) e s = record { figures = f; is = e; ramps = leb-true (rampDays f) 50 s }
+short-is tree Choice.Unknown e s = absurd (false≢true s)
 
-  -- the ramps of a tree with the model take 50 days at most
-  ramps-le : rampDays (figuresOf tree) ≤ 50
-  unfolding among figuresOf
-  ramps-le = leb-true (rampDays (figuresOf tree)) 50 (among-passes (λ n. leb (rampDays (figuresOf n)) 50) withModel tree refl e)
+modelled : (tree : ℕ) → hasModel tree ≡ true → Modelled tree
+unfolding among figuresOf
+modelled tree e = short-is tree (figuresOf tree) refl (among-passes (λ n. short (figuresOf n)) withModel tree refl e)
+
+tree-same : {choice : Choice} {f g : Figures} → choice ≡ Choice.Tree f → choice ≡ Choice.Tree g → f ≡ g
+tree-same d e = cc
 
 -- row 7 never comes up
-pub period-in : (tree days level latitude height : ℕ) → isOutside 365 366 days ≡ false → placeOut tree latitude height ≡ false
-    → periodOut (madeHeader tree days level latitude height) (rampDays (figuresOf tree)) ≡ false
+pub period-in : (tree days level latitude height : ℕ) (f : Figures) → figuresOf tree ≡ Choice.Tree f → isOutside 365 366 days ≡ false
+    → placeOut tree latitude height ≡ false → periodOut (madeHeader tree days level latitude height) (rampDays f) ≡ false
 unfolding madeHeader
-period-in tree days level latitude height year e =
+period-in tree days level latitude height f known year e =
     let k = model-kept latitude height (place-in tree latitude height e) in
     let d = or-neither (ltb days 365) (ltb 366 days) year in
-    let ramps = ramps-le tree (not-false (hasModel tree) (passed tree latitude height e .2)) in
+    let model = modelled tree (not-false (hasModel tree) (passed tree latitude height e .2)) in
+    let ramps : rampDays f ≤ 50 = rw (tree-same known (model .is)) (model .ramps) in
     let days-le = ltb-false days 365 (d .0) in
     simp (
       le-ltb (firstDay latitude height) 1 (omega (arith, k, extremes-is .0)),
       le-ltb (lastDay latitude height) (firstDay latitude height) (omega (arith, k)),
       le-ltb days (lastDay latitude height) (omega (arith, k, extremes-is .1, days-le)),
-      le-ltb (lastDay latitude height - firstDay latitude height) (rampDays (figuresOf tree)) (omega (arith, k, ramps)),
+      le-ltb (lastDay latitude height - firstDay latitude height) (rampDays f) (omega (arith, k, ramps)),
     )
 
 -- ---- the rows
@@ -91,7 +93,7 @@ record Only {A : Type 0} (rows : List ℕ) (o : Outcome A) : Type 0 where
 
 module _ {A : Type 0} {rows : List ℕ} where
   accepted-only : (a : A) → Only rows (accepted a)
-  accepted-only a = record { only = λ n f e. let z : _≡_ {A = ℕ} 0 1 = cc in absurd (omega arith) }
+  accepted-only a = record { only = λ n f e. refused-not-accepted (sym e) }
 
   row-only : (t : Bool) (k : ℕ) (next : Outcome A) → among rows k ≡ true → (t ≡ false → Only rows next) → Only rows (cond t (refused (k, 0)) next)
   row-only true k next h o = record {
@@ -101,23 +103,27 @@ module _ {A : Type 0} {rows : List ℕ} where
   }
   row-only false k next h o = o refl
 
+  onTree-only : (choice : Choice) (next : Figures → Outcome A) → among rows 5 ≡ true → ((f : Figures) → choice ≡ Choice.Tree f → Only rows (next f)) → Only rows (onTree choice next)
+  onTree-only (Choice.Tree f) next h o = o f refl
+  onTree-only Choice.Unknown next h o = row-only true 5 (refused (5, 0)) h (λ e. absurd (true≢false e))
+
   row-never : (t : Bool) (w : ℕ × ℕ) (next : Outcome A) → t ≡ false → Only rows next → Only rows (cond t (refused w) next)
   row-never t w next e o = rw e o
 
 module _ (tree days level latitude height : ℕ) where
   -- row 14 comes before row 7
-  pub place-out : isOutside 1 6 tree ≡ false → isOutside 365 366 days ≡ false → placeOut tree latitude height ≡ true
+  pub place-out : (f : Figures) → figuresOf tree ≡ Choice.Tree f → isOutside 365 366 days ≡ false → placeOut tree latitude height ≡ true
       → placedOf tree days level latitude height ≡ refused (14, 0)
   unfolding placedOf
-  place-out known year out = simp (known, year, out)
+  place-out f known year out = rw (known, year, out)
 
   placed-only : Only (5 ∷ 6 ∷ 14 ∷ 8 ∷ []) (placedOf tree days level latitude height)
   unfolding placedOf among
   placed-only =
-      row-only (isOutside 1 6 tree) _ _ refl (λ known.
+      onTree-only (figuresOf tree) _ refl (λ f known.
       row-only (isOutside 365 366 days) _ _ refl (λ year.
       row-only (placeOut tree latitude height) _ _ refl (λ inside.
-      row-never (periodOut (madeHeader tree days level latitude height) (rampDays (figuresOf tree))) _ _ (period-in tree days level latitude height year inside) (
+      row-never (periodOut (madeHeader tree days level latitude height) (rampDays f)) _ _ (period-in tree days level latitude height f known year inside) (
       row-only (isOutside 1 10000 level) _ _ refl (λ _. accepted-only _)))))
 
   -- row 7 never comes up
@@ -128,63 +134,20 @@ module _ (tree days level latitude height : ℕ) where
       → placedOf tree days level latitude height ≡ accepted (madeHeader tree days level latitude height)
   unfolding placedOf
   placed-made year inside level-in =
-      let known = model-known tree (not-false (hasModel tree) (passed tree latitude height inside .2)) in
-      simp (known, year, inside, period-in tree days level latitude height year inside, level-in)
+      let model = modelled tree (not-false (hasModel tree) (passed tree latitude height inside .2)) in
+      let known = model .is in
+      rw (known, year, inside, period-in tree days level latitude height (model .figures) known year inside, level-in)
 
   -- the model's header, once it has passed the rows
   pub placed-passed : (h : Header) → placedOf tree days level latitude height ≡ accepted h → checked (Record.Header h) ≡ accepted tt
-  unfolding placedOf madeHeader checked
-  placed-passed h e =
-      let p5 = row-passed (isOutside 1 6 tree) _ _ h e in
-      let p6 = row-passed (isOutside 365 366 days) _ _ h (p5 .1) in
-      let p14 = row-passed (placeOut tree latitude height) _ _ h (p6 .1) in
-      let p7 = row-passed (periodOut (madeHeader tree days level latitude height) (rampDays (figuresOf tree))) _ _ h (p14 .1) in
-      let p8 = row-passed (isOutside 1 10000 level) _ _ h (p7 .1) in
-      rw (← accepted-same (p8 .1)) (simp (p5 .0, p6 .0, p7 .0, p8 .0))
-
--- ---- how it is computed
-
--- rows 7 and 8 of a header that has passed the rows before, or what is accepted
-abbrev from7 : {A : Type 0} → Header → A → Outcome A
-from7 h a = row 7 (periodOut h (rampDays (figuresOf (h .tree)))) (row 8 (isOutside 1 10000 (h .level)) (accepted a))
-
-rows-onward : {A B : Type 0} (s t : Bool) (v w : ℕ × ℕ) (a : A) (b : B)
-    → onward (cond s (refused v) (cond t (refused w) (accepted a))) (λ _. accepted b) ≡ cond s (refused v) (cond t (refused w) (accepted b))
-rows-onward true t v w a b = refl
-rows-onward false true v w a b = refl
-rows-onward false false v w a b = refl
-
-abbrev pub headerWith : ℕ → ℕ → ℕ → ℕ → ℕ → Header
-headerWith tree′ days′ first′ last′ level′ = record { tree = tree′; days = days′; first = first′; last = last′; level = level′ }
-
--- past row 14 the header made is tested as a typed one is
-module _ (tree days level latitude height : ℕ) (known : isOutside 1 6 tree ≡ false) (year : isOutside 365 366 days ≡ false) where
-  abbrev made : Header
-  made = madeHeader tree days level latitude height
-
-  made-is : (a b : ℕ) → a ≡ firstDay latitude height → b ≡ lastDay latitude height → headerWith tree days a b level ≡ made
-  unfolding madeHeader
-  made-is a b first-is last-is = rw (first-is, last-is)
-
-  checked-is : checked (Record.Header made) ≡ from7 made tt
-  unfolding checked madeHeader
-  checked-is = simp (known, year)
-
-  placed-is : placeOut tree latitude height ≡ false → placedOf tree days level latitude height ≡ from7 made made
   unfolding placedOf madeHeader
-  placed-is inside = simp (known, year, inside)
-
-  placed-tested : placeOut tree latitude height ≡ false → (h : Header) → h ≡ made → (a : Checked) → checkedAs a ≡ checked (Record.Header h)
-      → onward (checkedAs a) (λ _. accepted h) ≡ placedOf tree days level latitude height
-  placed-tested inside h same a e =
-      rw (e, same, checked-is)
-      (rows-onward (periodOut made (rampDays (figuresOf (made .tree)))) (isOutside 1 10000 (made .level)) _ _ tt made ∙ sym (placed-is inside))
-
-  -- the same, the days as they were computed
-  pub placed-checked : placeOut tree latitude height ≡ false → (a b : ℕ) → a ≡ firstDay latitude height → b ≡ lastDay latitude height
-      → (answer : Checked) → checkedAs answer ≡ checked (Record.Header (headerWith tree days a b level))
-      → onward (checkedAs answer) (λ _. accepted (headerWith tree days a b level)) ≡ placedOf tree days level latitude height
-  placed-checked inside a b first-is last-is answer e = placed-tested inside (headerWith tree days a b level) (made-is a b first-is last-is) answer e
+  placed-passed h e =
+      let p5 = onTree-passed (figuresOf tree) _ h e in
+      let p6 = row-passed (isOutside 365 366 days) _ _ h (p5 .2) in
+      let p14 = row-passed (placeOut tree latitude height) _ _ h (p6 .1) in
+      let p7 = row-passed (periodOut (madeHeader tree days level latitude height) (rampDays (p5 .0))) _ _ h (p14 .1) in
+      let p8 = row-passed (isOutside 1 10000 level) _ _ h (p7 .1) in
+      rw (← accepted-same (p8 .1)) (sym (level-in (madeHeader tree days level latitude height) (p5 .1) (p6 .0) (p7 .0) (p8 .0)))
 
 pub without-model : (latitude height : ℕ) → (placeOut 3 latitude height ≡ true) × (placeOut 6 latitude height ≡ true)
 unfolding placeOut among

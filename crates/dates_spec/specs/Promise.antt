@@ -5,10 +5,12 @@ use mathlib.Core.Bool.{true, false}
 use mathlib.Core.List.{List, [], _∷_}
 use lib.ListN.{length, take}
 use Rattle.exact.specs.Frac.{natural, _⊕_, _⊗_, _≈_}
-use Rattle.trees.specs.Figures.{figuresOf, rampDays}
+use Rattle.trees.specs.declared.Figures.{Figures}
+use Rattle.trees.specs.declared.Choice.{Choice}
+use Rattle.trees.specs.Figures.{beech, figuresOf, rampDays}
 use Rattle.records.specs.declared.Header.{Header}
 use Rattle.records.specs.declared.Record.{Record}
-use Rattle.records.specs.Answers.{Outcome, accepted, refused}
+use Rattle.records.specs.Answers.{accepted, refused}
 use Rattle.records.specs.Ranges.{isOutside, periodOut}
 use Rattle.frames.specs.Kinds.{among}
 use Rattle.frames.specs.Layout.{frameLine}
@@ -65,15 +67,15 @@ pub record PlacePromise : Type 0 where
   pub thousand : (latitude height : ℕ) → InPlace latitude (height + 1000)
       → (firstDay latitude (height + 1000) ≡ firstDay latitude height + 10) × (lastDay latitude (height + 1000) + 10 ≡ lastDay latitude height)
   -- row 14 before row 7
-  pub out : (tree days level latitude height : ℕ) → isOutside 1 6 tree ≡ false → isOutside 365 366 days ≡ false → placeOut tree latitude height ≡ true
-      → placedOf tree days level latitude height ≡ refused (14, 0)
+  pub out : (tree days level latitude height : ℕ) (f : Figures) → figuresOf tree ≡ Choice.Tree f → isOutside 365 366 days ≡ false
+      → placeOut tree latitude height ≡ true → placedOf tree days level latitude height ≡ refused (14, 0)
   -- so at the pole and 3000 m, where the end would be before the start
-  pub pole : (periodOut (madeHeader 4 365 520 900 3000) (rampDays (figuresOf 4)) ≡ true) × (placedOf 4 365 520 900 3000 ≡ refused (14, 0))
+  pub pole : (periodOut (madeHeader 4 365 520 900 3000) (rampDays beech) ≡ true) × (placedOf 4 365 520 900 3000 ≡ refused (14, 0))
   -- continental spruce and the evergreen are without the model
   pub withoutModel : (latitude height : ℕ) → (placeOut 3 latitude height ≡ true) × (placeOut 6 latitude height ≡ true)
   -- row 7 never comes up
-  pub period : (tree days level latitude height : ℕ) → isOutside 365 366 days ≡ false → placeOut tree latitude height ≡ false
-      → periodOut (madeHeader tree days level latitude height) (rampDays (figuresOf tree)) ≡ false
+  pub period : (tree days level latitude height : ℕ) (f : Figures) → figuresOf tree ≡ Choice.Tree f → isOutside 365 366 days ≡ false
+      → placeOut tree latitude height ≡ false → periodOut (madeHeader tree days level latitude height) (rampDays f) ≡ false
   pub rows : (tree days level latitude height n f : ℕ) → placedOf tree days level latitude height ≡ refused (n, f)
       → (among (5 ∷ 6 ∷ 14 ∷ 8 ∷ []) n ≡ true) × (f ≡ 0)
   -- every place inside row 14's ranges gets a header, for a year and a level in range

@@ -6,7 +6,7 @@ use lib.Dec.{ltb}
 use Rattle.trees.specs.Figures.{figuresOf, rampDays}
 use Rattle.records.specs.declared.Header.{Header}
 use Rattle.records.specs.Answers.{Outcome, accepted, refused, row, rowOf}
-use Rattle.records.specs.Ranges.{isOutside, periodOut}
+use Rattle.records.specs.Ranges.{isOutside, onTree, periodOut}
 use Rattle.frames.specs.Kinds.{among}
 use Rattle.dates_spec.specs.declared.Placed.{Placed}
 use Rattle.dates_spec.specs.Model.{firstDay, lastDay}
@@ -43,10 +43,10 @@ madeHeader tree′ days′ level′ latitude height = record {
 
 unfoldable pub placedOf : ℕ → ℕ → ℕ → ℕ → ℕ → Outcome Header
 placedOf tree days level latitude height =
-    row 5 (isOutside 1 6 tree)
-    (row 6 (isOutside 365 366 days)
+    onTree (figuresOf tree) (λ f.
+    row 6 (isOutside 365 366 days)
     (row 14 (placeOut tree latitude height)
-    (row 7 (periodOut (madeHeader tree days level latitude height) (rampDays (figuresOf tree)))
+    (row 7 (periodOut (madeHeader tree days level latitude height) (rampDays f))
     (row 8 (isOutside 1 10000 level)
     (accepted (madeHeader tree days level latitude height))))))
 

@@ -28,7 +28,7 @@ pub ⊕-mono : {x x′ y y′ : Frac} → x ≼ x′ → y ≼ y′ → x ⊕ y 
 ⊕-mono {x} {x′} {y} {y′} p q = omega (arith, mul-le-mul-right (y .den * y′ .den) (p .cross), mul-le-mul-right (x .den * x′ .den) (q .cross))
 
 -- a sum of whole numbers against a sum of fractions
-pub natural-⊕ : (m n : ℕ) → natural (m + n) ≈ natural m ⊕ natural n
+natural-⊕ : (m n : ℕ) → natural (m + n) ≈ natural m ⊕ natural n
 natural-⊕ m n = record { cross = omega arith }
 
 pub ⊕-low : {m n : ℕ} {x y : Frac} → natural m ≼ x → natural n ≼ y → natural (m + n) ≼ x ⊕ y

@@ -16,9 +16,9 @@ above-right : (x y : Frac) (b : Bool) → (T (not b) → y ≼ x) → y ≼ cond
 above-right x y true h = ≼-refl y
 above-right x y false h = h tt
 
-least-above : (x y z : Frac) (b : Bool) → x ≼ z → y ≼ z → cond b y x ≼ z
-least-above x y z true h k = k
-least-above x y z false h k = h
+pub cond-le : (b : Bool) {x y z : Frac} → x ≼ z → y ≼ z → cond b x y ≼ z
+cond-le true h k = h
+cond-le false h k = k
 
 module _ (x y : Frac) where
   abbrev lower : Bool
@@ -32,7 +32,7 @@ module _ (x y : Frac) where
       above-right x y lower (λ (t : T (not lower)). record { cross = le-of-lt (nleb→lt (x .num * y .den) (y .num * x .den) t) })
 
   pub greater-least : {z : Frac} → x ≼ z → y ≼ z → greater x y ≼ z
-  greater-least {z} h k = least-above x y z lower h k
+  greater-least h k = cond-le lower k h
 
 pub greater-mono : (x : Frac) {y z : Frac} → y ≼ z → greater x y ≼ greater x z
 greater-mono x {y} {z} h = greater-least x y (greater-left x z) (≼-trans h (greater-right x z))

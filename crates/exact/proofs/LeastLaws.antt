@@ -7,14 +7,10 @@ use native.Mathlib.Nat.{eq-or-lt-of-le, le-of-suc-le-suc, le-refl}
 use native.Mathlib.Omega.{arith}
 use lib.Dec.{T, leb, leb→le, le→leb}
 use Rattle.exact.specs.Root.{least}
-use Rattle.exact.proofs.OrderLaws.{le-or-lt}
+use Rattle.exact.proofs.OrderLaws.{le-or-lt, cond-at-most}
 use Rattle.exact.proofs.RootLaws.{passes-step}
 
 -- whichever is picked, where the test says whether l passes
-le-step : (b : Bool) (n l : ℕ) → l ≤ n → cond b l (suc n) ≤ suc n
-le-step true n l h = omega arith
-le-step false n l h = omega arith
-
 stays : (b : Bool) (l m : ℕ) → T b → cond b l m ≡ l
 stays true l m h = refl
 stays false l m h = absurd h
@@ -23,7 +19,7 @@ module _ (test : ℕ → Bool) where
   least-le : (n : ℕ) → least test n ≤ n
   unfolding least
   least-le zero = zero-le
-  least-le (suc n) = le-step (test (least test n)) n (least test n) (least-le n)
+  least-le (suc n) = cond-at-most (test (least test n)) (omega (arith, least-le n)) (le-refl (suc n))
 
   least-passes : (n t : ℕ) → t ≤ n → T (test t) → T (test (least test n))
   unfolding least

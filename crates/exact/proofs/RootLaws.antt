@@ -3,10 +3,11 @@ use Prim.Native.Nat.{ℕ, zero, suc, _+_, _≤_, _<_, zero-le}
 use mathlib.Core.Path.{_≡_, refl, subst, subst⁻¹}
 use mathlib.Core.Logic.{⊎-elim}
 use mathlib.Core.Bool.{Bool, true, false, cond}
-use native.Mathlib.Nat.{lt-of-lt-of-le, lt-of-not-le, eq-or-lt-of-le, le-of-suc-le-suc}
+use native.Mathlib.Nat.{le-refl, lt-of-lt-of-le, lt-of-not-le, eq-or-lt-of-le, le-of-suc-le-suc}
 use native.Mathlib.Omega.{arith}
 use lib.Dec.{T, leb, leb→le, le→leb}
 use Rattle.exact.specs.Root.{greatest}
+use Rattle.exact.proofs.OrderLaws.{cond-at-most}
 
 -- whichever is picked passes
 pub passes-step : (test : ℕ → Bool) (b : Bool) (m g : ℕ) → b ≡ test m → T (test g) → T (test (cond b m g))
@@ -18,14 +19,10 @@ unfolding greatest
 greatest-passes test z zero = z
 greatest-passes test z (suc n) = passes-step test (test (suc n)) (suc n) (greatest test n) refl (greatest-passes test z n)
 
-le-step : (b : Bool) (n g : ℕ) → g ≤ n → cond b (suc n) g ≤ suc n
-le-step true n g h = omega arith
-le-step false n g h = omega arith
-
 greatest-le : (test : ℕ → Bool) (n : ℕ) → greatest test n ≤ n
 unfolding greatest
 greatest-le test zero = zero-le
-greatest-le test (suc n) = le-step (test (suc n)) n (greatest test n) (greatest-le test n)
+greatest-le test (suc n) = cond-at-most (test (suc n)) (le-refl (suc n)) (omega (arith, greatest-le test n))
 
 above-step :
     (test : ℕ → Bool) (n t g : ℕ) (b : Bool) → b ≡ test (suc n) → (g < t → t ≤ n → T (test t) → ⊥) → cond b (suc n) g < t →

@@ -1,10 +1,12 @@
 -- The series at k never falls as k grows, and its values multiply where its arguments add; 1 divided by it never rises.
-use Prim.Native.Nat.{ℕ, _+_, _≤_, _<_, zero-le}
-use native.Mathlib.Nat.{mul-pos, le-refl, mul-le-mul-left}
+use Prim.Native.Nat.{ℕ, zero, suc, _+_, _*_, _^_, _≤_, _<_, zero-le, max}
+use mathlib.Core.Path.{_≡_, refl, ap}
+use native.Mathlib.Nat.{mul-pos, le-refl, mul-le-mul-left, zero-lt-suc}
 use native.Mathlib.Omega.{arith}
 use Rattle.exact.specs.Frac.{natural, _⊗_, _≼_}
-use Rattle.exact.specs.Series.{seriesAt, decayAt}
+use Rattle.exact.specs.Series.{factorial, seriesAt, decayAt}
 use Rattle.exact.proofs.FracLaws.{≼-trans, ≈-le, ≈-ge, ⊗-mono}
+use Rattle.exact.proofs.PowerLaws.{zero-pow}
 use Rattle.exact.proofs.InverseLaws.{inverse-anti, inverse-⊗}
 use Rattle.exact.proofs.SeriesCommon.{commonDen, common, series-common, series-pos}
 use Rattle.exact.proofs.SeriesSums.{common-sum-le, common-sum-ge, common-mono}
@@ -30,7 +32,17 @@ module _ (d : ℕ) (d-pos : 0 < d) where
       (record { cross = common-sum-ge d d-pos x y j k (j + k) (le-refl (j + k)) })
       (≈-ge (series-common d d-pos (j + k) (x + y))))
 
+  -- exp(0) is 1 at every k
+  series-zero : (k : ℕ) → seriesAt k 0 d .num ≡ seriesAt k 0 d .den
+  unfolding seriesAt
+  series-zero zero = refl
+  series-zero (suc k) = rw (zero-pow (suc k) (zero-lt-suc k)) (omega (arith, ap (λ n. n * max 1 (d ^ suc k * factorial (suc k))) (series-zero k)))
+
   -- ---- exp(-z) at k
+
+  pub decayAt-zero : (k : ℕ) → natural 1 ≼ decayAt k 0 d
+  unfolding decayAt
+  decayAt-zero k = let is = series-zero k in let pos = series-pos d d-pos k 0 in omega arith
 
   pub decayAt-anti : {j k : ℕ} (n : ℕ) → j ≤ k → decayAt k n d ≼ decayAt j n d
   unfolding decayAt

@@ -53,6 +53,11 @@ pub record _≼_ (x y : Frac) : Type 0 where
 pub record _≺_ (x y : Frac) : Type 0 where
   pub cross : x .num * y .den < y .num * x .den
 
+-- x lies from low to high
+pub record Between (low high x : Frac) : Type 0 where
+  pub above : low ≼ x
+  pub below : x ≼ high
+
 -- the greater of two
 abbrev pub greater : Frac → Frac → Frac
 greater x y = cond (leb (x .num * y .den) (y .num * x .den)) y x

@@ -1,4 +1,3 @@
 pub mod NumberLaws
 pub mod ScaleLaws
 pub mod DecayLookup
-pub mod HourDoseLaws

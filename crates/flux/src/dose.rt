@@ -1,7 +1,22 @@
-// An hour's dose from its share and its root (document 01, "Factors").
+// An hour's dose from its share and its root (document 01, "Factors"). With g = gmax·p the conductance is g/(41000·10⁷) m/s and the resistance
+// 195·s/10⁷ s/m; both terms of F are taken 5·41000·10⁷ times.
 ghost use mathlib.Core.Path.{_≡_};
 ghost use Prim.Native.Nat.{_≤_};
 ghost use Rattle.flux_spec.specs.Pair.{quotient};
+
+// 5 · 3600 s in an hour · 4.156 nmol m⁻³ in a tenth of ppb.
+const OZONE: u64 = 74808;
+
+// 1: 5·41000·10⁷.
+const ONE: u64 = 2050000000000;
+
+// 0.0004 m/s in the unit of g: 0.0004·41000·10⁷.
+const BESIDES: u64 = 164000000;
+
+// 195 s/m in the unit of s: 5·195/10⁷ is 39/400000.
+const RESISTANCE: u64 = 39;
+
+const RESISTANCE_UNIT: u64 = 400000;
 
 // 3600·F, rounded down, at a share p/10⁷ and a root s/10⁷; `more` is 1 where the divisor is rounded up.
 pub(crate) fn quotient(gmax: u64, ozone: u64, p: u64, s: u64, more: u64) -> u64
@@ -9,5 +24,5 @@ pub(crate) fn quotient(gmax: u64, ozone: u64, p: u64, s: u64, more: u64) -> u64
     ensures { λ r. ⌜ r ≡ quotient gmax ozone p s more ⌝ }
 {
     let g = gmax * p;
-    74808 * ozone * g / (2050000000000 + more + 39 * s * (g + 164000000) / 400000)
+    OZONE * ozone * g / (ONE + more + RESISTANCE * s * (g + BESIDES) / RESISTANCE_UNIT)
 }

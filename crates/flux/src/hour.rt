@@ -7,6 +7,7 @@ use crate::share;
 use exact::Bounds;
 use flux_spec::Stand;
 use frames::Hour;
+use tables::Factored;
 use trees::Figures;
 ghost use mathlib.Core.Path.{_≡_};
 ghost use Prim.Native.Nat.{_+_, _-_, _≤_};
@@ -20,14 +21,17 @@ ghost use Rattle.records.specs.Answers.{accepted};
 ghost use Rattle.records.specs.Ranges.{checked};
 ghost use Rattle.records.specs.declared.Record.{Record};
 
-// f_temp, in units of 10⁻⁹.
+// f_temp, in units of 10⁻⁹; an hour that row 10 lets pass has no reading above 60.0 °C.
 fn temperature(f: Figures, h: Hour) -> Bounds
     requires tabled { ⌜ Tabled f ⌝ }
     requires highest { ⌜ aboveOf (h .temperature) ≤ 1100 ⌝ }
     ensures { λ r. ⌜ r ≡ temperaturePair f (aboveOf (h .temperature)) ⌝ }
 {
     let curve = f.curve;
-    tables::f_temp(curve, scale::above(h.temperature))
+    let Factored::Pair(pair) = tables::f_temp(curve, scale::above(h.temperature)) else {
+        return Bounds { lower: 0, upper: 0 };
+    };
+    pair
 }
 
 // max(f_min, f_temp·f_VPD·f_SW), in units of 10⁻⁹.

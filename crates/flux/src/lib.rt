@@ -4,9 +4,11 @@ mod decay;
 mod dose;
 mod hour;
 mod light;
+mod rows;
 mod scale;
 mod share;
 
+use exact::Bounds;
 pub use flux_spec::Dosed;
 use flux_spec::Stand;
 use frames::Checked;
@@ -16,20 +18,35 @@ use frames::Refusal;
 use trees::Choice;
 ghost use mathlib.Core.Path.{_≡_};
 ghost use Rattle.trees.specs.Figures.{figuresOf};
-ghost use Rattle.flux_spec.specs.HourDose.{hourDoseOf, dosedAs};
+ghost use Rattle.flux_spec.specs.BenchCases.{BenchCases};
 ghost use Rattle.flux_spec.specs.Enclosure.{Enclosure};
+ghost use Rattle.flux_spec.specs.Facts.{HourFacts};
+ghost use Rattle.flux_spec.specs.HourDose.{hourDoseOf, dosedAs};
 
-// An hour's pair, for the tree with a number and the first and the last day of the period.
+// What an hour adds to POD1, for the tree with a number and the first and the last day of the period: its pair where it is counted, else 0 and 0.
 pub fn hour_dose(tree: u8, first: u16, last: u16, h: Hour) -> Dosed
     ensures { λ r. ⌜ dosedAs r ≡ hourDoseOf (figuresOf tree) first last h ⌝ }
     ensures enclosure { λ _. ⌜ Enclosure ⌝ }
+    ensures facts { λ _. ⌜ HourFacts ⌝ }
+    ensures bench_cases { λ _. ⌜ BenchCases ⌝ }
 {
     let Choice::Tree(figures) = trees::figures_of(tree) else {
         return Dosed::Refused(Refusal::Tree);
     };
+    if rows::days_out(figures, first, last) {
+        return Dosed::Refused(Refusal::Period);
+    }
     let answer = frames::check(Record::Hour(h));
     if let Checked::Refused(refusal) = answer {
         return Dosed::Refused(refusal);
+    }
+    let measure = figures.measure;
+    let soil = h.soil;
+    if rows::other_measure(measure, soil) {
+        return Dosed::Refused(Refusal::Range(7));
+    }
+    if h.radiation <= 50 {
+        return Dosed::Pair(Bounds { lower: 0, upper: 0 });
     }
     let stand = Stand {
         figures,

@@ -28,7 +28,7 @@ fn decay_entry(table: &[u32], place: usize, n: usize) -> u64
 }
 
 // exp(-n/10000), rounded down at each digit.
-pub(crate) fn decay(n: u32) -> u64
+fn decay(n: u32) -> u64
     requires { ⌜ n < 1000000 ⌝ }
     ensures { λ r. ⌜ r ≡ decayLow n ⌝ }
 {

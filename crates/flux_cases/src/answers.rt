@@ -4,7 +4,7 @@ use cases::print_number;
 use flux::Dosed;
 use frames::Refusal;
 
-pub(crate) fn print_refusal(refusal: Refusal) {
+fn print_refusal(refusal: Refusal) {
     print(b"row ");
     print_number(frames::row_of(refusal) as u64);
     if let Refusal::Range(field) = refusal {

@@ -1,4 +1,5 @@
-// Prints the pair of each hour on standard input, or why it is refused. What it must print is made by tests/flux_cases.py.
+// Prints what `flux::hour_dose` answers to each call on standard input: a pair, or the row that refuses it. What it must print is made by
+// tests/flux_cases.py.
 mod answers;
 mod rows;
 

@@ -1,43 +1,43 @@
-// Rows of a header line, a space and an hour line, 57 bytes each; the answer for each row on a line of its own.
+// Rows of a call: tree (two hexadecimal digits), first and last day (four each), the soil's measure (S suction, W water), with single spaces, and the
+// hour's numbers as they stand in its line after the kind. The answer for each row on a line of its own.
 use crate::answers::print_dosed;
-use crate::answers::print_refusal;
+use cases::i16_at;
 use cases::print;
-use frames::Decoded;
-use frames::Header;
-use frames::Record;
+use cases::u8_at;
+use cases::u16_at;
+use frames::Hour;
+use frames::Soil;
 
-fn print_dose(header: Header, record: Record) {
-    match record {
-        Record::Hour(h) => print_dosed(flux::hour_dose(header.tree, header.first, header.last, h)),
-        _ => print(b"no hour"),
+fn soil_of(measure: u8, n: u16) -> Soil {
+    if measure == b'W' {
+        Soil::Water(n)
+    } else {
+        Soil::Suction(n)
     }
 }
 
-fn print_hour(header: Header, line: &[u8]) {
-    let decoded = frames::read_frame(header.tree, line);
-    match decoded {
-        Decoded::Read(record) => print_dose(header, record),
-        Decoded::Refused(refusal) => print_refusal(refusal),
+// The hour of a row, unchecked.
+fn hour_of(row: &[u8], measure: u8) -> Hour {
+    let soil = soil_of(measure, u16_at(row, 45));
+    Hour {
+        day: u16_at(row, 15),
+        hour: u8_at(row, 19),
+        ozone: u16_at(row, 21),
+        ppfd: u16_at(row, 25),
+        radiation: u16_at(row, 29),
+        temperature: i16_at(row, 33),
+        vpd: u16_at(row, 37),
+        wind: u16_at(row, 41),
+        soil,
     }
 }
 
-fn print_season(record: Record, line: &[u8]) {
-    match record {
-        Record::Header(h) => print_hour(h, line),
-        _ => print(b"no header"),
-    }
-}
-
-// The answer for one row: the first refusal of its two lines, or the hour's pair.
 fn print_row(row: &[u8]) {
-    if row.len() != 57 {
+    if row.len() != 49 {
         return;
     }
-    let decoded = frames::read_frame(0, &row[0..20]);
-    match decoded {
-        Decoded::Read(record) => print_season(record, &row[21..57]),
-        Decoded::Refused(refusal) => print_refusal(refusal),
-    }
+    let h = hour_of(row, row[13]);
+    print_dosed(flux::hour_dose(u8_at(row, 0), u16_at(row, 3), u16_at(row, 8), h));
     print(b"\n");
 }
 

@@ -1,6 +1,6 @@
 -- The hour's pair encloses its dose, for any sound figures of the six trees' limits.
 use Prim.Native.Nat.{ℕ, _+_, _^_, _≤_}
-use mathlib.Core.Path.{_≡_}
+use mathlib.Core.Path.{_≡_, sym, ap, _∙_}
 use native.Mathlib.Omega.{arith}
 use Rattle.trees.specs.declared.Figures.{Figures}
 use Rattle.trees.specs.declared.Choice.{Choice}
@@ -12,17 +12,21 @@ use Rattle.flux_spec.specs.Light.{lightAt}
 use Rattle.flux_spec.specs.Conductance.{shareAt}
 use Rattle.flux_spec.specs.Dose.{fluxAt, doseAt}
 use Rattle.flux_spec.specs.Pair.{lowerOf, upperOf, shareLow, shareUp}
-use Rattle.flux_spec.specs.Enclosure.{Limited, HourEnclosed, Limits, Enclosure}
+use Rattle.flux_spec.specs.Enclosure.{Limited, HourEnclosed, Answered, Enclosure}
+use Rattle.flux_spec.specs.HourDose.{standOf, standFor, addedPair, hourDoseOf}
+use Rattle.exact.specs.declared.Bounds.{Bounds}
 use Rattle.exact.specs.Frac.{natural, _over_, _≼_}
 use Rattle.records.specs.declared.Hour.{Hour}
 use Rattle.records.specs.declared.Record.{Record}
 use Rattle.records.specs.Answers.{accepted}
 use Rattle.records.specs.Ranges.{checked}
+use Rattle.records.proofs.AnswerLaws.{accepted-same, onward-passed}
 use Rattle.frames.proofs.RangeLaws.{HourIn, checked-passed}
 use Rattle.flux_spec.proofs.LightLaws.{lightAt-mono, lightTerms, light-low, light-high, light-gap, light-order, lightUp-le}
 use Rattle.flux_spec.proofs.BoundaryLaws.{rootUpAt-anti}
 use Rattle.flux_spec.proofs.FluxLaws.{doseAt-is, dose-mono}
 use Rattle.flux_spec.proofs.ShareLaws.{shareAt-mono, share-low, share-high, share-order, share-gap, shareUp-le}
+use Rattle.flux_spec.proofs.HourDoseLaws.{stand-passed}
 use Rattle.flux_spec.proofs.PairLaws.{lowerOf-under, upperOf-over, lowerOf-le, upperOf-le, upperOf-gap, pair-none}
 
 -- ---- one hour
@@ -67,9 +71,9 @@ module _ (stand : Stand) (lim : Limited (stand .figures)) (h : Hour) where
     near = omega (arith, share-gap stand (lim .sound) h (lightUp-le f (h .ppfd)) (light-gap f (h .ppfd)) (light-order f (h .ppfd)))
 
     no-dose :
-        ((k : ℕ) → fluxAt k stand h ≼ 3598 over 3600) → (lowerOf stand h ≡ 0) × (upperOf stand h ≡ 0)
-    no-dose few =
-        pair-none stand h (lim .gmax) (range .ozone) shares-top shares-order near lightTerms (omega arith) share-under (few lightTerms)
+        (m : ℕ) → m ≤ 3598 → ((k : ℕ) → fluxAt k stand h ≼ m over 3600) → (lowerOf stand h ≡ 0) × (upperOf stand h ≡ 0)
+    no-dose m le few =
+        pair-none stand h (lim .gmax) (range .ozone) shares-top shares-order near m lightTerms le (omega arith) share-under (few lightTerms)
 
     pub hour-enclosed : HourEnclosed stand h
     hour-enclosed = record {
@@ -79,7 +83,7 @@ module _ (stand : Stand) (lim : Limited (stand .figures)) (h : Hour) where
       gap = upperOf-gap stand h (lim .gmax) (range .ozone) shares-top shares-order near;
       most = upperOf-le stand h (lim .gmax) (range .ozone) shares-top;
       grows = doseAt-mono;
-      none = no-dose;
+      none = no-dose _ (omega arith);
     }
 
 -- ---- the six trees
@@ -91,8 +95,18 @@ tree-limited tree f e = record {
       figures-all (λ g. g .gmax ≤ 265) (omega arith) (omega arith) (omega arith) (omega arith) (omega arith) (omega arith) tree f e;
 }
 
-limits : Limits
-limits = record { radiation50 = λ h e. rw e; radiation51 = λ h e. rw e; ozone400 = λ h e. rw e; ozone401 = λ h e. rw e }
+answered : (tree first last : ℕ) (h : Hour) (pair : Bounds) → hourDoseOf (figuresOf tree) first last h ≡ accepted pair → Answered tree first last h pair
+unfolding hourDoseOf
+answered tree first last h pair e =
+    let found = onward-passed (standFor (figuresOf tree) first last h) _ pair e in
+    let stand = found .0 in
+    let p = stand-passed (figuresOf tree) first last h stand (found .1) in
+    record {
+      figures = stand .figures;
+      named = p .named;
+      is = sym (accepted-same (found .2)) ∙ ap (λ s. addedPair s h) (p .is);
+      enclosed = hour-enclosed (standOf (stand .figures) first last) (tree-limited tree (stand .figures) (p .named)) h (p .checks);
+    }
 
 pub enclosure : Enclosure
-enclosure = record { trees = tree-limited; hour = hour-enclosed; limits = limits }
+enclosure = record { trees = tree-limited; hour = hour-enclosed; answer = answered }

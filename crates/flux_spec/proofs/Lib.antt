@@ -9,4 +9,6 @@ pub mod ShareLaws
 pub mod DecayTests
 pub mod DecayLaws
 pub mod LightLaws
+pub mod HourDoseLaws
 pub mod EnclosureLaws
+pub mod BenchCases

@@ -1,13 +1,15 @@
--- f_light at k never falls as k grows and is at most 1; lightLow and lightUp enclose it and are at most 7 apart, in units of 10⁻⁹.
+-- f_light at k never falls as k grows, is at most 1 and in the dark 0; lightLow and lightUp enclose it and are at most 7 apart, in units of 10⁻⁹.
 use Prim.Native.Nat.{ℕ, _+_, _-_, _*_, _^_, _≤_, _<_}
-use native.Mathlib.Nat.{mul-le-mul, mul-sub, mul-comm, one-mul, mul-one}
+use native.Mathlib.Nat.{mul-le-mul, mul-sub, mul-comm, mul-zero, one-mul, mul-one}
 use native.Mathlib.Omega.{arith}
 use lib.Dec.{lit<}
 use Rattle.exact.specs.Frac.{Frac, natural, _over_, _⊖_, _≼_}
 use Rattle.exact.specs.Series.{decayAt}
-use Rattle.exact.proofs.SeriesLaws.{decayAt-anti}
+use Rattle.exact.proofs.FracLaws.{≼-trans, ≼-antisym, over-mono}
+use Rattle.exact.proofs.SeriesLaws.{decayAt-anti, decayAt-zero}
 use Rattle.trees.specs.declared.Figures.{Figures}
 use Rattle.flux_spec.specs.Light.{lightAt, digitTerms, decayLow, lightLowOf, lightUpOf, lightLow, lightUp}
+use Rattle.flux_spec.specs.Facts.{LightFacts}
 use Rattle.flux_spec.proofs.DecayLaws.{decayLow-near}
 
 -- ---- 1 less a fraction
@@ -35,9 +37,21 @@ module _ (f : Figures) (ppfd : ℕ) where
   unfolding lightAt
   lightAt-mono h = rest-anti (decayAt-anti 10000 (lit< tt) (f .lighta * ppfd) h)
 
-  pub lightAt-le : (k : ℕ) → lightAt k f ppfd ≼ natural 1
+  lightAt-le : (k : ℕ) → lightAt k f ppfd ≼ natural 1
   unfolding lightAt
   lightAt-le k = rest-le (decayAt k (f .lighta * ppfd) 10000)
+
+lightAt-dark : (k : ℕ) (f : Figures) → lightAt k f 0 ≼ natural 0
+unfolding lightAt
+lightAt-dark k f =
+    rw (mul-zero (f .lighta)) (≼-trans (rest-anti (decayAt-zero 10000 (lit< tt) k)) (omega arith))
+
+pub light-facts : (f : Figures) → LightFacts f
+light-facts f = record {
+  limits = λ k ppfd. record { above = omega arith; below = lightAt-le f ppfd k };
+  dark = λ k. ≼-antisym (lightAt-dark k f) (omega arith);
+  grows = λ k l ppfd h. lightAt-mono f ppfd h;
+}
 
 -- ---- the pair
 
@@ -51,7 +65,8 @@ module _ (f : Figures) (ppfd : ℕ) (steep : f .lighta ≤ 200) (bright : ppfd �
 
   pub light-low : lightLow f ppfd over 10 ^ 9 ≼ lightAt lightTerms f ppfd
   unfolding lightAt lightLow lightLowOf
-  light-low = rest-under (decayAt lightTerms (f .lighta * ppfd) 10000) (decayLow (f .lighta * ppfd) + 7) (decayLow-near (f .lighta * ppfd) small .high)
+  light-low =
+      rest-under (decayAt lightTerms (f .lighta * ppfd) 10000) _ (≼-trans (decayLow-near (f .lighta * ppfd) small .high) (over-mono (10 ^ 9) (omega arith)))
 
   pub light-high : (k : ℕ) → lightAt k f ppfd ≼ lightUp f ppfd over 10 ^ 9
   unfolding lightAt lightUp lightUpOf

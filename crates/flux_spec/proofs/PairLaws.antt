@@ -4,7 +4,7 @@ use mathlib.Core.Path.{_≡_}
 use native.Mathlib.Nat.{le-refl}
 use native.Mathlib.Omega.{arith}
 use Rattle.exact.specs.Frac.{natural, _over_, _≼_}
-use Rattle.exact.proofs.FracLaws.{≼-trans}
+use Rattle.exact.proofs.FracLaws.{≼-trans, over-mono}
 use Rattle.trees.specs.declared.Figures.{Figures}
 use Rattle.records.specs.declared.Hour.{Hour}
 use Rattle.flux_spec.specs.declared.Stand.{Stand}
@@ -14,7 +14,7 @@ use Rattle.flux_spec.specs.Dose.{fluxAt, doseAt}
 use Rattle.flux_spec.specs.Pair.{shareLow, shareUp, rootLow, lowerOf, upperOf}
 use Rattle.flux_spec.proofs.BoundaryLaws.{rootUpAt-anti, rootLow-le, rootUpAt-le}
 use Rattle.flux_spec.proofs.FluxLaws.{fluxAt-is, doseAt-is}
-use Rattle.flux_spec.proofs.QuotientLaws.{quotient-none, quotient-under, quotient-over, lower-le-upper}
+use Rattle.flux_spec.proofs.QuotientLaws.{quotient-few, quotient-under, quotient-over, lower-le-upper}
 use Rattle.flux_spec.proofs.QuotientSizes.{quotient-near, quotient-gap, upper-le}
 
 module _ (stand : Stand) (h : Hour) where
@@ -31,8 +31,7 @@ module _ (stand : Stand) (h : Hour) where
   unfolding lowerOf
   lowerOf-under k from7 share =
       rw (doseAt-is k stand h)
-      (quotient-under (f .gmax) (h .ozone) (shareLow stand h) (rootLow (f .leaf) (h .wind) + 1) _ _ share
-      (root-under k from7))
+      (quotient-under (f .gmax) (h .ozone) (shareLow stand h) _ _ _ share (≼-trans (root-under k from7) (over-mono (10 ^ 7) (omega arith))))
 
   pub upperOf-over :
       (k : ℕ) → shareAt k stand h ≼ shareUp stand h over 10 ^ 7 →
@@ -40,7 +39,7 @@ module _ (stand : Stand) (h : Hour) where
   unfolding upperOf
   upperOf-over k share =
       rw (doseAt-is k stand h)
-      (quotient-over (f .gmax) (h .ozone) (shareUp stand h) (rootLow (f .leaf) (h .wind)) _ _ share (rootLow-le (f .leaf) (h .wind) k))
+      (quotient-over (f .gmax) (h .ozone) (shareUp stand h) _ _ _ share (≼-trans (over-mono (10 ^ 7) (omega arith)) (rootLow-le (f .leaf) (h .wind) k)))
 
   pub lowerOf-le : shareLow stand h ≤ shareUp stand h → lowerOf stand h ≤ upperOf stand h
   unfolding lowerOf upperOf
@@ -58,14 +57,14 @@ module _ (stand : Stand) (h : Hour) where
           quotient-gap (f .gmax) (h .ozone) (shareUp stand h) (rootLow (f .leaf) (h .wind)) gmax-le ozone-le share-le
           (shareLow stand h) (rootLow (f .leaf) (h .wind) + 1) order near (le-refl _)
 
-      -- 3600·F is at most 3598 at some k, so the lower quotient is, and the upper one is at most 1 more
+      -- 3600·F is at most m at some k, so the lower quotient is, and the upper one is at most 1 more
       pub pair-none :
-          (k : ℕ) → 7 ≤ k → shareLow stand h over 10 ^ 7 ≼ shareAt k stand h → fluxAt k stand h ≼ 3598 over 3600 →
+          (m k : ℕ) → m ≤ 3598 → 7 ≤ k → shareLow stand h over 10 ^ 7 ≼ shareAt k stand h → fluxAt k stand h ≼ m over 3600 →
           (lowerOf stand h ≡ 0) × (upperOf stand h ≡ 0)
       unfolding lowerOf upperOf
-      pair-none k from7 share few =
+      pair-none m k few-enough from7 share few =
           let low =
-          quotient-none (f .gmax) (h .ozone) (shareLow stand h) (rootLow (f .leaf) (h .wind) + 1) _ _ share (root-under k from7)
+          quotient-few (f .gmax) (h .ozone) (shareLow stand h) (rootLow (f .leaf) (h .wind) + 1) _ _ m share (root-under k from7)
           (rw (fluxAt-is k stand h) at few) in
           let up =
           quotient-near (f .gmax) (h .ozone) (shareUp stand h) (rootLow (f .leaf) (h .wind)) gmax-le ozone-le share-le

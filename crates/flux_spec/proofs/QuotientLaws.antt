@@ -6,23 +6,23 @@ use native.Mathlib.Omega.{arith}
 use lib.Dec.{lit<}
 use Rattle.exact.specs.Frac.{Frac, natural, _over_, _≼_}
 use Rattle.exact.proofs.FracLaws.{≼-refl, ≼-trans}
-use Rattle.flux_spec.specs.Pair.{quotient}
-use Rattle.flux_spec.proofs.FluxLaws.{flux, dose, flux-num, flux-den, dose-num, dose-den, flux-mono}
-use Rattle.flux_spec.proofs.QuotientSizes.{dividend, part, divisor, quotient-le, quotient-lt}
+use Rattle.flux_spec.specs.Pair.{dividend, resisted, divisor, quotient}
+use Rattle.flux_spec.proofs.FluxLaws.{sharedFlux, sharedDose, flux-num, flux-den, dose-num, dose-den, flux-mono}
+use Rattle.flux_spec.proofs.QuotientSizes.{quotient-le, quotient-lt}
 
 -- ---- F at p/10⁷ and s/10⁷
 
 -- the divisor, not rounded, in units of 1/400000
 abbrev whole : ℕ → ℕ → ℕ → ℕ
-whole g p s = 820000000000000000 + part g p s
+whole g p s = 820000000000000000 + resisted g p s
 
 module _ (g o p s : ℕ) where
-  at-num : 9 * flux g o (p over 10 ^ 7) (s over 10 ^ 7) .num ≡ 20500000000000000000 * (1000 * dividend g o p)
+  at-num : 9 * sharedFlux g o (p over 10 ^ 7) (s over 10 ^ 7) .num ≡ 20500000000000000000 * (1000 * dividend g o p)
   unfolding dividend
   at-num = omega (arith, flux-num g o (p over 10 ^ 7) (s over 10 ^ 7))
 
-  at-den : flux g o (p over 10 ^ 7) (s over 10 ^ 7) .den ≡ 20500000000000000000 * whole g p s
-  unfolding part
+  at-den : sharedFlux g o (p over 10 ^ 7) (s over 10 ^ 7) .den ≡ 20500000000000000000 * whole g p s
+  unfolding resisted
   at-den = omega (arith, flux-den g o (p over 10 ^ 7) (s over 10 ^ 7))
 
 divisor-up : (g p s : ℕ) → whole g p s ≤ 400000 * divisor g p s 1
@@ -69,10 +69,10 @@ less-above u q n d e h =
 
 module _ (g o p s : ℕ) (x r : Frac) where
   abbrev n : ℕ
-  n = flux g o x r .num
+  n = sharedFlux g o x r .num
 
   abbrev d : ℕ
-  d = flux g o x r .den
+  d = sharedFlux g o x r .den
 
   quotient-below : p over 10 ^ 7 ≼ x → r ≼ s over 10 ^ 7 → quotient g o p s 1 * d ≤ 3600 * n
   quotient-below h k =
@@ -81,16 +81,16 @@ module _ (g o p s : ℕ) (x r : Frac) where
       cross-le 20500000000000000000 (dividend g o p) (whole g p s) n d _ _ (lit< tt) (at-num g o p s) (at-den g o p s) (at .cross) in
       below (quotient g o p s 1) (dividend g o p) (divisor g p s 1) (whole g p s) n d (omega arith) (quotient-le g o p s 1) (divisor-up g p s) f
 
-  pub quotient-none : p over 10 ^ 7 ≼ x → r ≼ s over 10 ^ 7 → flux g o x r ≼ 3598 over 3600 → quotient g o p s 1 ≤ 3598
-  quotient-none h k few =
-      le-of-mul-le-mul-right {k = d} (omega (arith, quotient-below h k, few .cross)) (flux g o x r .positive)
+  pub quotient-few : (m : ℕ) → p over 10 ^ 7 ≼ x → r ≼ s over 10 ^ 7 → sharedFlux g o x r ≼ m over 3600 → quotient g o p s 1 ≤ m
+  quotient-few m h k few =
+      le-of-mul-le-mul-right {k = d} (omega (arith, quotient-below h k, few .cross)) (sharedFlux g o x r .positive)
 
-  pub quotient-under : p over 10 ^ 7 ≼ x → r ≼ s over 10 ^ 7 → natural (quotient g o p s 1 - 3600) ≼ dose g o x r
+  pub quotient-under : p over 10 ^ 7 ≼ x → r ≼ s over 10 ^ 7 → natural (quotient g o p s 1 - 3600) ≼ sharedDose g o x r
   quotient-under h k =
       let l : quotient g o p s 1 * d ≤ 3600 * n = quotient-below h k in
       record { cross = rw (dose-num g o x r, dose-den g o x r) (omega (arith, less-below (quotient g o p s 1 - 3600) (quotient g o p s 1) n d refl l)) }
 
-  pub quotient-over : x ≼ p over 10 ^ 7 → s over 10 ^ 7 ≼ r → dose g o x r ≼ natural (quotient g o p s 0 - 3599)
+  pub quotient-over : x ≼ p over 10 ^ 7 → s over 10 ^ 7 ≼ r → sharedDose g o x r ≼ natural (quotient g o p s 0 - 3599)
   quotient-over h k =
       let at = flux-mono g o x r (p over 10 ^ 7) (s over 10 ^ 7) h k in
       let f : 9 * n * whole g p s ≤ 1000 * dividend g o p * d =

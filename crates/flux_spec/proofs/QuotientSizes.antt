@@ -1,23 +1,8 @@
 -- How large the quotients are, and how near: a share 3 units further and a root 1 unit less add at most 1.
-use mathlib.Core.Path.{_≡_, refl}
-use Prim.Native.Nat.{ℕ, _+_, _-_, _*_, _/_, _≤_, _<_}
+use Prim.Native.Nat.{ℕ, _+_, _-_, _*_, _≤_, _<_}
 use native.Mathlib.Nat.{mul-le-mul, mul-le-mul-left, lt-of-mul-lt-mul-right, div-mul-le-self, lt-div-mul-add}
 use native.Mathlib.Omega.{arith}
-use Rattle.flux_spec.specs.Pair.{quotient}
-
-unfoldable pub dividend : ℕ → ℕ → ℕ → ℕ
-dividend gmax ozone p = 74808 * ozone * (gmax * p)
-
--- Rb(g + 0.0004), before it is rounded
-unfoldable pub part : ℕ → ℕ → ℕ → ℕ
-part gmax p s = 39 * s * (gmax * p + 164000000)
-
-unfoldable pub divisor : ℕ → ℕ → ℕ → ℕ → ℕ
-divisor gmax p s more = 2050000000000 + more + part gmax p s / 400000
-
-quotient-is : (g o p s m : ℕ) → quotient g o p s m ≡ dividend g o p / divisor g p s m
-unfolding quotient dividend part divisor
-quotient-is g o p s m = refl
+use Rattle.flux_spec.specs.Pair.{dividend, resisted, divisor, quotient}
 
 divisor-ge : (g p s m : ℕ) → 2050000000000 ≤ divisor g p s m
 unfolding divisor
@@ -25,10 +10,12 @@ divisor-ge g p s m = omega arith
 
 module _ (g o p s m : ℕ) where
   pub quotient-le : quotient g o p s m * divisor g p s m ≤ dividend g o p
-  quotient-le = rw (quotient-is g o p s m) (div-mul-le-self (dividend g o p) (divisor g p s m))
+  unfolding quotient
+  quotient-le = omega (arith, div-mul-le-self (dividend g o p) (divisor g p s m))
 
   pub quotient-lt : dividend g o p < quotient g o p s m * divisor g p s m + divisor g p s m
-  quotient-lt = rw (quotient-is g o p s m) (lt-div-mul-add (omega (arith, divisor-ge g p s m)))
+  unfolding quotient
+  quotient-lt = omega (arith, lt-div-mul-add {a = dividend g o p} {b = divisor g p s m} (omega (arith, divisor-ge g p s m)))
 
 -- ---- for the largest gmax and ozone, and a share of 1 and 3 units at most
 
@@ -43,13 +30,13 @@ dividend-gap : (g o p q : ℕ) → g ≤ 265 → o ≤ 5000 → q ≤ p + 3 → 
 unfolding dividend
 dividend-gap g o p q h k l = omega (arith, mul-le-mul-left (o * g) l, mul-le-mul k h)
 
-part-gap : (g p q s t : ℕ) → g ≤ 265 → p ≤ q → q ≤ 10000003 → t ≤ s + 1 → part g p t ≤ part g q s + 109746031005
-unfolding part
-part-gap g p q s t h k l m = omega (arith, mul-le-mul m (mul-le-mul-left g k), product-le g q h l)
+resisted-gap : (g p q s t : ℕ) → g ≤ 265 → p ≤ q → q ≤ 10000003 → t ≤ s + 1 → resisted g p t ≤ resisted g q s + 109746031005
+unfolding resisted
+resisted-gap g p q s t h k l m = omega (arith, mul-le-mul m (mul-le-mul-left g k), product-le g q h l)
 
 divisor-gap : (g p q s t : ℕ) → g ≤ 265 → p ≤ q → q ≤ 10000003 → t ≤ s + 1 → divisor g p t 1 ≤ divisor g q s 0 + 274367
 unfolding divisor
-divisor-gap g p q s t h k l m = omega (arith, part-gap g p q s t h k l m)
+divisor-gap g p q s t h k l m = omega (arith, resisted-gap g p q s t h k l m)
 
 quotient-small : (g o p s m : ℕ) → g ≤ 265 → o ≤ 5000 → p ≤ 10000003 → quotient g o p s m ≤ 483516
 quotient-small g o p s m h k l =

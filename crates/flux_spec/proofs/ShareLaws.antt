@@ -1,11 +1,12 @@
 -- f_phen × f_light × max(..), for any sound figures, period and hour: at most 1, never falling as k grows, and enclosed by its pair,
 -- which is at most 2 apart. What a law needs of f_light it takes as a premise.
 use Prim.Native.Nat.{ℕ, _+_, _*_, _^_, _≤_}
+use mathlib.Core.Path.{_≡_, ap}
 use native.Mathlib.Nat.{mul-le-mul}
 use native.Mathlib.Omega.{arith}
 use Rattle.exact.specs.Frac.{Frac, natural, _over_, _≼_}
 use Rattle.exact.specs.Rounding.{roundUp, roundDown, timesUp, timesDown}
-use Rattle.exact.proofs.FracLaws.{≼-refl, ≼-trans, ⊗-mono, ⊗-comm, ⊗-le-one}
+use Rattle.exact.proofs.FracLaws.{≼-refl, ≼-trans, ≼-antisym, ≈-le, ⊗-mono, ⊗-comm, ⊗-le-one}
 use Rattle.exact.proofs.RoundingLaws.{times-down, times-up, product-down, product-up, over-gap, over-order, times-order, times-gap, timesDown-le, timesUp-le}
 use Rattle.trees.specs.declared.Figures.{Figures}
 use Rattle.trees.specs.Sound.{Sound}
@@ -13,8 +14,10 @@ use Rattle.trees.proofs.FactorLaws.{phenology-limits}
 use Rattle.records.specs.declared.Hour.{Hour}
 use Rattle.flux_spec.specs.declared.Stand.{Stand}
 use Rattle.flux_spec.specs.Light.{lightAt, lightLow, lightUp}
-use Rattle.flux_spec.specs.Conductance.{aboveOf, phenologyIn, shareAt}
+use Rattle.flux_spec.specs.Conductance.{aboveOf, phenologyIn, openingAt, shareAt}
 use Rattle.flux_spec.specs.Pair.{openingLow, openingUp, shareLow, shareUp}
+use Rattle.flux_spec.specs.Facts.{ShareFacts, HourFacts}
+use Rattle.flux_spec.proofs.LightLaws.{light-facts}
 use Rattle.flux_spec.proofs.OpeningLaws.{openingAt-le, openingAt-mono, opening-low, opening-high, opening-gap, opening-order, openingLow-le, openingUp-le}
 
 -- two numbers of 10⁻⁹, the greater ones at most 8 and 3 above
@@ -47,14 +50,16 @@ module _ (stand : Stand) (s : Sound (stand .figures)) (h : Hour) where
 
   -- ---- at k
 
-  pub shareAt-le : ((k : ℕ) → lightAt k f (h .ppfd) ≼ natural 1) → (k : ℕ) → shareAt k stand h ≼ natural 1
+  -- f_light stands outside the floor f_min
+  share-dark : (k : ℕ) → lightAt k f (h .ppfd) ≼ natural 0 → shareAt k stand h ≼ natural 0
   unfolding shareAt
-  shareAt-le light-le k = ⊗-le-one (⊗-le-one phen-le (light-le k)) (openingAt-le f s h k)
+  share-dark k dark =
+      let none : lightAt k f (h .ppfd) .num ≡ 0 = omega (arith, dark .cross) in
+      record { cross = omega (arith, ap (λ (n : ℕ). phen .num * n * openingAt k f h .num) none) }
 
-  -- f_light stands outside the floor f_min: in the dark nothing is left
-  pub share-dark : (k : ℕ) → lightAt k f (h .ppfd) ≼ natural 0 → shareAt k stand h ≼ natural 0
+  shareAt-le : (k : ℕ) → lightAt k f (h .ppfd) ≼ natural 1 → shareAt k stand h ≼ natural 1
   unfolding shareAt
-  share-dark k dark = ≼-trans (⊗-mono (⊗-mono phen-le dark) (openingAt-le f s h k)) (record { cross = omega arith })
+  shareAt-le k light-le = ⊗-le-one (⊗-le-one phen-le light-le) (openingAt-le f s h k)
 
   module _ (light-mono : (k l : ℕ) → k ≤ l → lightAt k f (h .ppfd) ≼ lightAt l f (h .ppfd)) where
     pub shareAt-mono : (k l : ℕ) → k ≤ l → shareAt k stand h ≼ shareAt l stand h
@@ -102,3 +107,17 @@ module _ (stand : Stand) (s : Sound (stand .figures)) (h : Hour) where
     pub shareUp-le : shareUp stand h ≤ 10 ^ 7 + 1
     unfolding shareUp
     shareUp-le = pair-le up (openingUp f h) (omega (arith, timesUp-le (lightUp f (h .ppfd)) phen-le)) (openingUp-le f s h)
+
+-- ---- the facts
+
+share-facts : (stand : Stand) → Sound (stand .figures) → (h : Hour) → ShareFacts stand h
+share-facts stand s h =
+    let light = light-facts (stand .figures) in
+    record {
+      limits = λ k. record { above = omega arith; below = shareAt-le stand s h k (light .limits k (h .ppfd) .below) };
+      dark = λ e k. ≼-antisym (share-dark stand s h k (rw e (≈-le (light .dark k)))) (omega arith);
+      grows = shareAt-mono stand s h (λ k l j. light .grows k l (h .ppfd) j);
+    }
+
+pub hour-facts : HourFacts
+hour-facts = record { light = light-facts; share = share-facts }

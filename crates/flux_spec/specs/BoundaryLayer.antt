@@ -12,5 +12,9 @@ windRead wind = max 10 wind
 unfoldable pub rootUpAt : ℕ → ℕ → ℕ → ℕ
 rootUpAt k leaf wind = least (λ r. leb (10 ^ (2 * k) * leaf) (r * r * (10 * wind))) (10 ^ (2 * k) * leaf)
 
+-- 195 times the root, in s/m
+abbrev pub resistance : Frac → Frac
+resistance root = natural 195 ⊗ root
+
 unfoldable pub resistanceAt : ℕ → ℕ → ℕ → Frac
-resistanceAt k leaf wind = natural 195 ⊗ rootUpAt k leaf (windRead wind) over 10 ^ k
+resistanceAt k leaf wind = resistance (rootUpAt k leaf (windRead wind) over 10 ^ k)

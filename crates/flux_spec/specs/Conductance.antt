@@ -31,5 +31,9 @@ phenologyIn stand h = phenologyOf (stand .figures) (stand .first) (stand .last) 
 unfoldable pub shareAt : ℕ → Stand → Hour → Frac
 shareAt k stand h = phenologyIn stand h ⊗ lightAt k (stand .figures) (h .ppfd) ⊗ openingAt k (stand .figures) h
 
+-- gmax × that / 41000, in m/s
+abbrev pub conductance : ℕ → Frac → Frac
+conductance gmax share = gmax over 41000 ⊗ share
+
 unfoldable pub conductanceAt : ℕ → Stand → Hour → Frac
-conductanceAt k stand h = stand .figures .gmax over 41000 ⊗ shareAt k stand h
+conductanceAt k stand h = conductance (stand .figures .gmax) (shareAt k stand h)

@@ -12,14 +12,19 @@ use Rattle.flux_spec.specs.Conductance.{conductanceAt}
 abbrev pub concentration : ℕ → Frac
 concentration ozone = ozone over 10 ⊗ 4156 over 100
 
-unfoldable pub fluxAt : ℕ → Stand → Hour → Frac
-fluxAt k stand h =
-    concentration (h .ozone) ⊗ conductanceAt k stand h
-    ⊘ (natural 1 ⊕ resistanceAt k (stand .figures .leaf) (h .wind) ⊗ (conductanceAt k stand h ⊕ 4 over 10000))
+-- F of an ozone concentration, a conductance and a resistance, in nmol m⁻² s⁻¹
+unfoldable pub flux : Frac → Frac → Frac → Frac
+flux ozone g rb = ozone ⊗ g ⊘ (natural 1 ⊕ rb ⊗ (g ⊕ 4 over 10000))
 
 -- 3600·max(F - 1, 0) nmol m⁻²
+unfoldable pub dose : Frac → Frac
+dose f = natural 3600 ⊗ (f ⊖ natural 1)
+
+unfoldable pub fluxAt : ℕ → Stand → Hour → Frac
+fluxAt k stand h = flux (concentration (h .ozone)) (conductanceAt k stand h) (resistanceAt k (stand .figures .leaf) (h .wind))
+
 unfoldable pub doseAt : ℕ → Stand → Hour → Frac
-doseAt k stand h = natural 3600 ⊗ (fluxAt k stand h ⊖ natural 1)
+doseAt k stand h = dose (fluxAt k stand h)
 
 -- an hour is counted if G > 50
 abbrev pub isCounted : Hour → Bool

@@ -1,7 +1,7 @@
 -- What the hour's pair is worth (document 01, "The exact dose"), for any sound figures with gmax up to 265 and any hour that row 10 lets pass.
 use Prim.Native.Nat.{ℕ, _+_, _≤_}
 use mathlib.Core.Path.{_≡_}
-use mathlib.Core.Bool.{true, false}
+use Rattle.exact.specs.declared.Bounds.{Bounds}
 use Rattle.exact.specs.Frac.{_over_, _≼_}
 use Rattle.trees.specs.declared.Figures.{Figures}
 use Rattle.trees.specs.declared.Choice.{Choice}
@@ -12,8 +12,9 @@ use Rattle.records.specs.declared.Record.{Record}
 use Rattle.records.specs.Answers.{accepted}
 use Rattle.records.specs.Ranges.{checked}
 use Rattle.flux_spec.specs.declared.Stand.{Stand}
-use Rattle.flux_spec.specs.Dose.{fluxAt, doseAt, isCounted, excess, NotAbove, NotBelow}
+use Rattle.flux_spec.specs.Dose.{fluxAt, doseAt, NotAbove, NotBelow}
 use Rattle.flux_spec.specs.Pair.{lowerOf, upperOf}
+use Rattle.flux_spec.specs.HourDose.{standOf, addedPair, hourDoseOf}
 
 -- sound, within the six trees' limits
 pub record Limited (f : Figures) : Type 0 where
@@ -30,14 +31,14 @@ pub record HourEnclosed (stand : Stand) (h : Hour) : Type 0 where
   -- (0, 0) where F is surely not above 1
   pub none : ((k : ℕ) → fluxAt k stand h ≼ 3598 over 3600) → (lowerOf stand h ≡ 0) × (upperOf stand h ≡ 0)
 
--- which hours are counted, and what they add to AOT40
-pub record Limits : Type 0 where
-  pub radiation50 : (h : Hour) → h .radiation ≡ 50 → isCounted h ≡ false
-  pub radiation51 : (h : Hour) → h .radiation ≡ 51 → isCounted h ≡ true
-  pub ozone400 : (h : Hour) → h .ozone ≡ 400 → excess h ≡ 0
-  pub ozone401 : (h : Hour) → h .ozone ≡ 401 → excess h ≡ 1
+-- what `hour_dose` answers with a pair: the hour's where it is counted, else 0 and 0
+pub record Answered (tree first last : ℕ) (h : Hour) (pair : Bounds) : Type 0 where
+  pub figures : Figures
+  pub named : figuresOf tree ≡ Choice.Tree figures
+  pub is : pair ≡ addedPair (standOf figures first last) h
+  pub enclosed : HourEnclosed (standOf figures first last) h
 
 pub record Enclosure : Type 0 where
   pub trees : (tree : ℕ) (f : Figures) → figuresOf tree ≡ Choice.Tree f → Limited f
   pub hour : (stand : Stand) → Limited (stand .figures) → (h : Hour) → checked (Record.Hour h) ≡ accepted tt → HourEnclosed stand h
-  pub limits : Limits
+  pub answer : (tree first last : ℕ) (h : Hour) (pair : Bounds) → hourDoseOf (figuresOf tree) first last h ≡ accepted pair → Answered tree first last h pair

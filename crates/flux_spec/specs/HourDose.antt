@@ -1,24 +1,52 @@
--- What an hour adds to POD1, as two whole numbers; row 5 for a number that is no tree, then row 10.
-use Prim.Native.Nat.{ℕ}
+-- What an hour adds to POD1, as two whole numbers; rows 5, 7 and 10, in that order, for a number that is no tree, days that are no period and readings
+-- out of range.
+use Prim.Native.Nat.{ℕ, _+_}
+use mathlib.Core.Bool.{Bool, true, false, cond}
 use Rattle.exact.specs.declared.Bounds.{Bounds}
+use Rattle.trees.specs.declared.Measure.{Measure}
 use Rattle.trees.specs.declared.Figures.{Figures}
 use Rattle.trees.specs.declared.Choice.{Choice}
+use Rattle.records.specs.declared.Soil.{Soil}
 use Rattle.records.specs.declared.Hour.{Hour}
 use Rattle.records.specs.declared.Record.{Record}
-use Rattle.records.specs.Answers.{Outcome, accepted, refused, onward, rowOf}
-use Rattle.records.specs.Ranges.{checked}
+use Rattle.records.specs.Answers.{Outcome, accepted, refused, row, field, onward, rowOf}
+use Rattle.records.specs.Ranges.{periodOut, checked}
 use Rattle.flux_spec.specs.declared.Stand.{Stand}
 use Rattle.flux_spec.specs.declared.Dosed.{Dosed}
+use Rattle.flux_spec.specs.Dose.{isCounted}
 use Rattle.flux_spec.specs.Pair.{hourPair}
 
 -- the tree's figures, the first and the last day of the period
 abbrev pub standOf : Figures → ℕ → ℕ → Stand
 standOf f first last = record { figures = f; first = first; last = last }
 
--- what the tree's number names, the first and the last day of the period, and the hour
+-- row 7 where the year is not known: no year has more than 366 days
+abbrev pub daysOut : Figures → ℕ → ℕ → Bool
+daysOut f first last = periodOut (record { tree = 0; days = 366; first = first; last = last; level = 0 }) (f .f1 + f .f4)
+
+-- the soil is not in the tree's measure
+abbrev pub otherMeasure : Measure → Soil → Bool
+otherMeasure Measure.Suction (Soil.Suction n) = false
+otherMeasure Measure.Suction (Soil.Water n) = true
+otherMeasure Measure.Water (Soil.Suction n) = true
+otherMeasure Measure.Water (Soil.Water n) = false
+
+-- what the dose goes by besides the hour, out of what the tree's number names and the first and the last day; row 10 names the first field out of
+-- range, and a soil in the other measure is field 7
+unfoldable pub standFor : Choice → ℕ → ℕ → Hour → Outcome Stand
+standFor (Choice.Tree f) first last h =
+    row 7 (daysOut f first last)
+    (onward (checked (Record.Hour h)) (λ _.
+    field 7 (otherMeasure (f .measure) (h .soil))
+    (accepted (standOf f first last))))
+standFor Choice.Unknown first last h = refused (5, 0)
+
+-- an hour that is not counted adds nothing
+abbrev pub addedPair : Stand → Hour → Bounds
+addedPair stand h = cond (isCounted h) (hourPair stand h) (record { lower = 0; upper = 0 })
+
 unfoldable pub hourDoseOf : Choice → ℕ → ℕ → Hour → Outcome Bounds
-hourDoseOf (Choice.Tree f) first last h = onward (checked (Record.Hour h)) (λ _. accepted (hourPair (standOf f first last) h))
-hourDoseOf Choice.Unknown first last h = refused (5, 0)
+hourDoseOf choice first last h = onward (standFor choice first last h) (λ stand. accepted (addedPair stand h))
 
 abbrev pub dosedAs : Dosed → Outcome Bounds
 dosedAs (Dosed.Pair pair) = accepted pair

@@ -40,9 +40,27 @@ shareUp stand h =
 unfoldable pub rootLow : ℕ → ℕ → ℕ
 rootLow leaf wind = squareRoot (leaf * 10 ^ 13 / windRead wind)
 
--- 3600·F, rounded down, at x = p/10⁷ and √(leaf/wind) = s/10⁷, its divisor rounded down, or up where `more` is 1
+-- ---- 3600·F, rounded down, at the share p/10⁷ and the root s/10⁷
+
+-- With G = gmax·p the conductance is G/(41000·10⁷) m/s and the resistance 195·s/10⁷ s/m. Above and below the line everything is taken 5·41000·10⁷
+-- times, which makes whole numbers of all but the last.
+
+-- ozone·g: 74808 = 5 · 3600 s in an hour · 4.156 nmol m⁻³ in a tenth of ppb
+unfoldable pub dividend : ℕ → ℕ → ℕ → ℕ
+dividend gmax ozone p = 74808 * ozone * (gmax * p)
+
+-- Rb(g + 0.0004), 400000 times: 39/400000 = 5·195/10⁷, and 164000000 = 0.0004 m/s · 41000·10⁷
+unfoldable pub resisted : ℕ → ℕ → ℕ → ℕ
+resisted gmax p s = 39 * s * (gmax * p + 164000000)
+
+-- 1 + Rb(g + 0.0004), rounded down, or up where `more` is 1: 2050000000000 = 5·41000·10⁷ is the 1
+unfoldable pub divisor : ℕ → ℕ → ℕ → ℕ → ℕ
+divisor gmax p s more = 2050000000000 + more + resisted gmax p s / 400000
+
 unfoldable pub quotient : ℕ → ℕ → ℕ → ℕ → ℕ → ℕ
-quotient gmax ozone p s more = 74808 * ozone * (gmax * p) / (2050000000000 + more + 39 * s * (gmax * p + 164000000) / 400000)
+quotient gmax ozone p s more = dividend gmax ozone p / divisor gmax p s more
+
+-- ---- the pair
 
 unfoldable pub lowerOf : Stand → Hour → ℕ
 lowerOf stand h = quotient (stand .figures .gmax) (h .ozone) (shareLow stand h) (rootLow (stand .figures .leaf) (h .wind) + 1) 1 - 3600

@@ -1,29 +1,52 @@
--- The frame of a line by its kind, and the hour that a frame's numbers say.
+-- A line by rows 1 to 3, the frame of a line by its kind, and the hour that a frame's numbers say.
 use Prim.Native.Nat.{ℕ, _≤_}
-use mathlib.Core.Bool.{true, false}
 use mathlib.Core.Path.{_≡_, sym, ap, _∙_}
+use mathlib.Core.Bool.{true, false}
 use mathlib.Core.List.{List}
 use native.Mathlib.Nat.{le-of-eq}
 use native.Mathlib.Omega.{arith}
+use lib.Dec.{eqb}
 use lib.IntN.{ℤ}
 use lib.ListN.{length}
-use Rattle.trees.specs.Figures.{figuresOf, measureOf}
+use Rattle.trees.specs.Figures.{figuresOf}
+use Rattle.trees.specs.declared.Figures.{Figures}
+use Rattle.trees.specs.declared.Choice.{Choice}
 use Rattle.trees.specs.declared.Measure.{Measure}
-use Rattle.records.specs.Answers.{Outcome, refused}
-use Rattle.records.specs.Ranges.{isOutside}
+use Rattle.records.specs.Answers.{Outcome, accepted, refused}
 use Rattle.records.specs.Temperature.{signedOf}
-use Rattle.frames.specs.Digits.{byteAt}
-use Rattle.frames.specs.Kinds.{one, kinds, sizeOf, lengthOf}
+use Rattle.frames.specs.Digits.{allDigits, byteAt}
+use Rattle.frames.specs.Kinds.{one, kinds, sizeOf, isLength, lengthOf}
 use Rattle.frames.specs.Fields.{fieldsAt}
 use Rattle.frames.specs.Layout.{frameOf, frameAt, soilOf, hourOf}
 use Rattle.frames.specs.Steps.{Sized}
-use Rattle.frames.specs.Frames.{soundOf, recordOf}
+use Rattle.frames.specs.Frames.{parsedOf, soundOf, recordOf}
 use Rattle.frames.proofs.KindLaws.{length-ge, kind-within}
 use Rattle.records.specs.declared.Hour.{Hour}
 use Rattle.records.specs.declared.Raw.{Raw}
 use Rattle.records.specs.declared.RawHour.{RawHour}
 use Rattle.records.specs.declared.Record.{Record}
 use Rattle.records.specs.declared.Soil.{Soil}
+
+-- ---- a line by the first of rows 1 to 3 that refuses it
+
+module _ (l : List ℕ) where
+  pub length-out : isLength (length l) ≡ false → refused (1, 0) ≡ parsedOf l
+  unfolding parsedOf
+  length-out sized = rw sized
+
+  module _ (sized : isLength (length l) ≡ true) where
+    pub digits-out : allDigits l ≡ false → refused (2, 0) ≡ parsedOf l
+    unfolding parsedOf
+    digits-out digits = rw (sized, digits)
+
+    module _ (digits : allDigits l ≡ true) where
+      pub kind-out : eqb (lengthOf (byteAt 0 l)) (length l) ≡ false → refused (3, 0) ≡ parsedOf l
+      unfolding parsedOf
+      kind-out own = rw (sized, digits, own)
+
+      pub kind-in : eqb (lengthOf (byteAt 0 l)) (length l) ≡ true → accepted (frameAt l) ≡ parsedOf l
+      unfolding parsedOf
+      kind-in own = rw (sized, digits, own)
 
 -- ---- a line of some kind
 
@@ -62,12 +85,12 @@ module _ (raw : RawHour) (m : Measure) where
   hour-is e₁ e₂ = rw (e₁, e₂)
 
 module _ (tree : ℕ) (raw : RawHour) where
-  pub no-tree : isOutside 1 6 tree ≡ true → refused (5, 0) ≡ recordOf tree (Raw.Hour raw)
+  pub no-tree : figuresOf tree ≡ Choice.Unknown → refused (5, 0) ≡ recordOf tree (Raw.Hour raw)
   unfolding recordOf
   no-tree e = rw e
 
   pub hour-recorded :
-      isOutside 1 6 tree ≡ false → {m : Measure} {h : Hour} {o : Outcome Record} → m ≡ measureOf (figuresOf tree) → h ≡ hourOf raw m → o ≡ soundOf (Record.Hour h) →
+      {f : Figures} → figuresOf tree ≡ Choice.Tree f → {h : Hour} {o : Outcome Record} → h ≡ hourOf raw (f .measure) → o ≡ soundOf (Record.Hour h) →
       o ≡ recordOf tree (Raw.Hour raw)
   unfolding recordOf
-  hour-recorded e em eh eo = rw e (rw (eo, eh, em))
+  hour-recorded e eh eo = rw e (rw (eo, eh))

@@ -1,7 +1,7 @@
 -- The table of kinds: a walk of its lengths finds one or has passed it, every length is within the longest, and a number with a length is a kind's.
 use Prim.Native.Nat.{ℕ, zero, suc, _+_, max, _≤_, _<_}
-use mathlib.Core.Path.{_≡_, refl, sym}
-use mathlib.Core.Bool.{Bool, true, false, false≢true, _||_}
+use mathlib.Core.Path.{_≡_, refl, sym, subst}
+use mathlib.Core.Bool.{Bool, true, false, false≢true, _&&_, _||_}
 use mathlib.Core.Logic.{⊎-elim}
 use mathlib.Core.List.{List, [], _∷_, map, foldr}
 use native.Mathlib.Numerals.{add-one}
@@ -12,7 +12,7 @@ use lib.ListN.{length, getD, drop, List·getD-eq-default}
 use lib.Seq.{drop-cons}
 use Rattle.frames.specs.Kinds.{Width, one, kinds, widthsOf, sizeOf, digitsIn, lengths, longest, among, isLength, lengthOf}
 use Rattle.exact.proofs.OrderLaws.{le-or-lt}
-use Rattle.records.proofs.AnswerLaws.{or-either}
+use Rattle.records.proofs.AnswerLaws.{and-both, or-either}
 
 -- ---- a walk of a list
 
@@ -30,6 +30,18 @@ module _ (ms : List ℕ) (i n : ℕ) (h : i < length ms) where
 pub among-none : (n : ℕ) → among [] n ≡ false
 unfolding among
 among-none n = refl
+
+-- a test that every number of a list passes is passed by each that is among them
+abbrev pub allPass : (ℕ → Bool) → List ℕ → Bool
+allPass test [] = true
+allPass test (m ∷ ms) = test m && allPass test ms
+
+pub among-passes : (test : ℕ → Bool) (l : List ℕ) (n : ℕ) → allPass test l ≡ true → among l n ≡ true → test n ≡ true
+unfolding among
+among-passes test [] n all e = absurd (false≢true e)
+among-passes test (m ∷ ms) n all e =
+    let p = and-both (test m) (allPass test ms) all in
+    ⊎-elim (λ same. subst (λ k. test k ≡ true) (eqb-true m n same) (p .0)) (λ rest. among-passes test ms n (p .1) rest) (or-either (eqb m n) (among ms n) e)
 
 -- ---- the lengths of lines
 

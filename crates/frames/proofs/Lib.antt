@@ -3,4 +3,5 @@ pub mod ValueLaws
 pub mod KindLaws
 pub mod FrameLaws
 pub mod RangeLaws
+pub mod ReadLaws
 pub mod RowLaws

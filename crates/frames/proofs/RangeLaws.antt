@@ -1,20 +1,26 @@
 -- A record that rows 5 to 8 and 10 let pass is in range.
-use Prim.Native.Nat.{ℕ, _≤_}
-use mathlib.Core.Path.{_≡_}
+use Prim.Native.Nat.{ℕ, zero, suc, _≤_, _<_}
+use mathlib.Core.Path.{_≡_, sym, _∙_}
 use mathlib.Core.Bool.{false, _||_}
+use mathlib.Core.Logic.{⊎-elim}
 use native.Mathlib.Omega.{arith}
-use borrow.Author.Tests.{ltb-false}
+use borrow.Author.Tests.{ltb-false, ne-eqb}
 use lib.Dec.{ltb}
+use Rattle.exact.proofs.OrderLaws.{le-or-lt}
+use Rattle.trees.specs.declared.Figures.{Figures}
+use Rattle.trees.specs.declared.Choice.{Choice}
+use Rattle.trees.specs.Figures.{figuresOf}
 use Rattle.records.specs.Answers.{accepted}
 use Rattle.records.specs.Temperature.{temperatureOut}
 use Rattle.frames.specs.Layout.{soilNumber}
 use Rattle.records.specs.Ranges.{isOutside, soilOut, periodOut, checked}
+use Rattle.records.specs.Period.{periodHours}
 use Rattle.records.specs.declared.Header.{Header}
 use Rattle.records.specs.declared.Soil.{Soil}
 use Rattle.records.specs.declared.Soil.the-variants.{Suction, Water}
 use Rattle.records.specs.declared.Hour.{Hour}
 use Rattle.records.specs.declared.Record.{Record}
-use Rattle.records.proofs.AnswerLaws.{or-neither, row-passed}
+use Rattle.records.proofs.AnswerLaws.{or-neither, row-passed, onTree-passed}
 
 -- from low to high
 pub record Inside (low high n : ℕ) : Type 0 where
@@ -51,18 +57,41 @@ soil-le : (s : Soil) → soilOut s ≡ false → soilNumber s ≤ 10000
 soil-le (Suction n) e = ltb-false 10000 n e
 soil-le (Water n) e = omega (arith, ltb-false 1000 n e)
 
+-- a number that is a tree
+
+none-past : (t : ℕ) → 6 < t → figuresOf t ≡ Choice.Unknown
+unfolding figuresOf
+none-past t h =
+    simp (
+      ne-eqb t 1 (omega arith),
+      ne-eqb t 2 (omega arith),
+      ne-eqb t 3 (omega arith),
+      ne-eqb t 4 (omega arith),
+      ne-eqb t 5 (omega arith),
+      ne-eqb t 6 (omega arith),
+    )
+
+unknown-not-tree : {A : Type 0} {f : Figures} → Choice.Unknown ≡ Choice.Tree f → A
+unknown-not-tree e = let z : _≡_ {A = ℕ} 0 1 = cc in absurd (omega arith)
+
+tree-inside : (t : ℕ) (f : Figures) → figuresOf t ≡ Choice.Tree f → Inside 1 6 t
+unfolding figuresOf
+tree-inside zero f e = unknown-not-tree e
+tree-inside (suc t) f e =
+    ⊎-elim (λ h. record { above = omega arith; below = h }) (λ h. unknown-not-tree (sym (none-past (suc t) h) ∙ e)) (le-or-lt (suc t) 6)
+
 header-passed : (h : Header) → checked (Record.Header h) ≡ accepted tt → HeaderIn h
 unfolding checked
 header-passed h e =
-    let tree = row-passed (isOutside 1 6 (h .tree)) _ _ tt e in
-    let days = row-passed (isOutside 365 366 (h .days)) _ _ tt (tree .1) in
+    let tree = onTree-passed (figuresOf (h .tree)) _ tt e in
+    let days = row-passed (isOutside 365 366 (h .days)) _ _ tt (tree .2) in
     let period = row-passed (periodOut h _) _ _ tt (days .1) in
     let level = row-passed (isOutside 1 10000 (h .level)) _ _ tt (period .1) in
     let ramps = or-neither (ltb (h .first) 1 || ltb (h .last) (h .first) || ltb (h .days) (h .last)) _ (period .0) in
     let last = or-neither (ltb (h .first) 1 || ltb (h .last) (h .first)) _ (ramps .0) in
     let first = or-neither (ltb (h .first) 1) _ (last .0) in
     record {
-      tree = inside-is 1 6 (h .tree) (tree .0);
+      tree = tree-inside (h .tree) (tree .0) (tree .1);
       days = inside-is 365 366 (h .days) (days .0);
       first = record { above = ltb-false (h .first) 1 (first .0); below = ltb-false (h .last) (h .first) (first .1) };
       last = ltb-false (h .days) (h .last) (last .1);
@@ -88,6 +117,10 @@ hour-passed h e =
       wind = ltb-false 6000 (h .wind) (wind .0);
       soil = soil-le (h .soil) (soil .0);
     }
+
+-- a period has the hours of a year at most
+pub period-le : (h : Header) → checked (Record.Header h) ≡ accepted tt → periodHours h ≤ 8784
+period-le h e = let range = header-passed h e in omega arith
 
 pub checked-passed : (r : Record) → checked r ≡ accepted tt → InRange r
 checked-passed (Record.Header h) e = header-passed h e

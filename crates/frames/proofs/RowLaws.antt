@@ -1,20 +1,26 @@
 -- The reader answers rows 1 to 3, 5 to 8 and 10 and no other.
 use Prim.Native.Nat.{ℕ}
-use mathlib.Core.Path.{_≡_, refl, subst}
-use mathlib.Core.Bool.{Bool, true, false, cond, not, _&&_, or-true}
-use mathlib.Core.List.{List, [], _∷_}
-use native.Mathlib.Omega.{arith}
+use mathlib.Core.Path.{_≡_, refl, sym, subst}
+use mathlib.Core.Bool.{Bool, true, false, cond, _&&_, or-true}
+use mathlib.Core.Logic.{⊎-elim}
+use mathlib.Core.List.{List}
 use lib.Dec.{eqb, ltb}
 use lib.ListN.{length}
+use Rattle.trees.specs.declared.Figures.{Figures}
+use Rattle.trees.specs.declared.Choice.{Choice}
+use Rattle.trees.specs.Figures.{figuresOf}
 use Rattle.records.specs.Answers.{Outcome, accepted, refused, onward}
 use Rattle.frames.specs.Digits.{within, allDigits, byteAt}
 use Rattle.frames.specs.Kinds.{among, isLength, lengthOf}
 use Rattle.records.specs.Temperature.{temperatureOut}
-use Rattle.records.specs.Ranges.{isOutside, periodOut, soilOut, checked}
+use Rattle.records.specs.Ranges.{isOutside, onTree, periodOut, soilOut, checked}
 use Rattle.frames.specs.Frames.{parsedOf, soundOf, recordOf, readFrameOf}
-use Rattle.frames.specs.Rows.{oneOf, ReaderRows}
+use Rattle.frames.specs.Rows.{oneOf, readerRows, ReaderRows}
 use Rattle.records.specs.declared.Raw.{Raw}
 use Rattle.records.specs.declared.Record.{Record}
+use Rattle.records.proofs.AnswerLaws.{and-both, or-either, refused-not-accepted}
+use Rattle.frames.proofs.KindLaws.{allPass, among-passes}
+use Rattle.frames.proofs.FrameLaws.{length-out, digits-out, kind-out, kind-in}
 
 -- an outcome refused by no row but those of the list, and row 10 with its field
 pub record Only {A : Type 0} (rows : List ℕ) (o : Outcome A) : Type 0 where
@@ -22,9 +28,9 @@ pub record Only {A : Type 0} (rows : List ℕ) (o : Outcome A) : Type 0 where
 
 module _ {A : Type 0} {rows : List ℕ} where
   pub accepted-only : (a : A) → Only rows (accepted a)
-  accepted-only a = record { only = λ n f e. let z : _≡_ {A = ℕ} 0 1 = cc in absurd (omega arith) }
+  accepted-only a = record { only = λ n f e. refused-not-accepted (sym e) }
 
-  refused-only : (n f : ℕ) → oneOf rows n f ≡ true → Only {A = A} rows (refused (n, f))
+  pub refused-only : (n f : ℕ) → oneOf rows n f ≡ true → Only {A = A} rows (refused (n, f))
   refused-only n f h = record { only = λ m g e. let same : _≡_ {A = ℕ × ℕ} (n, f) (m, g) = cc in subst (λ (w : ℕ × ℕ). oneOf rows (w .0) (w .1) ≡ true) same h }
 
   -- `row` and `field`, by their test
@@ -35,6 +41,20 @@ module _ {A : Type 0} {rows : List ℕ} where
   pub onward-only : {B : Type 0} (o : Outcome B) (next : B → Outcome A) → Only rows o → ((b : B) → Only rows (next b)) → Only rows (onward o next)
   onward-only (accepted b) next p q = q b
   onward-only (refused w) next p q = refused-only (w .0) (w .1) (p .only (w .0) (w .1) refl)
+
+  onTree-only : (choice : Choice) (next : Figures → Outcome A) → oneOf rows 5 0 ≡ true → ((f : Figures) → Only rows (next f)) → Only rows (onTree choice next)
+  onTree-only (Choice.Tree f) next h o = o f
+  onTree-only Choice.Unknown next h o = refused-only 5 0 h
+
+-- the rows of a list are among those of a longer one
+pub only-wider : {A : Type 0} {rows more : List ℕ} {o : Outcome A} → allPass (among more) rows ≡ true → Only rows o → Only more o
+only-wider {rows = rows} {more = more} all o = record {
+  only = λ n f e.
+      ⊎-elim
+      (λ s. let both = and-both (among rows n) (eqb f 0) s in rw (among-passes (among more) rows n all (both .0), both .1) refl)
+      (λ s. rw s (or-true (among more n && eqb f 0)))
+      (or-either (among rows n && eqb f 0) (eqb n 10 && within 1 7 f) (o .only n f e));
+}
 
 field-in : (rows : List ℕ) (f : ℕ) → within 1 7 f ≡ true → oneOf rows 10 f ≡ true
 field-in rows f e = rw e (or-true (among rows 10 && eqb f 0))
@@ -49,8 +69,8 @@ pub record Ranged (rows : List ℕ) : Type 0 where
 pub checked-only : {rows : List ℕ} → Ranged rows → (r : Record) → Only rows (checked r)
 unfolding checked
 checked-only a (Record.Header h) =
-    row-only (isOutside 1 6 (h .tree)) _ _ _ (a .tree)
-    (row-only (isOutside 365 366 (h .days)) _ _ _ (a .year)
+    onTree-only (figuresOf (h .tree)) _ (a .tree) (λ f.
+    row-only (isOutside 365 366 (h .days)) _ _ _ (a .year)
     (row-only (periodOut h _) _ _ _ (a .period)
     (row-only (isOutside 1 10000 (h .level)) _ _ _ (a .level)
     (accepted-only _))))
@@ -67,32 +87,40 @@ checked-only a (Record.End e) = accepted-only _
 
 -- ---- the reader
 
-abbrev readRows : List ℕ
-readRows = 1 ∷ 2 ∷ 3 ∷ 5 ∷ 6 ∷ 7 ∷ 8 ∷ []
-
-read-ranged : Ranged readRows
+read-ranged : Ranged readerRows
 unfolding among
 read-ranged = record { tree = refl; year = refl; period = refl; level = refl }
 
-parsed-only : (l : List ℕ) → Only readRows (parsedOf l)
-unfolding parsedOf among
-parsed-only l =
-    row-only (not (isLength (length l))) _ _ _ refl
-    (row-only (not (allDigits l)) _ _ _ refl
-    (row-only (not (eqb (lengthOf (byteAt 0 l)) (length l))) _ _ _ refl
-    (accepted-only _)))
+module _ (l : List ℕ) where
+  by-kind : isLength (length l) ≡ true → allDigits l ≡ true → (t : Bool) → eqb (lengthOf (byteAt 0 l)) (length l) ≡ t → Only readerRows (parsedOf l)
+  unfolding among
+  by-kind sized digits true e = subst (Only readerRows) (kind-in l sized digits e) (accepted-only _)
+  by-kind sized digits false e = subst (Only readerRows) (kind-out l sized digits e) (refused-only 3 0 refl)
 
-sound-only : (r : Record) → Only readRows (soundOf r)
+  by-digits : isLength (length l) ≡ true → (t : Bool) → allDigits l ≡ t → Only readerRows (parsedOf l)
+  unfolding among
+  by-digits sized true e = by-kind sized e _ refl
+  by-digits sized false e = subst (Only readerRows) (digits-out l sized e) (refused-only 2 0 refl)
+
+  by-length : (t : Bool) → isLength (length l) ≡ t → Only readerRows (parsedOf l)
+  unfolding among
+  by-length true e = by-digits e _ refl
+  by-length false e = subst (Only readerRows) (length-out l e) (refused-only 1 0 refl)
+
+  pub parsed-only : Only readerRows (parsedOf l)
+  parsed-only = by-length _ refl
+
+sound-only : (r : Record) → Only readerRows (soundOf r)
 unfolding soundOf
 sound-only r = onward-only (checked r) (λ _. accepted r) (checked-only read-ranged r) (λ _. accepted-only r)
 
-record-only : (tree : ℕ) (frame : Raw) → Only readRows (recordOf tree frame)
+pub record-only : (tree : ℕ) (frame : Raw) → Only readerRows (recordOf tree frame)
 unfolding recordOf among
 record-only tree (Raw.Header h) = sound-only (Record.Header h)
-record-only tree (Raw.Hour raw) = row-only (isOutside 1 6 tree) _ _ _ refl (sound-only _)
+record-only tree (Raw.Hour raw) = onTree-only (figuresOf tree) _ refl (λ f. sound-only _)
 record-only tree (Raw.End e) = sound-only (Record.End e)
 
-pub read-only : (tree : ℕ) (l : List ℕ) → Only readRows (readFrameOf tree l)
+read-only : (tree : ℕ) (l : List ℕ) → Only readerRows (readFrameOf tree l)
 unfolding readFrameOf
 read-only tree l = onward-only (parsedOf l) (recordOf tree) (parsed-only l) (record-only tree)
 

@@ -4,12 +4,12 @@ use mathlib.Core.Bool.{not}
 use mathlib.Core.List.{List}
 use lib.ListN.{length}
 use lib.Dec.{eqb}
-use Rattle.trees.specs.Figures.{figuresOf, measureOf}
+use Rattle.trees.specs.Figures.{figuresOf}
 use Rattle.records.specs.Answers.{Outcome, accepted, row, onward}
 use Rattle.frames.specs.Digits.{allDigits, byteAt}
 use Rattle.frames.specs.Kinds.{isLength, lengthOf}
 use Rattle.frames.specs.Layout.{frameAt, hourOf}
-use Rattle.records.specs.Ranges.{isOutside, checked}
+use Rattle.records.specs.Ranges.{onTree, checked}
 use Rattle.records.specs.declared.Raw.{Raw}
 use Rattle.records.specs.declared.Record.{Record}
 
@@ -24,10 +24,10 @@ parsedOf l =
 unfoldable pub soundOf : Record → Outcome Record
 soundOf r = onward (checked r) (λ _. accepted r)
 
--- the given tree matters for an hour frame only; outside 1 to 6 it is row 5
+-- the given tree matters for an hour frame only, whose soil is in its measure; outside 1 to 6 it is row 5
 unfoldable pub recordOf : ℕ → Raw → Outcome Record
 recordOf tree (Raw.Header h) = soundOf (Record.Header h)
-recordOf tree (Raw.Hour raw) = row 5 (isOutside 1 6 tree) (soundOf (Record.Hour (hourOf raw (measureOf (figuresOf tree)))))
+recordOf tree (Raw.Hour raw) = onTree (figuresOf tree) (λ f. soundOf (Record.Hour (hourOf raw (f .measure))))
 recordOf tree (Raw.End e) = soundOf (Record.End e)
 
 unfoldable pub readFrameOf : ℕ → List ℕ → Outcome Record

@@ -20,7 +20,7 @@ use Rattle.records.specs.declared.Record.{Record}
 
 -- ---- a record's numbers in the order of the line, and the record of such numbers
 
-abbrev pub headerNumbers : Header → List ℕ
+abbrev headerNumbers : Header → List ℕ
 headerNumbers h = h .tree ∷ h .days ∷ h .first ∷ h .last ∷ h .level ∷ []
 
 abbrev pub headerOf : List ℕ → Header

@@ -13,6 +13,10 @@ use Rattle.frames.specs.Frames.{readFrameOf}
 abbrev pub oneOf : List ℕ → ℕ → ℕ → Bool
 oneOf rows n f = among rows n && eqb f 0 || eqb n 10 && within 1 7 f
 
+-- the rows that refuse a line read alone, row 10 besides
+abbrev pub readerRows : List ℕ
+readerRows = 1 ∷ 2 ∷ 3 ∷ 5 ∷ 6 ∷ 7 ∷ 8 ∷ []
+
 -- the reader answers no other row
 pub record ReaderRows : Type 0 where
-  pub readRows : (tree : ℕ) (l : List ℕ) (n f : ℕ) → readFrameOf tree l ≡ refused (n, f) → oneOf (1 ∷ 2 ∷ 3 ∷ 5 ∷ 6 ∷ 7 ∷ 8 ∷ []) n f ≡ true
+  pub readRows : (tree : ℕ) (l : List ℕ) (n f : ℕ) → readFrameOf tree l ≡ refused (n, f) → oneOf readerRows n f ≡ true

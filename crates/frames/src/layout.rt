@@ -17,7 +17,7 @@ ghost use mathlib.Core.Path.{_≡_};
 ghost use mathlib.Core.List.{List};
 ghost use Prim.Native.Nat.{ℕ};
 ghost use Rattle.frames.specs.Steps.{Values, Says, Makes, Sized};
-ghost use Rattle.frames.specs.Layout.{headerOf, rawHourOf, endOf, frameAt, soilOf, hourOf};
+ghost use Rattle.frames.specs.Layout.{soilNumber, headerOf, rawHourOf, endOf, frameAt, soilOf, hourOf};
 
 fn header_at(values: &[u8]) -> Header
     requires { ⌜ Values (now values) ⌝ }
@@ -78,6 +78,16 @@ fn soil_of(measure: Measure, n: u16) -> Soil
     match measure {
         Measure::Suction => Soil::Suction(n),
         Measure::Water => Soil::Water(n),
+    }
+}
+
+// A soil reading's number, in its measure's unit.
+pub fn soil_number(soil: Soil) -> u16
+    ensures { λ r. ⌜ r ≡ soilNumber soil ⌝ }
+{
+    match soil {
+        Soil::Suction(n) => n,
+        Soil::Water(n) => n,
     }
 }
 

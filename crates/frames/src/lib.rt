@@ -6,6 +6,7 @@ mod layout;
 mod temperature;
 pub mod widths;
 
+pub use layout::soil_number;
 pub use records::Checked;
 pub use records::Decoded;
 pub use records::End;
@@ -20,6 +21,8 @@ pub use records::Soil;
 pub use records::Written;
 pub use records::check;
 pub use records::row_of;
+pub use temperature::signed;
+use trees::Choice;
 ghost use mathlib.Core.Path.{_≡_};
 ghost use Rattle.records.specs.Answers.{parsedAs, decodedAs};
 ghost use Rattle.frames.specs.Digits.{isDigit};
@@ -65,10 +68,11 @@ fn sound(record: Record) -> Decoded
 fn hour_record(tree: u8, raw: RawHour) -> Decoded
     ensures { λ r. ⌜ decodedAs r ≡ recordOf tree (Raw.Hour raw) ⌝ }
 {
-    if records::outside(1, 6, tree as u16) {
+    let Choice::Tree(f) = trees::figures_of(tree) else {
         return Decoded::Refused(Refusal::Tree);
-    }
-    sound(Record::Hour(layout::hour_of(raw, trees::measure_of(tree))))
+    };
+    let measure = f.measure;
+    sound(Record::Hour(layout::hour_of(raw, measure)))
 }
 
 // A frame to a record; the given tree matters for an hour only.

@@ -3,7 +3,7 @@ ghost use mathlib.Core.Path.{_≡_};
 ghost use Rattle.records.specs.Temperature.{signedOf};
 
 // The temperature that two bytes say.
-pub(crate) fn signed(n: u16) -> i16
+pub fn signed(n: u16) -> i16
     ensures { λ r. ⌜ r ≡ signedOf n ⌝ }
 {
     if n < 32768 {

@@ -5,15 +5,6 @@ use frames::RawHour;
 use frames::Record;
 use frames::Soil;
 
-// The temperature that two bytes say.
-fn signed(n: u16) -> i16 {
-    if n < 32768 {
-        n as i16
-    } else {
-        -((65535 - n) as i16) - 1
-    }
-}
-
 // Trees 1 and 2 are measured in available water.
 fn soil_of(tree: u8, n: u16) -> Soil {
     if tree < 3 {
@@ -30,7 +21,7 @@ fn hour_of(tree: u8, raw: RawHour) -> Hour {
         ozone: raw.ozone,
         ppfd: raw.ppfd,
         radiation: raw.radiation,
-        temperature: signed(raw.temperature),
+        temperature: frames::signed(raw.temperature),
         vpd: raw.vpd,
         wind: raw.wind,
         soil: soil_of(tree, raw.soil),

@@ -12,7 +12,8 @@ ghost use mathlib.Core.List.{[], _∷_, _++_};
 ghost use lib.ListN.{length};
 ghost use Rattle.walk_spec.specs.Lines.{lineFeed};
 ghost use Rattle.report_spec.specs.Text.{decimal, space};
-ghost use Rattle.report_spec.specs.Line.{wordOf, totalsLine};
+ghost use Rattle.account_spec.specs.Reading.{wordOf};
+ghost use Rattle.report_spec.specs.Line.{totalsLine};
 ghost use Rattle.report_spec.specs.Months.{monthLine};
 ghost use Rattle.report_spec.specs.Season.{refusalLine};
 ghost use Rattle.report_spec.specs.Steps.{textIn, Whole};
@@ -34,7 +35,7 @@ fn word_before(t: Text, word: &[u8]) -> Text
 
 // The verdict's word, and the line feed.
 fn of_verdict(verdict: Verdict) -> Text
-    ensures text { λ r. ⌜ textIn r ≡ wordOf verdict (lineFeed ∷ []) ⌝ }
+    ensures text { λ r. ⌜ textIn r ≡ wordOf verdict ++ lineFeed ∷ [] ⌝ }
     ensures room { λ r. ⌜ Whole r × (118 ≤ r .at) ⌝ }
 {
     let end = byte_before(empty(), b'\n');

@@ -10,7 +10,7 @@ use Rattle.records.specs.declared.Refusal.{Refusal}
 use Rattle.records.specs.declared.Written.{Written}
 use Rattle.records.specs.Answers.{Outcome, accepted, refused, writtenAs}
 use Rattle.records.specs.Buffer.{Prints}
-use Rattle.records.proofs.AnswerLaws.{row-passed, accepted-same}
+use Rattle.records.proofs.AnswerLaws.{refused-not-accepted, accepted-same, row-passed}
 
 module _ (text before : List ℕ) where
   pub prints-short : length before < length text → Prints (accepted text) before (Written.Refused Refusal.Buffer) before
@@ -31,6 +31,4 @@ printed-within (accepted t) before after w k p e =
     let same = accepted-same (passed .1) in
     let left : after ≡ t ++ drop (length t) before = p .leaves ∙ rw (passed .0) refl in
     rw (left, length-append t (drop (length t) before)) (omega (arith, same))
-printed-within (refused r) before after w k p e =
-    let never : refused r ≡ accepted k = sym (p .answers) ∙ ap writtenAs e in
-    let z : _≡_ {A = ℕ} 0 1 = cc in absurd (omega arith)
+printed-within (refused r) before after w k p e = refused-not-accepted (sym (p .answers) ∙ ap writtenAs e)

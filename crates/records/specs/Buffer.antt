@@ -16,7 +16,7 @@ abbrev pub bufferAfter : Outcome ℕ → List ℕ → List ℕ → List ℕ
 bufferAfter (accepted n) text buffer = text ++ drop n buffer
 bufferAfter (refused r) text buffer = buffer
 
-abbrev pub textAfter : Outcome (List ℕ) → List ℕ → List ℕ
+abbrev textAfter : Outcome (List ℕ) → List ℕ → List ℕ
 textAfter (accepted text) buffer = bufferAfter (putOf text (length buffer)) text buffer
 textAfter (refused r) buffer = buffer
 

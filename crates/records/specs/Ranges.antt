@@ -2,8 +2,10 @@
 use Prim.Native.Nat.{ℕ, _-_}
 use mathlib.Core.Bool.{Bool, _||_}
 use lib.Dec.{ltb}
+use Rattle.trees.specs.declared.Figures.{Figures}
+use Rattle.trees.specs.declared.Choice.{Choice}
 use Rattle.trees.specs.Figures.{figuresOf, rampDays}
-use Rattle.records.specs.Answers.{Outcome, accepted, row, field}
+use Rattle.records.specs.Answers.{Outcome, accepted, refused, row, field}
 use Rattle.records.specs.Temperature.{temperatureOut}
 use Rattle.records.specs.declared.Header.{Header}
 use Rattle.records.specs.declared.Soil.{Soil}
@@ -14,6 +16,11 @@ use Rattle.records.specs.declared.Record.{Record}
 -- not from low to high
 abbrev pub isOutside : ℕ → ℕ → ℕ → Bool
 isOutside low high n = ltb n low || ltb high n
+
+-- row 5 where a number is no tree, else what follows of the tree's figures
+abbrev pub onTree : {A : Type 0} → Choice → (Figures → Outcome A) → Outcome A
+onTree (Choice.Tree f) next = next f
+onTree Choice.Unknown next = refused (5, 0)
 
 -- suction 0 to 10000 kPa, available water 0 to 1000 tenths of a percent
 abbrev pub soilOut : Soil → Bool
@@ -26,9 +33,9 @@ periodOut h ramps = ltb (h .first) 1 || ltb (h .last) (h .first) || ltb (h .days
 
 unfoldable pub checked : Record → Outcome Unit
 checked (Record.Header h) =
-    row 5 (isOutside 1 6 (h .tree))
-    (row 6 (isOutside 365 366 (h .days))
-    (row 7 (periodOut h (rampDays (figuresOf (h .tree))))
+    onTree (figuresOf (h .tree)) (λ f.
+    row 6 (isOutside 365 366 (h .days))
+    (row 7 (periodOut h (rampDays f))
     (row 8 (isOutside 1 10000 (h .level))
     (accepted tt))))
 checked (Record.Hour h) =

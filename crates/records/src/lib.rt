@@ -45,6 +45,7 @@ pub struct End {
     pub hours: u16,
 }
 
+// What a line says, by its kind.
 pub enum Record {
     Header(Header),
     Hour(Hour),
@@ -72,6 +73,7 @@ pub enum Raw {
 }
 
 // Why a call is refused: a case for each of document 01's rows, 1 to 13 and W-202's 14, in that order. Range names the field, 1 to 7.
+// `rowOf` (specs/Answers.antt) gives each case's number.
 pub enum Refusal {
     Length,
     Digit,
@@ -89,21 +91,25 @@ pub enum Refusal {
     Place,
 }
 
+// The answer to a line by rows 1 to 3: its frame, or the row that refuses it.
 pub enum Parsed {
     Frame(Raw),
     Refused(Refusal),
 }
 
+// The answer to a record by its own rows: none refuses it, or the first that does.
 pub enum Checked {
     Sound,
     Refused(Refusal),
 }
 
+// The answer to a line or a frame that is read: its record, or the row that refuses it.
 pub enum Decoded {
     Read(Record),
     Refused(Refusal),
 }
 
+// The answer to a writing: the bytes written from the buffer's front, or the row that refuses it, nothing written.
 pub enum Written {
     Bytes(usize),
     Refused(Refusal),

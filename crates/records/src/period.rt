@@ -3,12 +3,12 @@ use crate::Header;
 ghost use mathlib.Core.Path.{_≡_};
 ghost use Rattle.records.specs.Period.{periodHours, allGiven};
 
-// The hours from day A hour 0 to day E hour 23.
+// The hours from day A hour 0 to day E hour 23; none where E is before A.
 pub fn period_hours(h: Header) -> u32
     ensures { λ r. ⌜ r ≡ periodHours h ⌝ }
 {
     if h.last < h.first {
-        return 24;
+        return 0;
     }
     24 * (((h.last - h.first) as u32) + 1)
 }

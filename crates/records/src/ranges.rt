@@ -4,6 +4,7 @@ use crate::Header;
 use crate::Hour;
 use crate::Refusal;
 use crate::Soil;
+use trees::Choice;
 ghost use mathlib.Core.Path.{_≡_};
 ghost use Rattle.records.specs.Answers.{checkedAs};
 ghost use Rattle.records.specs.Ranges.{isOutside, periodOut, soilOut, checked};
@@ -36,13 +37,13 @@ fn period_out(h: Header, ramps: u32) -> bool
 pub(crate) fn check_header(h: Header) -> Checked
     ensures { λ r. ⌜ checkedAs r ≡ checked (Record.Header h) ⌝ }
 {
-    if outside(1, 6, h.tree as u16) {
+    let Choice::Tree(f) = trees::figures_of(h.tree) else {
         return Checked::Refused(Refusal::Tree);
-    }
+    };
     if outside(365, 366, h.days) {
         return Checked::Refused(Refusal::Year);
     }
-    if period_out(h, trees::ramp_days(h.tree)) {
+    if period_out(h, trees::ramp_days(f)) {
         return Checked::Refused(Refusal::Period);
     }
     if outside(1, 10000, h.level) {

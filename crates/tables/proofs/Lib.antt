@@ -1,1 +1,3 @@
 mod TableEntryLaws
+mod TrimmedLaws
+pub mod AnswerLaws

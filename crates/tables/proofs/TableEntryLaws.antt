@@ -16,7 +16,7 @@ use Rattle.exact.specs.declared.Bounds.{Bounds}
 use Rattle.tables.specs.Steps.{Readable, ReadAs}
 
 -- every entry is at most 1
-abbrev pub smallTest : List ℕ → Bool
+abbrev smallTest : List ℕ → Bool
 smallTest [] = true
 smallTest (t ∷ ts) = leb t 1000000000 && smallTest ts
 
@@ -26,7 +26,7 @@ small-tested (t ∷ ts) h zero = leb→le t 1000000000 (and-l (leb t 1000000000)
 small-tested (t ∷ ts) h (suc i) = small-tested ts (and-r (leb t 1000000000) (smallTest ts) h) i
 
 -- f_min is a percentage, and neither the first entry nor the last is under it
-abbrev pub endsTest : ℕ → List ℕ → Bool
+abbrev endsTest : ℕ → List ℕ → Bool
 endsTest fmin ts = leb fmin 100 && (leb (fmin * 10000000) (getD ts 0 0) && leb (fmin * 10000000) (getD ts (length ts - 1) 0))
 
 abbrev pub readTest : ℕ → List ℕ → Bool

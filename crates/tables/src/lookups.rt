@@ -13,12 +13,10 @@ ghost use mathlib.Core.Path.{_≡_};
 ghost use Prim.Native.Nat.{_≤_};
 ghost use Rattle.trees.specs.Figures.{borealSpruce, birch, continentalSpruce, beech, oak, evergreen};
 ghost use Rattle.trees.specs.Temperature.{temperaturePair};
-ghost use Rattle.trees.specs.TemperatureTable.{IsTrimmed};
 
 pub(crate) fn boreal_spruce_at(x: u16) -> Bounds
     requires { ⌜ x ≤ 1100 ⌝ }
-    ensures pair { λ r. ⌜ r ≡ temperaturePair borealSpruce x ⌝ }
-    ensures trimmed { λ _. ⌜ IsTrimmed borealSpruce 509 1100 ⌝ }
+    ensures { λ r. ⌜ r ≡ temperaturePair borealSpruce x ⌝ }
 {
     let fmin = trees::BorealSpruce::FMIN;
     if x < 509 {
@@ -54,8 +52,7 @@ pub(crate) fn boreal_spruce_at(x: u16) -> Bounds
 
 pub(crate) fn birch_at(x: u16) -> Bounds
     requires { ⌜ x ≤ 1100 ⌝ }
-    ensures pair { λ r. ⌜ r ≡ temperaturePair birch x ⌝ }
-    ensures trimmed { λ _. ⌜ IsTrimmed birch 556 1100 ⌝ }
+    ensures { λ r. ⌜ r ≡ temperaturePair birch x ⌝ }
 {
     let fmin = trees::Birch::FMIN;
     if x < 556 {
@@ -91,8 +88,7 @@ pub(crate) fn birch_at(x: u16) -> Bounds
 
 pub(crate) fn continental_spruce_at(x: u16) -> Bounds
     requires { ⌜ x ≤ 1100 ⌝ }
-    ensures pair { λ r. ⌜ r ≡ temperaturePair continentalSpruce x ⌝ }
-    ensures trimmed { λ _. ⌜ IsTrimmed continentalSpruce 511 813 ⌝ }
+    ensures { λ r. ⌜ r ≡ temperaturePair continentalSpruce x ⌝ }
 {
     let fmin = trees::ContinentalSpruce::FMIN;
     if x < 511 {
@@ -123,8 +119,7 @@ pub(crate) fn continental_spruce_at(x: u16) -> Bounds
 
 pub(crate) fn beech_at(x: u16) -> Bounds
     requires { ⌜ x ≤ 1100 ⌝ }
-    ensures pair { λ r. ⌜ r ≡ temperaturePair beech x ⌝ }
-    ensures trimmed { λ _. ⌜ IsTrimmed beech 557 803 ⌝ }
+    ensures { λ r. ⌜ r ≡ temperaturePair beech x ⌝ }
 {
     let fmin = trees::Beech::FMIN;
     if x < 557 {
@@ -151,8 +146,7 @@ pub(crate) fn beech_at(x: u16) -> Bounds
 
 pub(crate) fn oak_at(x: u16) -> Bounds
     requires { ⌜ x ≤ 1100 ⌝ }
-    ensures pair { λ r. ⌜ r ≡ temperaturePair oak x ⌝ }
-    ensures trimmed { λ _. ⌜ IsTrimmed oak 517 848 ⌝ }
+    ensures { λ r. ⌜ r ≡ temperaturePair oak x ⌝ }
 {
     let fmin = trees::Oak::FMIN;
     if x < 517 {
@@ -183,8 +177,7 @@ pub(crate) fn oak_at(x: u16) -> Bounds
 
 pub(crate) fn evergreen_at(x: u16) -> Bounds
     requires { ⌜ x ≤ 1100 ⌝ }
-    ensures pair { λ r. ⌜ r ≡ temperaturePair evergreen x ⌝ }
-    ensures trimmed { λ _. ⌜ IsTrimmed evergreen 513 889 ⌝ }
+    ensures { λ r. ⌜ r ≡ temperaturePair evergreen x ⌝ }
 {
     let fmin = trees::Evergreen::FMIN;
     if x < 513 {

@@ -7,5 +7,5 @@ pub mod CurveLaws
 pub mod TemperatureLaws
 pub mod PhenologyLaws
 pub mod FactorLaws
-pub mod BenchCases
+pub mod FactsLaws
 pub mod TermLaws

@@ -1,6 +1,6 @@
 -- f_temp, for any sound figures: at every k it lies between f_min and 1, it never falls as k grows, and the pair encloses it.
 use Prim.Native.Nat.{ℕ, _+_, _-_, _*_, _^_, _≤_, _<_, max}
-use mathlib.Core.Path.{ap, subst}
+use mathlib.Core.Path.{_≡_, ap, subst}
 use mathlib.Core.Bool.{Bool, true, false, cond}
 use native.Mathlib.Nat.{add-comm, add-sub-of-le, mul-le-mul-right}
 use native.Mathlib.Omega.{arith}
@@ -11,7 +11,7 @@ use Rattle.trees.specs.declared.Figures.{Figures}
 use Rattle.trees.specs.Sound.{Sound}
 use Rattle.trees.specs.Temperature.{rootAt, inside, temperatureAt, temperaturePair}
 use Rattle.trees.proofs.TemperatureRoot.{rootAt-greatest, rootAt-grows, rootAt-next, rootAt-optimum, greatest-le-one}
-use Rattle.trees.proofs.TemperatureLookup.{inside-true}
+use Rattle.trees.proofs.TemperatureLookup.{inside-true, inside-false}
 use Rattle.exact.specs.declared.Bounds.{Bounds}
 use Rattle.exact.specs.Frac.{Frac, _over_, natural, _≼_, greater}
 use Rattle.exact.proofs.OrderLaws.{ten-pos}
@@ -72,6 +72,10 @@ module _ (f : Figures) (s : Sound f) (x : ℕ) where
   temperatureAt-le k =
       cases (λ v. v ≼ natural 1) (inside (f .tmin) (f .tmax) x) (greater fmin (root k)) fmin (λ h. greater-least fmin (root k) fmin-le (root-le k h))
       fmin-le
+
+  pub temperatureAt-outside : (k : ℕ) → (10 * f .tmin < x → 10 * f .tmax ≤ x) → temperatureAt k f x ≡ fmin
+  unfolding temperatureAt
+  temperatureAt-outside k h = rw (inside-false (f .tmin) (f .tmax) x h)
 
   -- it never falls
   temperatureAt-step : (k j : ℕ) → temperatureAt k f x ≼ temperatureAt (k + j) f x

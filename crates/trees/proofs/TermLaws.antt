@@ -11,7 +11,7 @@ use Rattle.trees.specs.declared.Phenology.{Phenology}
 use Rattle.trees.specs.declared.Phenology.the-variants.{Ramps, Dip, Temperature}
 use Rattle.trees.specs.declared.Figures.{Figures}
 use Rattle.trees.specs.Sound.{Sound, SoilSound}
-use Rattle.trees.specs.Deficit.{deficitOf}
+use Rattle.trees.specs.Deficit.{falling, deficitOf}
 use Rattle.trees.specs.SoilWater.{drier, soilWaterOf}
 use Rattle.trees.specs.Phenology.{byRamps, byDip, byTemperature, phenologyOf}
 use Rattle.trees.specs.Temperature.{inside}
@@ -49,14 +49,12 @@ temperature-small tmin tmax temperature = cond-small (inside tmin tmax temperatu
 
 module _ (f : Figures) (sound : Sound f) where
   pub deficit-small : (vpd : ℕ) → Small (deficitOf f vpd)
-  unfolding deficitOf
-  deficit-small vpd = straight-small 100 (f .fmin) (vpd - f .vpdmax) (f .vpdmin - f .vpdmax) (omega (arith, sound .vpd))
+  unfolding deficitOf falling
+  deficit-small vpd = straight-small _ (f .fmin) _ (f .vpdmin - f .vpdmax) (omega (arith, sound .vpd))
 
   pub soilWater-small : (reading : ℕ) → Small (soilWaterOf f reading)
-  unfolding soilWaterOf
-  soilWater-small reading =
-      straight-small 100 (f .fmin) (drier (f .measure) (f .soilmax) reading) (drier (f .measure) (f .soilmax) (f .soilmin))
-      (drier-le (f .measure) (f .soilmax) (f .soilmin) (sound .soil))
+  unfolding soilWaterOf falling
+  soilWater-small reading = straight-small _ (f .fmin) _ _ (drier-le (f .measure) (f .soilmax) (f .soilmin) (sound .soil))
 
   ramps-small : (first last day : ℕ) → Small (byRamps f first last day)
   unfolding byRamps

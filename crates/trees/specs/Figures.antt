@@ -1,7 +1,7 @@
 -- The tree table (document 01, "Tree table"): each tree's figures, in the units of src/lib.rt.
 use Prim.Native.Nat.{ℕ, _+_}
-use mathlib.Core.Bool.{cond}
-use lib.Dec.{eqb}
+use mathlib.Core.Bool.{cond, _||_}
+use lib.Dec.{eqb, ltb}
 use Rattle.trees.specs.declared.Measure.{Measure}
 use Rattle.trees.specs.declared.Measure.the-variants.{Suction, Water}
 use Rattle.trees.specs.declared.Phenology.{Phenology}
@@ -13,7 +13,7 @@ use Rattle.trees.specs.declared.Choice.{Choice}
 use Rattle.trees.specs.declared.Choice.the-variants.{Tree, Unknown}
 
 -- degrees Celsius as whole degrees above -50 °C
-abbrev pub celsius : ℕ → ℕ
+abbrev celsius : ℕ → ℕ
 celsius t = 50 + t
 
 -- a line of the table: the three temperatures are given in °C
@@ -81,12 +81,15 @@ figuresOf tree =
     (cond (eqb tree 6) (Tree evergreen)
     Unknown)))))
 
--- f1 + f4, in days; 0 for a number that is no tree
-abbrev pub rampDays : Choice → ℕ
-rampDays (Tree f) = f .f1 + f .f4
-rampDays Unknown = 0
+-- document 01's number for each case of a choice: no row for a tree, row 5 for what is none
+abbrev pub choiceRow : Choice → ℕ
+choiceRow (Tree f) = 0
+choiceRow Unknown = 5
 
--- the soil measure; suction for a number that is no tree
-abbrev pub measureOf : Choice → Measure
-measureOf (Tree f) = f .measure
-measureOf Unknown = Suction
+-- row 5: tree not 1 to 6
+abbrev pub treeRow : ℕ → ℕ
+treeRow tree = cond (ltb tree 1 || ltb 6 tree) 5 0
+
+-- f1 + f4, in days
+abbrev pub rampDays : Figures → ℕ
+rampDays f = f .f1 + f .f4

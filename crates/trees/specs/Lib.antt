@@ -5,5 +5,5 @@ pub mod TemperatureTable
 pub mod Deficit
 pub mod SoilWater
 pub mod Phenology
-pub mod BenchCases
+pub mod Facts
 pub mod Steps

@@ -3,9 +3,7 @@
 use Prim.Native.Nat.{ℕ, _+_, _*_, _-_, _^_, _≤_, _<_, max}
 use mathlib.Core.Bool.{Bool, cond, _&&_}
 use lib.Dec.{leb, ltb}
-use Rattle.trees.specs.declared.Curve.{Curve}
 use Rattle.trees.specs.declared.Figures.{Figures}
-use Rattle.trees.specs.Figures.{ownerOf}
 use Rattle.exact.specs.declared.Bounds.{Bounds}
 use Rattle.exact.specs.Frac.{Frac, _over_, greater}
 use Rattle.exact.specs.Root.{greatest}
@@ -49,7 +47,3 @@ unfoldable pub temperaturePair : Figures → ℕ → Bounds
 temperaturePair f x =
     cond (inside (f .tmin) (f .tmax) x) (record { lower = atLeast f (rootAt 9 f x); upper = atLeast f (rootAt 9 f x + 1) })
     (record { lower = f .fmin * 10 ^ 7; upper = f .fmin * 10 ^ 7 })
-
--- by a curve, the pair of its own tree; 0 and 0 above 60.0 °C, where no reading lies
-unfoldable pub temperatureOf : Curve → ℕ → Bounds
-temperatureOf curve x = cond (leb x 1100) (temperaturePair (ownerOf curve) x) (record { lower = 0; upper = 0 })

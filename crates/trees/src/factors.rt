@@ -5,7 +5,8 @@ use exact::Fraction;
 ghost use mathlib.Core.Path.{_≡_};
 ghost use Prim.Native.Nat.{_-_};
 ghost use Rattle.exact.specs.Frac.{Is, straight};
-ghost use Rattle.trees.specs.Deficit.{deficitOf};
+ghost use Rattle.trees.specs.Deficit.{falling, deficitOf};
+ghost use Rattle.trees.specs.Facts.{FactorFacts};
 ghost use Rattle.trees.specs.SoilWater.{drier, soilWaterOf};
 
 // The straight line from one percentage to another, d of s steps along it; past its end, and where it has no step, its end.
@@ -42,20 +43,28 @@ fn drier(measure: Measure, than: u16, reading: u16) -> u16
     }
 }
 
+// The straight line from 1 to f_min, d of s steps along it; past its end f_min.
+fn falling(fmin: u16, d: u16, s: u16) -> Fraction
+    ensures { λ r. ⌜ Is r (falling fmin d s) ⌝ }
+{
+    straight(100, fmin, d, s)
+}
+
 // f_VPD of a deficit in Pa.
 pub fn f_vpd(f: Figures, vpd: u16) -> Fraction
     ensures { λ r. ⌜ Is r (deficitOf f vpd) ⌝ }
+    ensures facts { λ _. ⌜ FactorFacts ⌝ }
 {
-    straight(100, f.fmin, past(f.vpdmax, vpd), past(f.vpdmax, f.vpdmin))
+    falling(f.fmin, past(f.vpdmax, vpd), past(f.vpdmax, f.vpdmin))
 }
 
 // f_SW of a soil reading in the unit of the tree's measure.
 pub fn f_sw(f: Figures, reading: u16) -> Fraction
     ensures { λ r. ⌜ Is r (soilWaterOf f reading) ⌝ }
+    ensures facts { λ _. ⌜ FactorFacts ⌝ }
 {
     let measure = f.measure;
-    straight(
-        100,
+    falling(
         f.fmin,
         drier(measure, f.soilmax, reading),
         drier(measure, f.soilmax, f.soilmin),

@@ -3,8 +3,7 @@ pub mod factors;
 pub mod phen;
 
 ghost use mathlib.Core.Path.{_≡_};
-ghost use Rattle.trees.specs.BenchCases.{BenchCases};
-ghost use Rattle.trees.specs.Figures.{borealSpruce, birch, continentalSpruce, beech, oak, evergreen, figuresOf, rampDays, measureOf};
+ghost use Rattle.trees.specs.Figures.{borealSpruce, birch, continentalSpruce, beech, oak, evergreen, figuresOf, choiceRow, treeRow, rampDays};
 
 // What a soil reading measures: suction in kPa, or available water in tenths of a percent.
 pub enum Measure {
@@ -60,6 +59,7 @@ pub struct Figures {
     pub f4: u16,
 }
 
+// What a tree's number names: the tree's figures, or nothing (row 5).
 pub enum Choice {
     Tree(Figures),
     Unknown,
@@ -105,7 +105,7 @@ impl BorealSpruce {
 
     pub const F4: u16 = 30;
 
-    pub fn figures() -> Figures
+    fn figures() -> Figures
         ensures { λ r. ⌜ r ≡ borealSpruce ⌝ }
     {
         Figures {
@@ -170,7 +170,7 @@ impl Birch {
 
     pub const F4: u16 = 30;
 
-    pub fn figures() -> Figures
+    fn figures() -> Figures
         ensures { λ r. ⌜ r ≡ birch ⌝ }
     {
         Figures {
@@ -235,7 +235,7 @@ impl ContinentalSpruce {
 
     pub const F4: u16 = 0;
 
-    pub fn figures() -> Figures
+    fn figures() -> Figures
         ensures { λ r. ⌜ r ≡ continentalSpruce ⌝ }
     {
         Figures {
@@ -300,7 +300,7 @@ impl Beech {
 
     pub const F4: u16 = 20;
 
-    pub fn figures() -> Figures
+    fn figures() -> Figures
         ensures { λ r. ⌜ r ≡ beech ⌝ }
     {
         Figures {
@@ -365,7 +365,7 @@ impl Oak {
 
     pub const F4: u16 = 20;
 
-    pub fn figures() -> Figures
+    fn figures() -> Figures
         ensures { λ r. ⌜ r ≡ oak ⌝ }
     {
         Figures {
@@ -430,7 +430,7 @@ impl Evergreen {
 
     pub const F4: u16 = 0;
 
-    pub fn figures() -> Figures
+    fn figures() -> Figures
         ensures { λ r. ⌜ r ≡ evergreen ⌝ }
     {
         Figures {
@@ -461,7 +461,7 @@ impl Evergreen {
 // The figures of the tree with a number, 1 to 6.
 pub fn figures_of(tree: u8) -> Choice
     ensures { λ r. ⌜ r ≡ figuresOf tree ⌝ }
-    ensures bench_cases { λ _. ⌜ BenchCases ⌝ }
+    ensures row { λ r. ⌜ choiceRow r ≡ treeRow tree ⌝ }
 {
     match tree {
         1 => Choice::Tree(BorealSpruce::figures()),
@@ -474,22 +474,9 @@ pub fn figures_of(tree: u8) -> Choice
     }
 }
 
-// The days that the two ramps of f_phen take, f1 + f4; 0 for a number that is no tree.
-pub fn ramp_days(tree: u8) -> u32
-    ensures { λ r. ⌜ r ≡ rampDays (figuresOf tree) ⌝ }
+// The days that the two ramps of f_phen take, f1 + f4.
+pub fn ramp_days(f: Figures) -> u32
+    ensures { λ r. ⌜ r ≡ rampDays f ⌝ }
 {
-    let Choice::Tree(f) = figures_of(tree) else {
-        return 0;
-    };
     (f.f1 as u32) + (f.f4 as u32)
-}
-
-// What the tree's soil reading measures; suction for a number that is no tree.
-pub fn measure_of(tree: u8) -> Measure
-    ensures { λ r. ⌜ r ≡ measureOf (figuresOf tree) ⌝ }
-{
-    let Choice::Tree(f) = figures_of(tree) else {
-        return Measure::Suction;
-    };
-    f.measure
 }

@@ -4,6 +4,7 @@ use crate::Phenology;
 use crate::factors;
 use exact::Fraction;
 ghost use Rattle.exact.specs.Frac.{Is};
+ghost use Rattle.trees.specs.Facts.{FactorFacts};
 ghost use Rattle.trees.specs.Phenology.{byRamps, byDip, byTemperature, phenologyOf};
 
 fn by_ramps(f: Figures, first: u16, last: u16, day: u16) -> Fraction
@@ -43,6 +44,7 @@ fn by_temperature(tmin: u16, tmax: u16, temperature: u16) -> Fraction
 // f_phen on a day of a period, at a temperature in tenths of a degree above -50.0 °C.
 pub fn f_phen(f: Figures, first: u16, last: u16, day: u16, temperature: u16) -> Fraction
     ensures { λ r. ⌜ Is r (phenologyOf f first last day temperature) ⌝ }
+    ensures facts { λ _. ⌜ FactorFacts ⌝ }
 {
     let phenology = f.phenology;
     match phenology {

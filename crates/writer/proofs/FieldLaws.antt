@@ -15,7 +15,7 @@ use Rattle.frames.specs.Fields.{valueAt, digitsAs, numbersAt, digitsOf}
 use Rattle.frames.proofs.DigitLaws.{value-lt, digit-at}
 use Rattle.writer.proofs.DigitLaws.{byte-lt, value-digit, digit-valid, digit-value}
 
-abbrev pub powerOf : Width → ℕ
+abbrev powerOf : Width → ℕ
 powerOf one = 256
 powerOf two = 65536
 

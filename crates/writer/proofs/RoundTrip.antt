@@ -7,29 +7,31 @@ use borrow.Author.Tests.{le-ltb}
 use lib.Dec.{ltb}
 use lib.ListN.{length, take, drop}
 use lib.Seq.{take-at}
-use Rattle.trees.specs.Figures.{figuresOf, measureOf}
+use Rattle.trees.specs.Figures.{figuresOf}
+use Rattle.trees.specs.declared.Choice.{Choice}
 use Rattle.trees.specs.declared.Measure.{Measure}
 use Rattle.records.specs.Answers.{accepted}
 use Rattle.frames.specs.Digits.{byteAt}
 use Rattle.records.specs.Temperature.{temperatureOut}
 use Rattle.frames.specs.Fields.{fieldsAt}
 use Rattle.frames.specs.Layout.{soilNumber, hourNumbers, headerOf, rawHourOf, endOf, soilOf, hourOf, frameOf, frameAt, kindOf, numbersOf, frameLine}
-use Rattle.records.specs.Ranges.{isOutside, checked}
+use Rattle.records.specs.Ranges.{onTree, checked}
 use Rattle.frames.specs.Frames.{parsedOf, soundOf, recordOf, readFrameOf}
 use Rattle.records.specs.Buffer.{putOf, bufferAfter}
 use Rattle.writer.specs.Writer.{textOf, writeOf}
-use Rattle.writer.specs.RoundTrip.{InWidth, measureIn, OfMeasure, RoundTrip}
+use Rattle.writer.specs.RoundTrip.{InWidth, measureIn, HasMeasure, OfMeasure, RoundTrip}
 use Rattle.records.specs.declared.Soil.{Soil}
 use Rattle.records.specs.declared.Soil.the-variants.{Suction, Water}
 use Rattle.records.specs.declared.Hour.{Hour}
 use Rattle.records.specs.declared.Record.{Record}
 use Rattle.writer.proofs.DigitLaws.{number-lt}
-use Rattle.records.proofs.AnswerLaws.{row-passed, onward-passed, accepted-same}
+use Rattle.records.proofs.AnswerLaws.{accepted-same, row-passed, onward-passed}
 use Rattle.writer.proofs.TemperatureLaws.{complement-signed, signed-complement}
 use Rattle.frames.proofs.RangeLaws.{InRange, checked-passed}
+use Rattle.frames.proofs.ReadLaws.{parsed-passed, SoundRead, sound-read, hour-read}
 use Rattle.writer.proofs.WidthLaws.{range-fits}
 use Rattle.frames.proofs.FrameLaws.{frame-is, sized-within}
-use Rattle.writer.proofs.LineLaws.{line-parsed, line-frame, line-written, parsed-passed}
+use Rattle.writer.proofs.LineLaws.{line-parsed, line-frame, line-written}
 use Rattle.frames.proofs.KindLaws.{KindCase, header, hour, end, kind-cases}
 use Rattle.writer.proofs.RowLaws.{write-only}
 
@@ -44,10 +46,15 @@ hour-back : (h : Hour) (m : Measure) → m ≡ measureIn (h .soil) → temperatu
 unfolding hourOf
 hour-back h m e t = rw (e, signed-complement (h .temperature) t, soil-back (h .soil))
 
+hour-measured : (choice : Choice) (h : Hour) → HasMeasure choice (measureIn (h .soil)) → temperatureOut (h .temperature) ≡ false
+    → onTree choice (λ f. soundOf (Record.Hour (hourOf (rawHourOf (hourNumbers h)) (f .measure)))) ≡ soundOf (Record.Hour h)
+hour-measured (Choice.Tree f) h m t = rw (hour-back h (f .measure) m t)
+hour-measured Choice.Unknown h m t = absurd m
+
 record-back : (tree : ℕ) (r : Record) → OfMeasure tree r → InRange r → recordOf tree (frameOf (kindOf r) (numbersOf r)) ≡ soundOf r
 unfolding recordOf frameOf
 record-back tree (Record.Header h) m i = refl
-record-back tree (Record.Hour h) m i = rw (m .0, hour-back h _ (m .1) (i .temperature))
+record-back tree (Record.Hour h) m i = hour-measured (figuresOf tree) h m (i .temperature)
 record-back tree (Record.End e) m i = refl
 
 read-line : (tree : ℕ) (r : Record) → InWidth r → OfMeasure tree r → checked r ≡ accepted tt → readFrameOf tree (frameLine r) ≡ accepted r
@@ -91,11 +98,8 @@ record ReadFrom (l : List ℕ) (r : Record) : Type 0 where
   kind : byteAt 0 l ≡ kindOf r
   numbers : numbersOf r ≡ fieldsAt (kindOf r) l
 
-read-from : (l : List ℕ) (r r′ : Record) → byteAt 0 l ≡ kindOf r → numbersOf r ≡ fieldsAt (kindOf r) l → soundOf r ≡ accepted r′ → ReadFrom l r′
-unfolding soundOf
-read-from l r r′ kind numbers e =
-    let p = onward-passed (checked r) (λ _. accepted r) r′ e in
-    subst (ReadFrom l) (accepted-same (p .2)) (record { passes = p .1; kind = kind; numbers = numbers })
+read-from : (l : List ℕ) (r r′ : Record) → byteAt 0 l ≡ kindOf r → numbersOf r ≡ fieldsAt (kindOf r) l → SoundRead r r′ → ReadFrom l r′
+read-from l r r′ kind numbers p = subst (ReadFrom l) (p .same) (record { passes = p .passes; kind = kind; numbers = numbers })
 
 module _ (tree : ℕ) (l : List ℕ) (r : Record) (e : recordOf tree (frameAt l) ≡ accepted r) where
   by-kind : {kind : ℕ} → byteAt 0 l ≡ kind → recordOf tree (frameOf kind (fieldsAt kind l)) ≡ accepted r
@@ -103,11 +107,11 @@ module _ (tree : ℕ) (l : List ℕ) (r : Record) (e : recordOf tree (frameAt l)
 
   line-from : KindCase (byteAt 0 l) → ReadFrom l r
   unfolding recordOf frameOf
-  line-from (header k) = read-from l (Record.Header (headerOf (fieldsAt 1 l))) r k refl (by-kind k)
+  line-from (header k) = read-from l (Record.Header (headerOf (fieldsAt 1 l))) r k refl (sound-read _ r (by-kind k))
   line-from (hour k) =
-      let m = measureOf (figuresOf tree) in
-      read-from l (Record.Hour (hourOf (rawHourOf (fieldsAt 2 l)) m)) r k (hour-numbers l m) (row-passed (isOutside 1 6 tree) _ _ r (by-kind k) .1)
-  line-from (end k) = read-from l (Record.End (endOf (fieldsAt 3 l))) r k refl (by-kind k)
+      let h = hour-read tree (rawHourOf (fieldsAt 2 l)) r (by-kind k) in
+      read-from l (Record.Hour (hourOf (rawHourOf (fieldsAt 2 l)) (h .figures .measure))) r k (hour-numbers l (h .figures .measure)) (h .is)
+  line-from (end k) = read-from l (Record.End (endOf (fieldsAt 3 l))) r k refl (sound-read _ r (by-kind k))
 
 line-read : (tree : ℕ) (l : List ℕ) (r : Record) → readFrameOf tree l ≡ accepted r → (checked r ≡ accepted tt) × (frameLine r ≡ l)
 unfolding readFrameOf

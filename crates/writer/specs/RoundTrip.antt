@@ -1,14 +1,14 @@
 -- Written and read back is the same record, read and written back the same line; and the rows that the writer can answer (document 01, "Frames").
 use Prim.Native.Nat.{ℕ, _<_, _≤_}
-use mathlib.Core.Bool.{true, false}
+use mathlib.Core.Bool.{true}
 use mathlib.Core.Path.{_≡_}
 use mathlib.Core.List.{List, [], _∷_, _++_}
 use lib.ListN.{length, take, drop}
-use Rattle.trees.specs.Figures.{figuresOf, measureOf}
+use Rattle.trees.specs.Figures.{figuresOf}
+use Rattle.trees.specs.declared.Choice.{Choice}
 use Rattle.trees.specs.declared.Measure.{Measure}
 use Rattle.records.specs.Answers.{accepted, refused}
 use Rattle.records.specs.Buffer.{bufferAfter}
-use Rattle.records.specs.Ranges.{isOutside}
 use Rattle.frames.specs.Layout.{frameLine}
 use Rattle.frames.specs.Frames.{readFrameOf}
 use Rattle.frames.specs.Rows.{oneOf}
@@ -27,11 +27,20 @@ abbrev pub measureIn : Soil → Measure
 measureIn (Suction n) = Measure.Suction
 measureIn (Water n) = Measure.Water
 
--- the tree has the record's soil measure; for a header or an end any number will do
+-- a tree that has this soil measure
+abbrev pub HasMeasure : Choice → Measure → Type 0
+HasMeasure (Choice.Tree f) m = f .measure ≡ m
+HasMeasure Choice.Unknown m = ⊥
+
+-- a tree of the record's soil measure; for a header or an end any number will do
 abbrev pub OfMeasure : ℕ → Record → Type 0
 OfMeasure tree (Record.Header h) = Unit
-OfMeasure tree (Record.Hour h) = (isOutside 1 6 tree ≡ false) × (measureOf (figuresOf tree) ≡ measureIn (h .soil))
+OfMeasure tree (Record.Hour h) = HasMeasure (figuresOf tree) (measureIn (h .soil))
 OfMeasure tree (Record.End e) = Unit
+
+-- the rows that refuse a record to be written, row 10 besides
+abbrev pub writerRows : List ℕ
+writerRows = 5 ∷ 6 ∷ 7 ∷ 8 ∷ 12 ∷ []
 
 pub record RoundTrip : Type 0 where
   -- a record that the writer accepts is read back as itself
@@ -41,4 +50,4 @@ pub record RoundTrip : Type 0 where
   pub writtenBack : (tree : ℕ) (l : List ℕ) (r : Record) (buffer : List ℕ) → readFrameOf tree l ≡ accepted r → length l ≤ length buffer
       → (writeOf r (length buffer) ≡ accepted (length l)) × (bufferAfter (accepted (length l)) (frameLine r) buffer ≡ l ++ drop (length l) buffer)
   -- the writer answers no other row
-  pub writeRows : (r : Record) (room n f : ℕ) → writeOf r room ≡ refused (n, f) → oneOf (5 ∷ 6 ∷ 7 ∷ 8 ∷ 12 ∷ []) n f ≡ true
+  pub writeRows : (r : Record) (room n f : ℕ) → writeOf r room ≡ refused (n, f) → oneOf writerRows n f ≡ true

@@ -9,7 +9,6 @@ use frames::Header;
 use frames::Hour;
 use frames::Record;
 use frames::Refusal;
-use frames::Soil;
 use frames::Written;
 use frames::widths::EndLine;
 use frames::widths::HeaderLine;
@@ -22,7 +21,7 @@ ghost use lib.ListN.{length};
 ghost use lib.Seq.{sets};
 ghost use Rattle.frames.specs.Kinds.{one, widthsOf, digitsIn};
 ghost use Rattle.frames.specs.Fields.{digitsOf};
-ghost use Rattle.frames.specs.Layout.{soilNumber, hourNumbers, frameLine};
+ghost use Rattle.frames.specs.Layout.{hourNumbers, frameLine};
 ghost use Rattle.records.specs.Answers.{accepted};
 ghost use Rattle.records.specs.Buffer.{Prints};
 ghost use Rattle.records.specs.declared.Record.{Record};
@@ -39,15 +38,6 @@ fn put_header(h: Header, buf: &mut [u8]) -> Written
     Written::Bytes(HeaderLine::DIGITS)
 }
 
-fn soil_number(soil: Soil) -> u16
-    ensures { λ r. ⌜ r ≡ soilNumber soil ⌝ }
-{
-    match soil {
-        Soil::Suction(n) => n,
-        Soil::Water(n) => n,
-    }
-}
-
 // What a line of any kind of hour begins with: the kind, and the nine numbers of kind 02.
 fn put_hour_fields(kind: u8, h: Hour, buf: &mut [u8])
     requires { ⌜ digitsIn (widthsOf 2) ≤ length (now buf) ⌝ }
@@ -55,7 +45,7 @@ fn put_hour_fields(kind: u8, h: Hour, buf: &mut [u8])
 {
     let t = temperature::complement(h.temperature);
     let soil = h.soil;
-    let n = soil_number(soil);
+    let n = frames::soil_number(soil);
     put_byte(buf, KIND, kind);
     put_number(buf, HourLine::DAY, h.day);
     put_byte(buf, HourLine::HOUR, h.hour);

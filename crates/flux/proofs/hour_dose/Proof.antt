@@ -1,66 +1,97 @@
 -- `flux::hour_dose` meets its contract.
 use mathlib.Core.Path.{_≡_, sym, ap, _∙_}
+use mathlib.Core.Bool.{false}
+use native.Mathlib.Omega.{arith}
 use borrow.Author.Needs.{needs}
+use borrow.Author.Tests.{lt-ltb, le-ltb}
 use Rattle.trees.specs.Figures.{figuresOf}
 use Rattle.trees.specs.declared.Choice.{Choice}
 use Rattle.trees.proofs.CurveLaws.{figures-tabled}
 use Rattle.records.specs.Ranges.{checked}
 use Rattle.records.specs.Answers.{accepted, checkedAs}
-use Rattle.flux.proofs.HourDoseLaws.{unknown-is, refused-is, accepted-is}
-use Rattle.flux_spec.proofs.EnclosureLaws.{enclosure}
 use Rattle.records.specs.declared.Record.{Record}
+use Rattle.flux_spec.specs.HourDose.{daysOut, otherMeasure}
+use Rattle.flux_spec.proofs.BenchCases.{bench-cases}
+use Rattle.flux_spec.proofs.EnclosureLaws.{enclosure}
+use Rattle.flux_spec.proofs.HourDoseLaws.{unknown-is, days-out-is, reading-out-is, measure-out-is, counted-is, uncounted-is}
+use Rattle.flux_spec.proofs.ShareLaws.{hour-facts}
 use Rattle.flux.proofs.hour_dose.Statement.{statement}
 use Rattle.flux.proofs.hour_dose.Tie as tie
 
 chosen : (c : tie.After-figures) → figuresOf (c .before .before .before .args .tree) ≡ Choice.Tree (c .figures .given .0 .0)
 chosen c = sym (c .before .before .figures-of .ensures .0) ∙ c .figures .given .1
 
-passed : (c : tie.After-enum-told2) → checked (Record.Hour (c .before .before .before .before .before .before .before .args .h)) ≡ accepted tt
-passed c = sym (c .before .before .check .ensures) ∙ ap checkedAs (c .enum-told2 .given .1)
+module _ (c : tie.Else1) where
+  abbrev named : tie.After-figures
+  named = c .before .before .before
 
-figures-of-requires : tie.Need-figures-of-requires
-figures-of-requires c κs = search needs
+  abbrev start : tie.Start
+  start = named .before .before .before
 
-enum-known-figures : tie.Need-enum-known-figures
-enum-known-figures c = search needs
+  days : daysOut (named .figures .given .0 .0) (start .args .first) (start .args .last) ≡ false
+  days = sym (c .before .days-out .ensures) ∙ c .if1 .left
 
-enum-told : tie.Need-enum-told
-enum-told c = search needs
+module _ (c : tie.After-enum-told2) where
+  abbrev within : tie.Else1
+  within = c .before .before .before
+
+  passed : checked (Record.Hour (start within .args .h)) ≡ accepted tt
+  passed = sym (c .before .before .check .ensures) ∙ ap checkedAs (c .enum-told2 .given .1)
+
+own : (c : tie.Else2) → otherMeasure (named (within (c .before .before)) .figures .given .0 .0 .measure) (start (within (c .before .before)) .args .h .soil) ≡ false
+own c = sym (c .before .other-measure .ensures) ∙ c .if2 .left
 
 returns : tie.Need-returns
-returns c = (unknown-is _ _ _ _ (sym (c .before .before .figures-of .ensures .0) ∙ c .enum-told .given .1), enclosure)
-
-check-requires : tie.Need-check-requires
-check-requires c κs = search needs
-
-enum-known-answer : tie.Need-enum-known-answer
-enum-known-answer c = search needs
+returns c = (unknown-is _ _ _ _ (sym (c .before .before .figures-of .ensures .0) ∙ c .enum-told .given .1), (enclosure, (hour-facts, bench-cases)))
 
 returns-2 : tie.Need-returns-2
-returns-2 c = (refused-is _ _ _ _ _ _ (chosen (c .before .before .before .before .before)) (sym (c .before .before .before .check .ensures) ∙ ap checkedAs (c .before .answer .given .1)), enclosure)
+returns-2 c = (days-out-is _ _ _ _ _ (chosen (c .before .before .before)) (sym (c .before .days-out .ensures) ∙ c .if1 .taken), (enclosure, (hour-facts, bench-cases)))
 
-enum-told-2 : tie.Need-enum-told-2
-enum-told-2 c = search needs
+returns-3 : tie.Need-returns-3
+returns-3 c =
+    let at = c .before .before .before .before in
+    (reading-out-is _ _ _ _ _ (chosen (named at)) (days at) _ (sym (c .before .before .before .check .ensures) ∙ ap checkedAs (c .before .answer .given .1)), (enclosure, (hour-facts, bench-cases)))
+
+returns-4 : tie.Need-returns-4
+returns-4 c =
+    let told = c .before .before in
+    let at = within told in
+    (measure-out-is _ _ _ _ _ (chosen (named at)) (days at) (passed told) (sym (c .before .other-measure .ensures) ∙ c .if2 .taken), (enclosure, (hour-facts, bench-cases)))
+
+returns-5 : tie.Need-returns-5
+returns-5 c =
+    let told = c .before .before .before .before in
+    let at = within told in
+    (uncounted-is _ _ _ _ _ (chosen (named at)) (days at) (passed told) (own (c .before .before)) (le-ltb 50 (start at .args .h .radiation) (omega (arith, c .if3 .taken))), (enclosure, (hour-facts, bench-cases)))
 
 dosed-requires : tie.Need-dosed-requires
 dosed-requires c κs =
-    let e = chosen (c .before .before .before .before) in
-    (enclosure .trees _ _ e, (figures-tabled _ _ e, passed c))
+    let told = c .before .before .before .before in
+    let e = chosen (named (within told)) in
+    (enclosure .trees _ _ e, (figures-tabled _ _ e, passed told))
 
-returns-3 : tie.Need-returns-3
-returns-3 c = (accepted-is _ _ _ _ _ _ (chosen (c .before .before .before .before .before)) (passed (c .before)) (c .dosed .ensures), enclosure)
+returns-6 : tie.Need-returns-6
+returns-6 c =
+    let told = c .before .before .before .before .before in
+    let at = within told in
+    (counted-is _ _ _ _ _ (chosen (named at)) (days at) (passed told) (own (c .before .before .before)) (lt-ltb 50 (start at .args .h .radiation) (omega (arith, c .before .if3 .left))) _ (c .dosed .ensures), (enclosure, (hour-facts, bench-cases)))
 
 pub hour-dose-spec : {M : Type 1} → statement M
 hour-dose-spec =
     tie.close
     (tie.spec
-    figures-of-requires
-    enum-known-figures
-    enum-told
+    (λ c κs. search needs)
+    (λ c. search needs)
+    (λ c. search needs)
     returns
-    check-requires
-    enum-known-answer
+    (λ c κs. search needs)
     returns-2
-    enum-told-2
+    (λ c κs. search needs)
+    (λ c. search needs)
+    returns-3
+    (λ c. search needs)
+    (λ c κs. search needs)
+    returns-4
+    returns-5
     dosed-requires
-    returns-3)
+    returns-6)

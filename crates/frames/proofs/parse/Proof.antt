@@ -10,8 +10,8 @@ use Rattle.records.specs.Answers.{accepted}
 use Rattle.frames.specs.Digits.{allDigits, byteAt}
 use Rattle.frames.specs.Kinds.{isLength, lengthOf}
 use Rattle.frames.specs.Steps.{Says}
-use Rattle.frames.specs.Frames.{parsedOf}
 use Rattle.frames.proofs.KindLaws.{length-ge, length-le}
+use Rattle.frames.proofs.FrameLaws.{length-out, digits-out, kind-out, kind-in}
 use Rattle.frames.proofs.parse.Statement.{statement}
 use Rattle.frames.proofs.parse.Tie as tie
 
@@ -19,8 +19,7 @@ is-length-requires : tie.Need-is-length-requires
 is-length-requires c κs = search needs
 
 returns : tie.Need-returns
-unfolding parsedOf
-returns c = simp (sym (c .before .is-length .ensures) ∙ not-true _ (c .if1 .taken))
+returns c = length-out _ (sym (c .before .is-length .ensures) ∙ not-true _ (c .if1 .taken))
 
 -- past row 1
 module _ (c : tie.Else1) where
@@ -34,8 +33,7 @@ line-of-requires : tie.Need-line-of-requires
 line-of-requires c κs = length-le (length (line₁ c)) (sized c)
 
 returns-2 : tie.Need-returns-2
-unfolding parsedOf
-returns-2 c = simp (sized (c .before .before .before), sym (c .before .before .line-of .ensures .0) ∙ not-true _ (c .if2 .taken))
+returns-2 c = digits-out _ (sized (c .before .before .before)) (sym (c .before .before .line-of .ensures .0) ∙ not-true _ (c .if2 .taken))
 
 -- past row 2
 module _ (c : tie.Else2) where
@@ -65,10 +63,10 @@ module _ (c : tie.After-length-of) where
   span = c .length-of .ensures ∙ ap lengthOf (c .before .byte-at .ensures line₃ (says (c .before .before .before .before)) (length-ge (length line₃) (sized (c .before .before .before .before .before .before .before))))
 
 returns-3 : tie.Need-returns-3
-unfolding parsedOf
 returns-3 c =
     let e = c .before in
-    simp (sized (e .before .before .before .before .before .before .before), whole (e .before .before .before .before), ne-eqb (lengthOf (byteAt 0 (line₃ e))) (length (line₃ e)) (λ p. c .if3 .taken (span e ∙ p)))
+    kind-out _ (sized (e .before .before .before .before .before .before .before)) (whole (e .before .before .before .before))
+    (ne-eqb (lengthOf (byteAt 0 (line₃ e))) (length (line₃ e)) (λ p. c .if3 .taken (span e ∙ p)))
 
 -- past row 3
 fit : (c : tie.Else3) → lengthOf (byteAt 0 (line₃ (c .before))) ≡ length (line₃ (c .before))
@@ -81,12 +79,11 @@ frame-at-requires : tie.Need-frame-at-requires
 frame-at-requires c κs = search needs
 
 returns-4 : tie.Need-returns-4
-unfolding parsedOf
 returns-4 c =
     let e = c .before .before .before in
     let sized₃ = sized (e .before .before .before .before .before .before .before) in
-    simp (sized₃, whole (e .before .before .before .before), eq-eqb (lengthOf (byteAt 0 (line₃ e))) (length (line₃ e)) (fit (c .before .before)))
-    (ap accepted (c .frame-at .ensures (line₃ e) (says (e .before .before .before .before)) (record { some = sized₃; own = fit (c .before .before) })))
+    ap accepted (c .frame-at .ensures (line₃ e) (says (e .before .before .before .before)) (record { some = sized₃; own = fit (c .before .before) }))
+    ∙ kind-in _ sized₃ (whole (e .before .before .before .before)) (eq-eqb (lengthOf (byteAt 0 (line₃ e))) (length (line₃ e)) (fit (c .before .before)))
 
 pub parse-spec : {M : Type 1} → statement M
 parse-spec =

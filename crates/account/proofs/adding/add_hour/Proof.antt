@@ -49,12 +49,12 @@ add-sums-5 c = search needs
 returns : tie.Need-returns
 returns c =
     let paired = c .before .before .before .before .before .before .before in
-    counted-hour (account paired) (hour paired) (lt-ltb 50 _ (paired .before .if1 .taken)) _ _ (paired .pair-of .ensures) (c .before .excess .ensures .0)
+    counted-hour (account paired) (hour paired) (lt-ltb 50 (hour paired .radiation) (omega (arith, paired .before .if1 .taken))) _ _ (paired .pair-of .ensures) (c .before .excess .ensures .0)
 
 returns-2 : tie.Need-returns-2
 returns-2 c =
     let args = c .before .before .before .before .before .args in
-    uncounted-hour (args .a) (args .h) (le-ltb 50 _ (c .if1 .left))
+    uncounted-hour (args .a) (args .h) (le-ltb 50 (args .h .radiation) (omega (arith, c .if1 .left)))
 
 pub add-hour-spec : {M : Type 1} → statement M
 add-hour-spec =

@@ -10,23 +10,8 @@ use Rattle.flux.proofs.boundary.guess.Tie as tie
 sub-e : tie.Need-sub-e
 sub-e c = omega (arith, leading-le 64 (c .args .n))
 
-cast-wrapping-add-u64 : tie.Need-cast-wrapping-add-u64
-cast-wrapping-add-u64 c = search needs
-
-shr-wrapping-add-u64 : tie.Need-shr-wrapping-add-u64
-shr-wrapping-add-u64 c = search needs
-
 mul-wrapping-add-u64 : tie.Need-mul-wrapping-add-u64
 mul-wrapping-add-u64 c = omega (arith, div-le-self (c .args .n) (2 ^ ((65 - leadingZeros 64 (c .args .n)) / 2)))
-
-cast-wrapping-add-u64-2 : tie.Need-cast-wrapping-add-u64-2
-cast-wrapping-add-u64-2 c = search needs
-
-shl-wrapping-add-u64 : tie.Need-shl-wrapping-add-u64
-shl-wrapping-add-u64 c = search needs
-
-wrapping-add-u64-requires : tie.Need-wrapping-add-u64-requires
-wrapping-add-u64-requires c κs = search needs
 
 returns : tie.Need-returns
 returns c = search needs
@@ -36,10 +21,10 @@ guess-spec =
     tie.close
     (tie.spec
     sub-e
-    cast-wrapping-add-u64
-    shr-wrapping-add-u64
+    (λ c. search needs)
+    (λ c. search needs)
     mul-wrapping-add-u64
-    cast-wrapping-add-u64-2
-    shl-wrapping-add-u64
-    wrapping-add-u64-requires
+    (λ c. search needs)
+    (λ c. search needs)
+    (λ c κs. search needs)
     returns)

@@ -43,14 +43,8 @@ loop-holds c =
     (λ w. start _ 33554432 _ (omega arith) (omega arith) (omega arith) (omega arith))
     (c .if1 .came)
 
-add-middle : tie.Need-add-middle Inv-loop μ-loop
-add-middle c = search needs
-
 mul-if2 : tie.Need-mul-if2 Inv-loop μ-loop
 mul-if2 c = let at = c .before .before .loop in omega (arith, square-small (at .r + at .gap / 2) (omega arith))
-
-sub-gap : tie.Need-sub-gap Inv-loop μ-loop
-sub-gap c = search needs
 
 loop-less : tie.Need-loop-less Inv-loop μ-loop
 loop-less c = search needs
@@ -70,4 +64,4 @@ returns c = let at = c .before .loop in let one : at .gap ≡ 1 = omega arith in
 pub halving-spec : {M : Type 1} → statement M
 halving-spec =
     tie.close
-    (tie.spec Inv-loop μ-loop loop-holds add-middle mul-if2 sub-gap loop-less loop-again returns)
+    (tie.spec Inv-loop μ-loop loop-holds (λ c. search needs) mul-if2 (λ c. search needs) loop-less loop-again returns)

@@ -10,18 +10,6 @@ use Rattle.flux.proofs.boundary.root_low.Tie as tie
 tenth-lt : (n d : ℕ) → n ≤ 2000000000000000 → 10 ≤ d → n / d < 1125899906842624
 tenth-lt n d h k = omega (arith, div-mul-le-self n d, mul-le-mul-left (n / d) k)
 
-mul-root : tie.Need-mul-root
-mul-root c = search needs
-
-read-requires : tie.Need-read-requires
-read-requires c κs = search needs
-
-cast-root : tie.Need-cast-root
-cast-root c = search needs
-
-div-root : tie.Need-div-root
-div-root c = search needs
-
 root-requires : tie.Need-root-requires
 root-requires c κs = tenth-lt _ _ (omega arith) (omega arith)
 
@@ -31,4 +19,4 @@ returns c = rw (c .before .read .ensures) at (c .root .ensures)
 
 pub root-low-spec : {M : Type 1} → statement M
 root-low-spec =
-    tie.close (tie.spec mul-root read-requires cast-root div-root root-requires returns)
+    tie.close (tie.spec (λ c. search needs) (λ c κs. search needs) (λ c. search needs) (λ c. search needs) root-requires returns)

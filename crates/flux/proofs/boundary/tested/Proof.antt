@@ -8,9 +8,6 @@ use Rattle.exact.proofs.SquareLaws.{square-pos, squareRoot-is}
 use Rattle.flux.proofs.boundary.tested.Statement.{statement}
 use Rattle.flux.proofs.boundary.tested.Tie as tie
 
-halving-requires : tie.Need-halving-requires
-halving-requires c κs = search needs
-
 returns : tie.Need-returns
 returns c = search needs
 
@@ -29,18 +26,6 @@ under-requires c κs =
 returns-2 : tie.Need-returns-2
 returns-2 c = search needs
 
-add-if3 : tie.Need-add-if3
-add-if3 c = search needs
-
-add-if3-2 : tie.Need-add-if3-2
-add-if3-2 c = search needs
-
-mul-if3 : tie.Need-mul-if3
-mul-if3 c = search needs
-
-halving-requires-2 : tie.Need-halving-requires-2
-halving-requires-2 c κs = search needs
-
 returns-3 : tie.Need-returns-3
 returns-3 c = search needs
 
@@ -51,15 +36,15 @@ pub tested-spec : {M : Type 1} → statement M
 tested-spec =
     tie.close
     (tie.spec
-    halving-requires
+    (λ c κs. search needs)
     returns
     mul-if2
     sub-under
     under-requires
     returns-2
-    add-if3
-    add-if3-2
-    mul-if3
-    halving-requires-2
+    (λ c. search needs)
+    (λ c. search needs)
+    (λ c. search needs)
+    (λ c κs. search needs)
     returns-3
     returns-4)

@@ -10,9 +10,6 @@ use Rattle.flux.proofs.boundary.under.Tie as tie
 mul-if1 : tie.Need-mul-if1
 mul-if1 c = let r : ℕ = c .args .r in omega (arith, square-small r (omega arith))
 
-halving-requires : tie.Need-halving-requires
-halving-requires c κs = search needs
-
 returns : tie.Need-returns
 returns c = search needs
 
@@ -20,4 +17,4 @@ returns-2 : tie.Need-returns-2
 returns-2 c = squareRoot-is (c .before .args .n) (c .before .args .r) (omega arith) (c .before .pre .1)
 
 pub under-spec : {M : Type 1} → statement M
-under-spec = tie.close (tie.spec mul-if1 halving-requires returns returns-2)
+under-spec = tie.close (tie.spec mul-if1 (λ c κs. search needs) returns returns-2)

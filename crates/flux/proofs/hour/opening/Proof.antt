@@ -11,22 +11,13 @@ use Rattle.exact.specs.Frac.{Is}
 use Rattle.flux.proofs.hour.opening.Statement.{statement}
 use Rattle.flux.proofs.hour.opening.Tie as tie
 
-f-vpd-requires : tie.Need-f-vpd-requires
-f-vpd-requires c κs = search needs
-
-soil-number-requires : tie.Need-soil-number-requires
-soil-number-requires c κs = search needs
-
-f-sw-requires : tie.Need-f-sw-requires
-f-sw-requires c κs = search needs
-
 opening-low-requires : tie.Need-opening-low-requires
 opening-low-requires c κs =
     let start = c .before .before .before in
     let f = start .args .f in
     let h = start .args .h in
     let s = start .pre .0 in
-    (rw (start .pre .1) (omega (arith, temperaturePair-le f s (aboveOf (h .temperature)))), (deficit-factor f s (h .vpd) (c .before .before .f-vpd .ensures), soilWater-factor f s _ (c .f-sw .ensures)))
+    (rw (start .pre .1) (omega (arith, temperaturePair-le f s (aboveOf (h .temperature)))), (deficit-factor f s (h .vpd) (c .before .before .f-vpd .ensures .0), soilWater-factor f s _ (c .f-sw .ensures .0)))
 
 opening-up-requires : tie.Need-opening-up-requires
 opening-up-requires c κs =
@@ -35,19 +26,19 @@ opening-up-requires c κs =
     let h = start .args .h in
     let s = start .pre .0 in
     let x = aboveOf (h .temperature) in
-    (rw (start .pre .1) (omega (arith, temperaturePair-le f s x, temperaturePair-gap f s x)), (deficit-factor f s (h .vpd) (c .before .before .before .f-vpd .ensures), soilWater-factor f s _ (c .before .f-sw .ensures)))
+    (rw (start .pre .1) (omega (arith, temperaturePair-le f s x, temperaturePair-gap f s x)), (deficit-factor f s (h .vpd) (c .before .before .before .f-vpd .ensures .0), soilWater-factor f s _ (c .before .f-sw .ensures .0)))
 
 returns : tie.Need-returns
 returns c =
     let start = c .before .before .before .before .before in
     let f = start .args .f in
     let h = start .args .h in
-    let vpd = c .before .before .before .before .f-vpd .ensures in
-    let sw : Is (c .before .before .f-sw .result) (soilWaterOf f (soilNumber (h .soil))) = rw (c .before .before .before .soil-number .ensures) at (c .before .before .f-sw .ensures) in (
+    let vpd = c .before .before .before .before .f-vpd .ensures .0 in
+    let sw : Is (c .before .before .f-sw .result) (soilWaterOf f (soilNumber (h .soil))) = rw (c .before .before .before .soil-number .ensures) at (c .before .before .f-sw .ensures .0) in (
       c .before .opening-low .ensures ∙ openingLow-is f h vpd sw (ap (λ b. b .lower) (start .pre .1)),
       c .opening-up .ensures ∙ openingUp-is f h vpd sw (ap (λ b. b .upper) (start .pre .1)),
     )
 
 pub opening-spec : {M : Type 1} → statement M
 opening-spec =
-    tie.close (tie.spec f-vpd-requires soil-number-requires f-sw-requires opening-low-requires opening-up-requires returns)
+    tie.close (tie.spec (λ c κs. search needs) (λ c κs. search needs) (λ c κs. search needs) opening-low-requires opening-up-requires returns)

@@ -8,23 +8,14 @@ use Rattle.flux_spec.proofs.BoundaryLaws.{rootLow-200}
 use Rattle.flux.proofs.hour.pair.Statement.{statement}
 use Rattle.flux.proofs.hour.pair.Tie as tie
 
-root-low-requires : tie.Need-root-low-requires
-root-low-requires c κs = search needs
-
 add-quotient : tie.Need-add-quotient
 add-quotient c = omega (arith, c .root-low .ensures, rootLow-200 (c .before .args .leaf) (c .before .args .wind) (c .before .pre .1 .0))
 
 quotient-requires : tie.Need-quotient-requires
 quotient-requires c κs = (omega arith, omega arith, omega arith, omega (arith, c .root-low .ensures, rootLow-200 (c .before .args .leaf) (c .before .args .wind) (c .before .pre .1 .0)), omega arith)
 
-less-requires : tie.Need-less-requires
-less-requires c κs = search needs
-
 quotient-requires-2 : tie.Need-quotient-requires-2
 quotient-requires-2 c κs = (omega arith, omega arith, omega arith, omega (arith, c .before .before .root-low .ensures, rootLow-200 (c .before .before .before .args .leaf) (c .before .before .before .args .wind) (c .before .before .before .pre .1 .0)), omega arith)
-
-less-requires-2 : tie.Need-less-requires-2
-less-requires-2 c κs = search needs
 
 returns : tie.Need-returns
 returns c =
@@ -38,10 +29,10 @@ pub pair-spec : {M : Type 1} → statement M
 pair-spec =
     tie.close
     (tie.spec
-    root-low-requires
+    (λ c κs. search needs)
     add-quotient
     quotient-requires
-    less-requires
+    (λ c κs. search needs)
     quotient-requires-2
-    less-requires-2
+    (λ c κs. search needs)
     returns)

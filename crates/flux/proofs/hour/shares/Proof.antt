@@ -12,12 +12,6 @@ use Rattle.exact.specs.Frac.{Is}
 use Rattle.flux.proofs.hour.shares.Statement.{statement}
 use Rattle.flux.proofs.hour.shares.Tie as tie
 
-above-requires : tie.Need-above-requires
-above-requires c κs = search needs
-
-f-phen-requires : tie.Need-f-phen-requires
-f-phen-requires c κs = search needs
-
 factor-requires : tie.Need-factor-requires
 factor-requires c κs =
     let start = c .before .before .before .before in
@@ -28,7 +22,7 @@ phenology : (c : tie.After-f-phen) → Is (c .f-phen .result) (phenologyIn (c .b
 unfolding phenologyIn
 phenology c =
     let t = c .before .before .before .before .args .h .temperature in
-    rw (at-plain t (search needs) aboveOf (c .before .above .ensures)) at (c .f-phen .ensures)
+    rw (at-plain t (search needs) aboveOf (c .before .above .ensures)) at (c .f-phen .ensures .0)
 
 share-low-requires : tie.Need-share-low-requires
 unfolding lightLow lightUp
@@ -37,7 +31,7 @@ share-low-requires c κs =
     let f = start .args .stand .figures in
     let h = start .args .h in
     let s = start .pre .0 in
-    (omega (arith, c .factor .ensures .0, light-order f (h .ppfd), lightUp-le f (h .ppfd)), (phenology-factor f s _ _ _ _ (c .before .f-phen .ensures), omega (arith, start .pre .1 .1 .0, openingLow-le f s h)))
+    (omega (arith, c .factor .ensures .0, light-order f (h .ppfd), lightUp-le f (h .ppfd)), (phenology-factor f s _ _ _ _ (c .before .f-phen .ensures .0), omega (arith, start .pre .1 .1 .0, openingLow-le f s h)))
 
 share-up-requires : tie.Need-share-up-requires
 unfolding lightLow lightUp
@@ -46,7 +40,7 @@ share-up-requires c κs =
     let f = start .args .stand .figures in
     let h = start .args .h in
     let s = start .pre .0 in
-    (omega (arith, c .before .factor .ensures .1, lightUp-le f (h .ppfd)), (phenology-factor f s _ _ _ _ (c .before .before .f-phen .ensures), omega (arith, start .pre .1 .1 .1, openingUp-le f s h)))
+    (omega (arith, c .before .factor .ensures .1, lightUp-le f (h .ppfd)), (phenology-factor f s _ _ _ _ (c .before .before .f-phen .ensures .0), omega (arith, start .pre .1 .1 .1, openingUp-le f s h)))
 
 returns : tie.Need-returns
 unfolding lightLow lightUp
@@ -61,4 +55,4 @@ returns c =
     )
 
 pub shares-spec : {M : Type 1} → statement M
-shares-spec = tie.close (tie.spec above-requires f-phen-requires factor-requires share-low-requires share-up-requires returns)
+shares-spec = tie.close (tie.spec (λ c κs. search needs) (λ c κs. search needs) factor-requires share-low-requires share-up-requires returns)

@@ -1,25 +1,36 @@
--- `flux::hour::temperature` meets its contract: the curve's table serves the figures.
-use mathlib.Core.Path.{ap, _∙_}
+-- `flux::hour::temperature` meets its contract: the curve's table serves the figures, and no refusal comes up.
+use Prim.Native.Nat.{ℕ}
+use mathlib.Core.Path.{_≡_, sym, ap, _∙_}
+use native.Mathlib.Omega.{arith}
 use borrow.Author.Needs.{needs}
-use Rattle.trees.specs.Temperature.{temperatureOf}
-use Rattle.trees.proofs.CurveLaws.{tabled-pair}
-use Rattle.flux_spec.specs.Conductance.{aboveOf}
+use Rattle.trees.specs.Temperature.{temperaturePair}
+use Rattle.records.specs.Answers.{accepted}
+use Rattle.records.proofs.AnswerLaws.{accepted-same}
 use Rattle.records.proofs.SignedLaws.{at-plain}
+use Rattle.tables.specs.Answers.{factoredAs, temperatureOf}
+use Rattle.tables.proofs.AnswerLaws.{tabled-pair}
+use Rattle.flux_spec.specs.Conductance.{aboveOf}
 use Rattle.flux.proofs.hour.temperature.Statement.{statement}
 use Rattle.flux.proofs.hour.temperature.Tie as tie
 
-above-requires : tie.Need-above-requires
-above-requires c κs = search needs
-
-f-temp-requires : tie.Need-f-temp-requires
-f-temp-requires c κs = search needs
-
-returns : tie.Need-returns
-returns c =
+answer :
+    (c : tie.After-f-temp) →
+    factoredAs (c .f-temp .result) ≡ accepted (temperaturePair (c .before .before .before .args .f) (aboveOf (c .before .before .before .args .h .temperature)))
+answer c =
     let start = c .before .before .before in
     let a = start .args in
     let tenths = at-plain (a .h .temperature) (search needs) aboveOf (c .before .above .ensures) in
-    c .f-temp .ensures ∙ ap (temperatureOf (a .f .curve)) tenths ∙ tabled-pair (start .pre .0) (start .pre .1)
+    c .f-temp .ensures .0 ∙ ap (temperatureOf (a .f .curve)) tenths ∙ tabled-pair (start .pre .0) (start .pre .1)
+
+returns : tie.Need-returns
+returns c =
+    let e = sym (ap factoredAs (c .enum-told .given .1)) ∙ answer (c .before .before) in
+    let z : _≡_ {A = ℕ} 0 1 = cc in
+    absurd (omega arith)
+
+returns-2 : tie.Need-returns-2
+returns-2 c = accepted-same (sym (ap factoredAs (c .before .pair .given .1)) ∙ answer (c .before .before .before))
 
 pub temperature-spec : {M : Type 1} → statement M
-temperature-spec = tie.close (tie.spec above-requires f-temp-requires returns)
+temperature-spec =
+    tie.close (tie.spec (λ c κs. search needs) (λ c κs. search needs) (λ c. search needs) (λ c. search needs) returns returns-2)

@@ -8,22 +8,13 @@ use Rattle.flux.proofs.DecayLookup.{found-is, two-le, three-le}
 use Rattle.flux.proofs.light.decay.Statement.{statement}
 use Rattle.flux.proofs.light.decay.Tie as tie
 
-slice-aggregate-decay-entry : tie.Need-slice-aggregate-decay-entry
-slice-aggregate-decay-entry c = search needs
-
 decay-entry-requires : tie.Need-decay-entry-requires
 unfolding commonDen commonNum
 decay-entry-requires c κs = (table-tested 1 _ tt, lit< tt)
 
-slice-aggregate-decay-entry-2 : tie.Need-slice-aggregate-decay-entry-2
-slice-aggregate-decay-entry-2 c = search needs
-
 decay-entry-requires-2 : tie.Need-decay-entry-requires-2
 unfolding commonDen commonNum
 decay-entry-requires-2 c κs = (table-tested 100 _ tt, lit< tt)
-
-slice-aggregate-decay-entry-3 : tie.Need-slice-aggregate-decay-entry-3
-slice-aggregate-decay-entry-3 c = search needs
 
 decay-entry-requires-3 : tie.Need-decay-entry-requires-3
 unfolding commonDen commonNum
@@ -60,11 +51,11 @@ pub decay-spec : {M : Type 1} → statement M
 decay-spec =
     tie.close
     (tie.spec
-    slice-aggregate-decay-entry
+    (λ c. search needs)
     decay-entry-requires
-    slice-aggregate-decay-entry-2
+    (λ c. search needs)
     decay-entry-requires-2
-    slice-aggregate-decay-entry-3
+    (λ c. search needs)
     decay-entry-requires-3
     mul-result
     mul-result-2

@@ -17,9 +17,6 @@ decay-requires c κs = omega (arith, mul-le-mul (c .pre .0) (c .pre .1))
 sub-upper : tie.Need-sub-upper
 sub-upper c = omega (arith, decayLow-le (c .before .args .lighta * c .before .args .ppfd))
 
-sub-lower : tie.Need-sub-lower
-sub-lower c = search needs
-
 returns : tie.Need-returns
 unfolding lightLowOf lightUpOf
 returns c = (omega arith, omega arith)
@@ -30,4 +27,4 @@ returns-2 c = (omega arith, omega arith)
 
 pub factor-spec : {M : Type 1} → statement M
 factor-spec =
-    tie.close (tie.spec mul-decay decay-requires sub-upper sub-lower returns returns-2)
+    tie.close (tie.spec mul-decay decay-requires sub-upper (λ c. search needs) returns returns-2)

@@ -5,9 +5,6 @@ use Rattle.flux.proofs.NumberLaws.{product-lt}
 use Rattle.flux.proofs.share.share_up.Statement.{statement}
 use Rattle.flux.proofs.share.share_up.Tie as tie
 
-times-up-requires : tie.Need-times-up-requires
-times-up-requires c κs = search needs
-
 mul-result : tie.Need-mul-result
 mul-result c =
     omega (arith, product-lt {a = c .times-up .result} {b = c .before .args .opening} (omega arith) (omega arith))
@@ -20,4 +17,4 @@ returns : tie.Need-returns
 returns c = rw (c .times-up .ensures .0)
 
 pub share-up-spec : {M : Type 1} → statement M
-share-up-spec = tie.close (tie.spec times-up-requires mul-result add-result returns)
+share-up-spec = tie.close (tie.spec (λ c κs. search needs) mul-result add-result returns)

@@ -12,11 +12,8 @@ returns c = let a = c .before .before .args in let f = c .before .before .pre .1
 mul-result : tie.Need-mul-result
 mul-result c = let a = c .before .before .before .args in let f = c .before .before .before .pre .1 in mul-fits (a .n) (a .x) f (c .before .before .before .pre .0)
 
-div-result : tie.Need-div-result
-div-result c = search needs
-
 returns-2 : tie.Need-returns-2
 returns-2 c = let a = c .before .before .before .before .args in let f = c .before .before .before .before .pre .1 in (refl, down-le (a .n) (a .x) f)
 
 pub times-down-spec : {M : Type 1} → statement M
-times-down-spec = tie.close (tie.spec returns mul-result div-result returns-2)
+times-down-spec = tie.close (tie.spec returns mul-result (λ c. search needs) returns-2)

@@ -12,17 +12,11 @@ returns c = let a = c .before .before .args in let f = c .before .before .pre .1
 mul-result : tie.Need-mul-result
 mul-result c = let a = c .before .before .before .args in let f = c .before .before .before .pre .1 in mul-fits (a .n) (a .x) f (c .before .before .before .pre .0)
 
-sub-result : tie.Need-sub-result
-sub-result c = search needs
-
 add-result : tie.Need-add-result
 add-result c = let a = c .before .before .before .before .args in let f = c .before .before .before .before .pre .1 in up-fits (a .n) (a .x) f (c .before .before .before .before .pre .0)
-
-div-result : tie.Need-div-result
-div-result c = search needs
 
 returns-2 : tie.Need-returns-2
 returns-2 c = let a = c .before .before .before .before .before .args in let f = c .before .before .before .before .before .pre .1 in (refl, up-le (a .n) (a .x) f)
 
 pub times-up-spec : {M : Type 1} → statement M
-times-up-spec = tie.close (tie.spec returns mul-result sub-result add-result div-result returns-2)
+times-up-spec = tie.close (tie.spec returns mul-result (λ c. search needs) add-result (λ c. search needs) returns-2)

@@ -10,8 +10,5 @@ Inv-loop text rest₀ rest = Unit {0}
 abbrev μ-loop : tie.MeasureT-loop
 μ-loop text rest₀ rest = length rest
 
-loop-less : tie.Need-loop-less Inv-loop μ-loop
-loop-less c = search needs
-
 pub print-rows-spec : {M : Type 1} → statement M
-print-rows-spec = tie.close (tie.spec Inv-loop μ-loop (λ c. tt) (λ c κs. tt) (λ c κs. tt) (λ c κs. tt) loop-less (λ c. tt) (λ c. tt))
+print-rows-spec = tie.close (tie.spec Inv-loop μ-loop (λ c. tt) (λ c κs. tt) (λ c κs. tt) (λ c κs. tt) (λ c. search needs) (λ c. tt) (λ c. tt))

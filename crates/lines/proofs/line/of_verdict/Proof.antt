@@ -1,9 +1,8 @@
 -- `lines::line::of_verdict` meets its contract.
-use mathlib.Core.List.{[]}
 use borrow.Author.Needs.{needs}
 use lib.Dec.{lit≤}
 use Rattle.account_spec.specs.declared.Verdict.the-variants.{None, Undecided, Exceeded, Below}
-use Rattle.report_spec.specs.Line.{wordOf}
+use Rattle.account_spec.specs.Reading.{wordOf}
 use Rattle.report_spec.proofs.TextLaws.{word-feed, word-room}
 use Rattle.lines.proofs.line.of_verdict.Statement.{statement}
 use Rattle.lines.proofs.line.of_verdict.Tie as tie
@@ -53,28 +52,28 @@ word-before-requires-4 c κs = search needs
 returns : tie.Need-returns
 returns c =
     let end = c .before .before .before .before in (
-      rw (c .before .before .enum-told .given .1) (word-feed (wordOf None []) (c .word-before .ensures .0) (end .byte-before .ensures .0) (end .before .empty .ensures .0)),
+      rw (c .before .before .enum-told .given .1) (word-feed (wordOf None) (c .word-before .ensures .0) (end .byte-before .ensures .0) (end .before .empty .ensures .0)),
       (c .word-before .ensures .1 .0, word-room _ _ _ _ (c .word-before .ensures .1 .1) (end .byte-before .ensures .1 .1) (end .before .empty .ensures .1 .1) (lit≤ tt)),
     )
 
 returns-2 : tie.Need-returns-2
 returns-2 c =
     let end = c .before .before .before .before in (
-      rw (c .before .before .enum-told2 .given .1) (word-feed (wordOf Undecided []) (c .word-before2 .ensures .0) (end .byte-before .ensures .0) (end .before .empty .ensures .0)),
+      rw (c .before .before .enum-told2 .given .1) (word-feed (wordOf Undecided) (c .word-before2 .ensures .0) (end .byte-before .ensures .0) (end .before .empty .ensures .0)),
       (c .word-before2 .ensures .1 .0, word-room _ _ _ _ (c .word-before2 .ensures .1 .1) (end .byte-before .ensures .1 .1) (end .before .empty .ensures .1 .1) (lit≤ tt)),
     )
 
 returns-3 : tie.Need-returns-3
 returns-3 c =
     let end = c .before .before .before .before in (
-      rw (c .before .before .enum-told3 .given .1) (word-feed (wordOf Exceeded []) (c .word-before3 .ensures .0) (end .byte-before .ensures .0) (end .before .empty .ensures .0)),
+      rw (c .before .before .enum-told3 .given .1) (word-feed (wordOf Exceeded) (c .word-before3 .ensures .0) (end .byte-before .ensures .0) (end .before .empty .ensures .0)),
       (c .word-before3 .ensures .1 .0, word-room _ _ _ _ (c .word-before3 .ensures .1 .1) (end .byte-before .ensures .1 .1) (end .before .empty .ensures .1 .1) (lit≤ tt)),
     )
 
 returns-4 : tie.Need-returns-4
 returns-4 c =
     let end = c .before .before .before .before in (
-      rw (c .before .before .enum-told4 .given .1) (word-feed (wordOf Below []) (c .word-before4 .ensures .0) (end .byte-before .ensures .0) (end .before .empty .ensures .0)),
+      rw (c .before .before .enum-told4 .given .1) (word-feed (wordOf Below) (c .word-before4 .ensures .0) (end .byte-before .ensures .0) (end .before .empty .ensures .0)),
       (c .word-before4 .ensures .1 .0, word-room _ _ _ _ (c .word-before4 .ensures .1 .1) (end .byte-before .ensures .1 .1) (end .before .empty .ensures .1 .1) (lit≤ tt)),
     )
 

@@ -1,91 +1,74 @@
--- `records::ranges::check_header` meets its contract: row by row, what is left of the rows is the answer.
+-- `records::ranges::check_header` meets its contract: the first row whose test holds answers.
 use mathlib.Core.Path.{_≡_, sym, _∙_}
+use mathlib.Core.Bool.{false}
 use borrow.Author.Needs.{needs}
+use Rattle.trees.specs.declared.Figures.{Figures}
+use Rattle.trees.specs.declared.Choice.{Choice}
 use Rattle.trees.specs.Figures.{figuresOf, rampDays}
-use Rattle.records.specs.Answers.{Outcome, accepted, row}
-use Rattle.records.specs.Ranges.{isOutside, periodOut, checked}
+use Rattle.records.specs.Ranges.{isOutside, periodOut}
 use Rattle.records.specs.declared.Header.{Header}
-use Rattle.records.specs.declared.Record.{Record}
+use Rattle.records.proofs.CheckLaws.{tree-out, year-out, period-out, level-out, level-in}
 use Rattle.records.proofs.ranges.check_header.Statement.{statement}
 use Rattle.records.proofs.ranges.check_header.Tie as tie
 
--- the rows from 8, 7 and 6 on
-abbrev from8 : Header → Outcome Unit
-from8 h = row 8 (isOutside 1 10000 (h .level)) (accepted tt)
-
-abbrev from7 : Header → Outcome Unit
-from7 h = row 7 (periodOut h (rampDays (figuresOf (h .tree)))) (from8 h)
-
-abbrev from6 : Header → Outcome Unit
-from6 h = row 6 (isOutside 365 366 (h .days)) (from7 h)
-
-cast-outside : tie.Need-cast-outside
-cast-outside c = search needs
-
-outside-requires : tie.Need-outside-requires
-outside-requires c κs = search needs
-
 returns : tie.Need-returns
-unfolding checked
-returns c = simp (sym (c .before .outside .ensures) ∙ c .if1 .taken)
+returns c = tree-out _ (sym (c .before .before .figures-of .ensures .0) ∙ c .enum-told .given .1)
 
-module _ (c : tie.Else1) where
-  abbrev header : Header
-  header = c .before .before .before .args .h
+-- past row 5
+module _ (c : tie.After-known-told) where
+  abbrev header₅ : Header
+  header₅ = c .before .before .before .before .args .h
 
-  past5 : from6 header ≡ checked (Record.Header header)
-  unfolding checked
-  past5 = simp (sym (c .before .outside .ensures) ∙ c .if1 .left)
+  abbrev figures : Figures
+  figures = c .before .f .given .0 .0
 
-outside-requires-2 : tie.Need-outside-requires-2
-outside-requires-2 c κs = search needs
+  tree : figuresOf (header₅ .tree) ≡ Choice.Tree figures
+  tree = sym (c .before .before .before .figures-of .ensures .0) ∙ c .before .f .given .1
 
 returns-2 : tie.Need-returns-2
-returns-2 c = rw (← past5 (c .before .before)) (simp (sym (c .before .outside2 .ensures) ∙ c .if2 .taken))
+returns-2 c = year-out _ (tree (c .before .before)) (sym (c .before .outside .ensures) ∙ c .if1 .taken)
 
-past6 : (c : tie.Else2) → let h = header (c .before .before) in from7 h ≡ checked (Record.Header h)
-past6 c = rw (← past5 (c .before .before)) (simp (sym (c .before .outside2 .ensures) ∙ c .if2 .left))
-
-ramp-days-requires : tie.Need-ramp-days-requires
-ramp-days-requires c κs = search needs
-
-period-out-requires : tie.Need-period-out-requires
-period-out-requires c κs = search needs
+-- past row 6
+year : (c : tie.Else1) → isOutside 365 366 (header₅ (c .before .before) .days) ≡ false
+year c = sym (c .before .outside .ensures) ∙ c .if1 .left
 
 module _ (c : tie.After-period-out) where
-  abbrev header₇ : Header
-  header₇ = header (c .before .before .before .before)
+  abbrev told : tie.After-known-told
+  told = c .before .before .before .before
 
-  answer : c .period-out .result ≡ periodOut header₇ (rampDays (figuresOf (header₇ .tree)))
-  answer = rw (c .before .ramp-days .ensures) at (c .period-out .ensures)
+  period-is : c .period-out .result ≡ periodOut (header₅ told) (rampDays (figures told))
+  period-is = rw (c .before .ramp-days .ensures) at (c .period-out .ensures)
 
 returns-3 : tie.Need-returns-3
-returns-3 c = rw (← past6 (c .before .before .before)) (simp (sym (answer (c .before)) ∙ c .if3 .taken))
+returns-3 c = period-out _ (tree (told (c .before))) (year (c .before .before .before)) (sym (period-is (c .before)) ∙ c .if2 .taken)
 
-past7 : (c : tie.Else3) → let h = header₇ (c .before) in from8 h ≡ checked (Record.Header h)
-past7 c = rw (← past6 (c .before .before .before)) (simp (sym (answer (c .before)) ∙ c .if3 .left))
-
-outside-requires-3 : tie.Need-outside-requires-3
-outside-requires-3 c κs = search needs
+-- past row 7
+period : (c : tie.Else2) → let t = told (c .before) in periodOut (header₅ t) (rampDays (figures t)) ≡ false
+period c = sym (period-is (c .before)) ∙ c .if2 .left
 
 returns-4 : tie.Need-returns-4
-returns-4 c = rw (← past7 (c .before .before)) (simp (sym (c .before .outside3 .ensures) ∙ c .if4 .taken))
+returns-4 c =
+    let e = c .before .before in
+    level-out _ (tree (told (e .before))) (year (e .before .before .before)) (period e) (sym (c .before .outside2 .ensures) ∙ c .if3 .taken)
 
 returns-5 : tie.Need-returns-5
-returns-5 c = rw (← past7 (c .before .before)) (simp (sym (c .before .outside3 .ensures) ∙ c .if4 .left))
+returns-5 c =
+    let e = c .before .before in
+    level-in _ (tree (told (e .before))) (year (e .before .before .before)) (period e) (sym (c .before .outside2 .ensures) ∙ c .if3 .left)
 
 pub check-header-spec : {M : Type 1} → statement M
 check-header-spec =
     tie.close
     (tie.spec
-    cast-outside
-    outside-requires
+    (λ c κs. search needs)
+    (λ c. search needs)
+    (λ c. search needs)
     returns
-    outside-requires-2
+    (λ c κs. search needs)
     returns-2
-    ramp-days-requires
-    period-out-requires
+    (λ c κs. search needs)
+    (λ c κs. search needs)
     returns-3
-    outside-requires-3
+    (λ c κs. search needs)
     returns-4
     returns-5)

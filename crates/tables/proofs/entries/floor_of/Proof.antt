@@ -3,11 +3,8 @@ use borrow.Author.Needs.{needs}
 use Rattle.tables.proofs.entries.floor_of.Statement.{statement}
 use Rattle.tables.proofs.entries.floor_of.Tie as tie
 
-mul-floor : tie.Need-mul-floor
-mul-floor c = search needs
-
 returns : tie.Need-returns
 returns c = search needs
 
 pub floor-of-spec : {M : Type 1} → statement M
-floor-of-spec = tie.close (tie.spec mul-floor returns)
+floor-of-spec = tie.close (tie.spec (λ c. search needs) returns)

@@ -1,21 +1,13 @@
 -- `trees::factors::f_vpd` meets its contract.
 use borrow.Author.Needs.{needs}
 use Rattle.trees.specs.Deficit.{deficitOf}
+use Rattle.trees.proofs.FactsLaws.{factor-facts}
 use Rattle.trees.proofs.factors.f_vpd.Statement.{statement}
 use Rattle.trees.proofs.factors.f_vpd.Tie as tie
 
-past-requires : tie.Need-past-requires
-past-requires c κs = search needs
-
-past-requires-2 : tie.Need-past-requires-2
-past-requires-2 c κs = search needs
-
-straight-requires : tie.Need-straight-requires
-straight-requires c κs = search needs
-
 returns : tie.Need-returns
 unfolding deficitOf
-returns c = rw (c .before .before .past .ensures, c .before .past2 .ensures) at (c .straight .ensures)
+returns c = (rw (c .before .before .past .ensures, c .before .past2 .ensures) at (c .falling .ensures), factor-facts)
 
 pub f-vpd-spec : {M : Type 1} → statement M
-f-vpd-spec = tie.close (tie.spec past-requires past-requires-2 straight-requires returns)
+f-vpd-spec = tie.close (tie.spec (λ c κs. search needs) (λ c κs. search needs) (λ c κs. search needs) returns)

@@ -6,24 +6,6 @@ use Rattle.trees.proofs.PhenologyLaws.{dip-before, dip-falling, dip-low
 use Rattle.trees.proofs.phen.by_dip.Statement.{statement}
 use Rattle.trees.proofs.phen.by_dip.Tie as tie
 
-sub-straight : tie.Need-sub-straight
-sub-straight c = search needs
-
-sub-straight-2 : tie.Need-sub-straight-2
-sub-straight-2 c = search needs
-
-straight-requires : tie.Need-straight-requires
-straight-requires c κs = search needs
-
-sub-straight-3 : tie.Need-sub-straight-3
-sub-straight-3 c = search needs
-
-sub-straight-4 : tie.Need-sub-straight-4
-sub-straight-4 c = search needs
-
-straight-requires-2 : tie.Need-straight-requires-2
-straight-requires-2 c κs = search needs
-
 returns : tie.Need-returns
 returns c = rw (dip-before (c .before .args .day) (omega arith)) (record { num = refl; den = refl })
 
@@ -43,12 +25,12 @@ pub by-dip-spec : {M : Type 1} → statement M
 by-dip-spec =
     tie.close
     (tie.spec
-    sub-straight
-    sub-straight-2
-    straight-requires
-    sub-straight-3
-    sub-straight-4
-    straight-requires-2
+    (λ c. search needs)
+    (λ c. search needs)
+    (λ c κs. search needs)
+    (λ c. search needs)
+    (λ c. search needs)
+    (λ c κs. search needs)
     returns
     returns-2
     returns-3

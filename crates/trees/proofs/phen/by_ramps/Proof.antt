@@ -5,18 +5,6 @@ use Rattle.trees.proofs.PhenologyLaws.{ramps-falling, ramps-rising}
 use Rattle.trees.proofs.phen.by_ramps.Statement.{statement}
 use Rattle.trees.proofs.phen.by_ramps.Tie as tie
 
-past-requires : tie.Need-past-requires
-past-requires c κs = search needs
-
-straight-requires : tie.Need-straight-requires
-straight-requires c κs = search needs
-
-past-requires-2 : tie.Need-past-requires-2
-past-requires-2 c κs = search needs
-
-straight-requires-2 : tie.Need-straight-requires-2
-straight-requires-2 c κs = search needs
-
 returns : tie.Need-returns
 returns c =
     let a = c .before .before .before .before .args in
@@ -31,9 +19,9 @@ pub by-ramps-spec : {M : Type 1} → statement M
 by-ramps-spec =
     tie.close
     (tie.spec
-    past-requires
-    straight-requires
-    past-requires-2
-    straight-requires-2
+    (λ c κs. search needs)
+    (λ c κs. search needs)
+    (λ c κs. search needs)
+    (λ c κs. search needs)
     returns
     returns-2)

@@ -8,12 +8,6 @@ use Rattle.trees.proofs.PhenologyLaws.{temperature-between, temperature
 use Rattle.trees.proofs.phen.by_temperature.Statement.{statement}
 use Rattle.trees.proofs.phen.by_temperature.Tie as tie
 
-mul-if1 : tie.Need-mul-if1
-mul-if1 c = search needs
-
-mul-if2 : tie.Need-mul-if2
-mul-if2 c = search needs
-
 returns : tie.Need-returns
 returns c =
     let a = c .before .before .args in
@@ -26,4 +20,4 @@ returns-2 c =
     (record { num = refl; den = refl })
 
 pub by-temperature-spec : {M : Type 1} → statement M
-by-temperature-spec = tie.close (tie.spec mul-if1 mul-if2 returns returns-2)
+by-temperature-spec = tie.close (tie.spec (λ c. search needs) (λ c. search needs) returns returns-2)

@@ -1,0 +1,38 @@
+// The tests of rows 7 and 10 that an hour's dose makes besides those of the hour itself.
+use frames::Soil;
+use trees::Figures;
+use trees::Measure;
+ghost use mathlib.Core.Path.{_≡_};
+ghost use Rattle.flux_spec.specs.HourDose.{daysOut, otherMeasure};
+
+// Row 7 where the year is not known: no year has more than 366 days.
+pub(crate) fn days_out(f: Figures, first: u16, last: u16) -> bool
+    ensures { λ r. ⌜ r ≡ daysOut f first last ⌝ }
+{
+    if first < 1 {
+        return true;
+    }
+    if last < first {
+        return true;
+    }
+    if 366 < last {
+        return true;
+    }
+    ((last - first) as u32) < (f.f1 as u32) + (f.f4 as u32)
+}
+
+// The soil is not in the tree's measure.
+pub(crate) fn other_measure(measure: Measure, soil: Soil) -> bool
+    ensures { λ r. ⌜ r ≡ otherMeasure measure soil ⌝ }
+{
+    match measure {
+        Measure::Suction => match soil {
+            Soil::Suction(_) => false,
+            Soil::Water(_) => true,
+        },
+        Measure::Water => match soil {
+            Soil::Suction(_) => true,
+            Soil::Water(_) => false,
+        },
+    }
+}

@@ -1,0 +1,99 @@
+-- What the hour's dose is, by each of the tests before it; and what an hour that none of them refuses has passed.
+use Prim.Native.Nat.{ℕ, _+_, _≤_}
+use mathlib.Core.Path.{_≡_, refl}
+use mathlib.Core.Bool.{true, false, _||_}
+use native.Mathlib.Omega.{arith}
+use borrow.Author.Tests.{ltb-false, le-ltb}
+use lib.Dec.{ltb}
+use Rattle.exact.specs.declared.Bounds.{Bounds}
+use Rattle.trees.specs.declared.Measure.{Measure}
+use Rattle.trees.specs.declared.Figures.{Figures}
+use Rattle.trees.specs.declared.Choice.{Choice}
+use Rattle.trees.specs.Figures.{figuresOf}
+use Rattle.records.specs.declared.Header.{Header}
+use Rattle.records.specs.declared.Hour.{Hour}
+use Rattle.records.specs.declared.RawHour.{RawHour}
+use Rattle.records.specs.declared.Record.{Record}
+use Rattle.records.specs.Answers.{accepted, refused}
+use Rattle.records.specs.Ranges.{periodOut, checked}
+use Rattle.records.proofs.AnswerLaws.{accepted-same, or-neither, row-passed, onward-passed}
+use Rattle.frames.specs.Layout.{soilOf, hourOf}
+use Rattle.flux_spec.specs.declared.Stand.{Stand}
+use Rattle.flux_spec.specs.Dose.{isCounted}
+use Rattle.flux_spec.specs.Pair.{hourPair}
+use Rattle.flux_spec.specs.HourDose.{standOf, daysOut, otherMeasure, standFor, hourDoseOf}
+
+-- ---- refused, by each row
+
+module _ (choice : Choice) (first last : ℕ) (h : Hour) where
+  pub unknown-is : choice ≡ Choice.Unknown → refused (5, 0) ≡ hourDoseOf choice first last h
+  unfolding hourDoseOf standFor
+  unknown-is e = rw e
+
+  module _ (f : Figures) (e : choice ≡ Choice.Tree f) where
+    pub days-out-is : daysOut f first last ≡ true → refused (7, 0) ≡ hourDoseOf choice first last h
+    unfolding hourDoseOf standFor
+    days-out-is out = rw (e, out)
+
+    module _ (days : daysOut f first last ≡ false) where
+      pub reading-out-is : (row : ℕ × ℕ) → checked (Record.Hour h) ≡ refused row → refused row ≡ hourDoseOf choice first last h
+      unfolding hourDoseOf standFor
+      reading-out-is row out = rw (e, days, out)
+
+      module _ (passed : checked (Record.Hour h) ≡ accepted tt) where
+        pub measure-out-is : otherMeasure (f .measure) (h .soil) ≡ true → refused (10, 7) ≡ hourDoseOf choice first last h
+        unfolding hourDoseOf standFor
+        measure-out-is out = rw (e, days, passed, out)
+
+        -- ---- accepted
+
+        pub stand-is : otherMeasure (f .measure) (h .soil) ≡ false → standFor choice first last h ≡ accepted (standOf f first last)
+        unfolding standFor
+        stand-is own = rw (e, days, passed, own)
+
+        module _ (own : otherMeasure (f .measure) (h .soil) ≡ false) where
+          pub counted-is :
+              isCounted h ≡ true → (pair : Bounds) → pair ≡ hourPair (standOf f first last) h → accepted pair ≡ hourDoseOf choice first last h
+          unfolding hourDoseOf
+          counted-is counted pair p = rw (stand-is own, counted, p)
+
+          pub uncounted-is : isCounted h ≡ false → accepted (record { lower = 0; upper = 0 }) ≡ hourDoseOf choice first last h
+          unfolding hourDoseOf
+          uncounted-is dark = rw (stand-is own, dark)
+
+-- ---- what an hour that no row refuses has passed
+
+pub record Passed (choice : Choice) (first last : ℕ) (h : Hour) (stand : Stand) : Type 0 where
+  pub named : choice ≡ Choice.Tree (stand .figures)
+  pub is : stand ≡ standOf (stand .figures) first last
+  pub checks : checked (Record.Hour h) ≡ accepted tt
+
+pub stand-passed : (choice : Choice) (first last : ℕ) (h : Hour) (stand : Stand) → standFor choice first last h ≡ accepted stand → Passed choice first last h stand
+unfolding standFor
+stand-passed (Choice.Tree f) first last h stand e =
+    let days = row-passed (daysOut f first last) _ _ stand e in
+    let range = onward-passed (checked (Record.Hour h)) _ stand (days .1) in
+    let own = row-passed (otherMeasure (f .measure) (h .soil)) _ _ stand (range .2) in
+    rw (← accepted-same (own .1)) (record { named = refl; is = refl; checks = range .1 })
+stand-passed Choice.Unknown first last h stand e = let z : _≡_ {A = ℕ} 0 1 = cc in absurd (omega arith)
+
+-- ---- an hour frame, read in the tree's measure, of a season whose header row 7 lets pass
+
+days-in : (header : Header) (f : Figures) → periodOut header (f .f1 + f .f4) ≡ false → header .days ≤ 366 → daysOut f (header .first) (header .last) ≡ false
+days-in header f e most =
+    let ramps = or-neither (ltb (header .first) 1 || ltb (header .last) (header .first) || ltb (header .days) (header .last)) _ e in
+    let last = or-neither (ltb (header .first) 1 || ltb (header .last) (header .first)) _ (ramps .0) in
+    let year = ltb-false (header .days) (header .last) (last .1) in
+    simp (last .0, le-ltb 366 (header .last) (omega (arith, year, most)), ramps .1)
+
+own-measure : (m : Measure) (n : ℕ) → otherMeasure m (soilOf m n) ≡ false
+own-measure Measure.Suction n = refl
+own-measure Measure.Water n = refl
+
+pub frame-stand :
+    (header : Header) (f : Figures) (raw : RawHour) → figuresOf (header .tree) ≡ Choice.Tree f →
+    periodOut header (f .f1 + f .f4) ≡ false → header .days ≤ 366 → checked (Record.Hour (hourOf raw (f .measure))) ≡ accepted tt →
+    standFor (figuresOf (header .tree)) (header .first) (header .last) (hourOf raw (f .measure)) ≡ accepted (standOf f (header .first) (header .last))
+unfolding hourOf
+frame-stand header f raw e period most passed =
+    stand-is _ (header .first) (header .last) _ f e (days-in header f period most) passed (own-measure (f .measure) (raw .soil))

@@ -1,0 +1,34 @@
+-- A header by the first of rows 5 to 8 that refuses it.
+use mathlib.Core.Path.{_≡_}
+use mathlib.Core.Bool.{true, false}
+use Rattle.trees.specs.declared.Figures.{Figures}
+use Rattle.trees.specs.declared.Choice.{Choice}
+use Rattle.trees.specs.Figures.{figuresOf, rampDays}
+use Rattle.records.specs.Answers.{accepted, refused}
+use Rattle.records.specs.Ranges.{isOutside, periodOut, checked}
+use Rattle.records.specs.declared.Header.{Header}
+use Rattle.records.specs.declared.Record.{Record}
+
+module _ (h : Header) where
+  pub tree-out : figuresOf (h .tree) ≡ Choice.Unknown → refused (5, 0) ≡ checked (Record.Header h)
+  unfolding checked
+  tree-out tree = rw tree
+
+  module _ {f : Figures} (tree : figuresOf (h .tree) ≡ Choice.Tree f) where
+    pub year-out : isOutside 365 366 (h .days) ≡ true → refused (6, 0) ≡ checked (Record.Header h)
+    unfolding checked
+    year-out year = rw (tree, year)
+
+    module _ (year : isOutside 365 366 (h .days) ≡ false) where
+      pub period-out : periodOut h (rampDays f) ≡ true → refused (7, 0) ≡ checked (Record.Header h)
+      unfolding checked
+      period-out period = rw (tree, year, period)
+
+      module _ (period : periodOut h (rampDays f) ≡ false) where
+        pub level-out : isOutside 1 10000 (h .level) ≡ true → refused (8, 0) ≡ checked (Record.Header h)
+        unfolding checked
+        level-out level = rw (tree, year, period, level)
+
+        pub level-in : isOutside 1 10000 (h .level) ≡ false → accepted tt ≡ checked (Record.Header h)
+        unfolding checked
+        level-in level = rw (tree, year, period, level)

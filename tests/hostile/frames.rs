@@ -1,0 +1,92 @@
+//! The kinds of frames (document 01, "Frames"; document 02, W-204 and W-205) and an hour's readings.
+
+use crate::trees::tree;
+use std::ops::{Index, IndexMut};
+
+/// The newest kind that the program under test knows: 3 is document 01's, 4 that of W-204, 5 that of W-205.
+pub const NEWEST: i64 = 3;
+
+/// Each kind and its digits.
+const FRAMES: [(i64, usize); 5] = [(1, 20), (2, 36), (3, 6), (4, 40), (5, 36)];
+
+/// The kinds up to the newest, with their digits.
+pub fn frames(newest: i64) -> Vec<(i64, usize)> {
+    FRAMES.into_iter().filter(|&(kind, _)| kind <= newest).collect()
+}
+
+/// The kinds of hour frames.
+pub const HOUR_KINDS: &[i64] = match NEWEST {
+    ..=3 => &[2],
+    4 => &[2, 4],
+    _ => &[2, 4, 5],
+};
+
+pub const OZONE: usize = 0;
+pub const PPFD: usize = 1;
+pub const RADIATION: usize = 2;
+pub const TEMPERATURE: usize = 3;
+pub const VPD: usize = 4;
+/// Kind 05's, where VPD stood.
+pub const HUMIDITY: usize = VPD;
+pub const WIND: usize = 5;
+pub const SOIL: usize = 6;
+/// Kind 04's.
+pub const PRESSURE: usize = 7;
+
+/// An hour's readings in the order of its frame.
+#[derive(Clone, Copy)]
+pub struct Readings {
+    pub kind: i64,
+    /// The last is left out but for kind 04.
+    pub values: [i64; 8],
+}
+
+impl Readings {
+    /// Those that the frame has.
+    pub fn sent(&self) -> &[i64] {
+        &self.values[..readings_of(self.kind)]
+    }
+
+    /// The same weather in a frame of another kind: what a range of that kind leaves out is put to its end.
+    pub fn as_kind(&self, number: i64, kind: i64) -> Readings {
+        let mut values = self.values;
+        for (reading, value) in values.iter_mut().enumerate() {
+            let (least, most) = range(number, kind, reading);
+            *value = (*value).clamp(least, most);
+        }
+        Readings { kind, values }
+    }
+}
+
+impl Index<usize> for Readings {
+    type Output = i64;
+    fn index(&self, reading: usize) -> &i64 {
+        &self.values[reading]
+    }
+}
+
+impl IndexMut<usize> for Readings {
+    fn index_mut(&mut self, reading: usize) -> &mut i64 {
+        &mut self.values[reading]
+    }
+}
+
+/// How many readings an hour frame of a kind has.
+pub fn readings_of(kind: i64) -> usize {
+    if kind == 4 { 8 } else { 7 }
+}
+
+/// The least and greatest value of a reading, for a tree's number.
+pub fn range(number: i64, kind: i64, reading: usize) -> (i64, i64) {
+    match reading {
+        OZONE => (0, 5000),
+        PPFD => (0, 3000),
+        RADIATION => (0, 1500),
+        TEMPERATURE => (-500, 600),
+        HUMIDITY if kind == 5 => (0, 1000),
+        VPD => (0, 10000),
+        WIND => (0, 6000),
+        SOIL => (0, tree(number).soil_most),
+        _ => (5000, 11000),
+    }
+}

@@ -1,0 +1,92 @@
+//! The account in doubles held to season texts with known answers: NAME.txt and NAME.expect in the folder of vectors and its folders W-204, W-205.
+
+use crate::account::{answer, Answer, Figures, Month};
+use std::fs::read_to_string;
+use std::path::{Path, PathBuf};
+
+/// How far the dose may lie from the exact one: nmol m⁻², and a part of the dose.
+const SLACK: (f64, f64) = (1e-6, 1e-12);
+
+/// The folders of the requests, each with the newest kind that its texts were answered for.
+const FOLDERS: [(&str, i64); 2] = [("W-204", 4), ("W-205", 5)];
+
+/// Holds the account to every text; what was held, or the first text whose answer is another.
+pub fn hold(folder: &Path) -> Result<String, String> {
+    let mut held = vec![hold_folder(folder, newest_of(folder))?];
+    for (name, newest) in FOLDERS {
+        if folder.join(name).is_dir() {
+            held.push(hold_folder(&folder.join(name), newest)?);
+        }
+    }
+    Ok(held.join("\n"))
+}
+
+fn newest_of(folder: &Path) -> i64 {
+    FOLDERS.iter().find(|(name, _)| folder.ends_with(name)).map_or(3, |&(_, newest)| newest)
+}
+
+fn hold_folder(folder: &Path, newest: i64) -> Result<String, String> {
+    let (mut seasons, mut refusals) = (0, 0);
+    for path in texts(folder)? {
+        let text = std::fs::read(&path).map_err(|error| format!("{}: {error}", path.display()))?;
+        let expected = read_to_string(path.with_extension("expect")).map_err(|error| format!("{}: {error}", path.display()))?;
+        let found = answer(newest, &text);
+        if let Some(why) = differs(&found, &expected) {
+            return Err(format!("{}: {why}", path.display()));
+        }
+        match found {
+            Answer::Season(..) => seasons += 1,
+            Answer::Refused { .. } => refusals += 1,
+        }
+    }
+    Ok(format!("{}: {seasons} seasons and {refusals} refusals, ok", folder.display()))
+}
+
+fn texts(folder: &Path) -> Result<Vec<PathBuf>, String> {
+    let files = std::fs::read_dir(folder).map_err(|error| format!("{}: {error}", folder.display()))?;
+    let mut texts: Vec<PathBuf> = files.flatten().map(|file| file.path()).filter(|path| path.extension().is_some_and(|end| end == "txt")).collect();
+    texts.sort();
+    Ok(texts)
+}
+
+/// How the account's answer differs from the expected one, if it does.
+fn differs(found: &Answer, expected: &str) -> Option<String> {
+    let (season, months) = expected.split_once('\n').unwrap_or((expected, ""));
+    match found {
+        Answer::Refused { row, line } => {
+            let refusal = format!("refused {row} line {line}");
+            (refusal != season).then(|| format!("{refusal}, not {season}"))
+        }
+        Answer::Season(figures, found) => season_differs(figures, season).or_else(|| months_differ(found, months)),
+    }
+}
+
+/// `hours counted dose AOT40 level LEVEL`, or `hours counted missing dose dose AOT40 AOT40 level LEVEL` in a request's folder.
+fn season_differs(figures: &Figures, expected: &str) -> Option<String> {
+    let Figures { hours, counted, dose, aot40, level } = figures;
+    let words: Vec<&str> = expected.split(' ').collect();
+    let (exact, right) = match words.len() {
+        6 => (words[2], format!("{hours} {counted} {} {aot40} level {level}", words[2])),
+        9 => (words[3], format!("{hours} {counted} 0 {0} {0} {aot40} {aot40} level {level}", words[3])),
+        _ => return Some(format!("a season, not {expected}")),
+    };
+    (expected != right || !is_near(*dose, exact)).then(|| format!("{right} with dose {dose}, not {expected}"))
+}
+
+/// `month counted missing dose dose AOT40 AOT40` for each month; document 01's own vectors have none.
+fn months_differ(months: &[Month], expected: &str) -> Option<String> {
+    let lines: Vec<&str> = expected.lines().collect();
+    if !lines.is_empty() && lines.len() != months.len() {
+        return Some(format!("{} months, not {}", months.len(), lines.len()));
+    }
+    months.iter().zip(lines).find_map(|(month, line)| {
+        let Month { number, counted, dose, aot40 } = month;
+        let exact = line.split(' ').nth(3).unwrap_or_default();
+        let right = format!("{number} {counted} 0 {exact} {exact} {aot40} {aot40}");
+        (line != right || !is_near(*dose, exact)).then(|| format!("{right} with dose {dose}, not {line}"))
+    })
+}
+
+fn is_near(dose: f64, exact: &str) -> bool {
+    exact.parse::<f64>().is_ok_and(|exact| (dose - exact).abs() <= SLACK.0 + SLACK.1 * exact)
+}
