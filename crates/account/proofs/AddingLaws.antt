@@ -1,34 +1,40 @@
 -- The pair of an hour by what `hour_dose` says, and the account with an hour added by whether it is counted.
 use Prim.Native.Nat.{ℕ, _+_}
-use mathlib.Core.Path.{_≡_}
+use mathlib.Core.Path.{_≡_, refl, sym, ap, _∙_}
 use mathlib.Core.Bool.{true, false}
 use native.Mathlib.Nat.{add-zero}
 use Rattle.exact.specs.declared.Bounds.{Bounds}
 use Rattle.trees.specs.Figures.{figuresOf}
 use Rattle.records.specs.declared.Hour.{Hour}
 use Rattle.records.specs.declared.Refusal.{Refusal}
+use Rattle.records.specs.Answers.{accepted}
+use Rattle.records.proofs.AnswerLaws.{accepted-same, refused-not-accepted}
 use Rattle.flux_spec.specs.Dose.{isCounted, excess}
 use Rattle.flux_spec.specs.HourDose.{hourDoseOf, dosedAs}
 use Rattle.flux_spec.specs.declared.Dosed.{Dosed}
 use Rattle.account_spec.specs.declared.Season.{Season}
 use Rattle.account_spec.specs.declared.Sums.{Sums}
 use Rattle.account_spec.specs.declared.Account.{Account}
-use Rattle.account_spec.specs.Hours.{plus, noneCarried, noDose, pairOf, countedSums, hourSums}
+use Rattle.account_spec.specs.Hours.{plus, standIn, noneCarried, pairOf, countedSums, hourSums}
 use Rattle.account_spec.specs.Rules.{carriedIn, withHour}
+use Rattle.account_spec.specs.Steps.{Dosable}
+use Rattle.account_spec.proofs.HourLaws.{dosable-stand}
 
--- ---- what `hour_dose` says
+-- ---- what `hour_dose` says of a counted hour that it does not refuse
 
 module _
-    (season : Season) (h : Hour) (d : Dosed)
+    (season : Season) (h : Hour) (dosable : Dosable season h) (counted : isCounted h ≡ true) (d : Dosed)
     (dosed : dosedAs d ≡ hourDoseOf (figuresOf (season .header .tree)) (season .header .first) (season .header .last) h)
   where
-    pub pair-given : (pair : Bounds) → d ≡ Dosed.Pair pair → pairOf season noneCarried h ≡ pair
-    unfolding pairOf
-    pair-given pair e = rw (← dosed, e)
+    dose-is : dosedAs d ≡ accepted (pairOf (standIn season) noneCarried h)
+    unfolding hourDoseOf pairOf
+    dose-is = rw (dosed, dosable .1, counted, dosable-stand season h dosable) refl
 
-    pub pair-none : (r : Refusal) → d ≡ Dosed.Refused r → pairOf season noneCarried h ≡ noDose
-    unfolding pairOf
-    pair-none r e = rw (← dosed, e)
+    pub pair-given : (pair : Bounds) → d ≡ Dosed.Pair pair → pair ≡ pairOf (standIn season) noneCarried h
+    pair-given pair e = accepted-same (sym (ap dosedAs e) ∙ dose-is)
+
+    pub pair-none : (r : Refusal) (pair : Bounds) → d ≡ Dosed.Refused r → pair ≡ pairOf (standIn season) noneCarried h
+    pair-none r pair e = refused-not-accepted (sym (ap dosedAs e) ∙ dose-is)
 
 -- ---- an hour added
 
@@ -37,7 +43,7 @@ module _ (a : Account) (h : Hour) where
   withSums s = record { phase = a .phase; season = a .season; sums = s }
 
   pub counted-hour :
-      isCounted h ≡ true → (pair : Bounds) (over : ℕ) → pair ≡ pairOf (a .season) (carriedIn a) h → over ≡ excess h →
+      isCounted h ≡ true → (pair : Bounds) (over : ℕ) → pair ≡ pairOf (standIn (a .season)) (carriedIn a) h → over ≡ excess h →
       withSums (plus (a .sums) (countedSums pair over)) ≡ withHour a h
   unfolding hourSums
   counted-hour e pair over p x = rw (e, p, x)

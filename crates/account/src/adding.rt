@@ -10,14 +10,17 @@ use frames::Hour;
 use frames::Record;
 ghost use Prim.Native.Nat.{_<_};
 ghost use mathlib.Core.Path.{_≡_};
-ghost use Rattle.flux_spec.specs.Dose.{excess};
-ghost use Rattle.account_spec.specs.Hours.{noneCarried, pairOf};
+ghost use mathlib.Core.Bool.{true};
+ghost use Rattle.flux_spec.specs.Dose.{isCounted, excess};
+ghost use Rattle.account_spec.specs.Hours.{standIn, noneCarried, pairOf};
 ghost use Rattle.account_spec.specs.Rules.{opened, withHour, ended, entered};
-ghost use Rattle.account_spec.specs.Steps.{Room};
+ghost use Rattle.account_spec.specs.Steps.{Dosable, RecordDosable, Room};
 
-// The pair of an hour; 0 and 0 where `hour_dose` refuses it.
+// The pair of a counted hour; `hour_dose` refuses none that the rows let in.
 fn pair_of(season: Season, h: Hour) -> Bounds
-    ensures { λ r. ⌜ r ≡ pairOf season noneCarried h ⌝ }
+    requires dosable { ⌜ Dosable season h ⌝ }
+    requires counted { ⌜ isCounted h ≡ true ⌝ }
+    ensures { λ r. ⌜ r ≡ pairOf (standIn season) noneCarried h ⌝ }
 {
     let header = season.header;
     let dose = flux::hour_dose(header.tree, header.first, header.last, h);
@@ -58,6 +61,7 @@ fn open(header: Header) -> Account
 // An hour is counted if G > 50.
 fn add_hour(a: Account, h: Hour) -> Account
     requires room { ⌜ Room a ⌝ }
+    requires dosable { ⌜ Dosable (a .season) h ⌝ }
     ensures { λ r. ⌜ r ≡ withHour a h ⌝ }
 {
     let phase = a.phase;
@@ -92,6 +96,7 @@ fn end(a: Account) -> Account
 
 pub(crate) fn enter(a: Account, record: Record) -> Account
     requires room { ⌜ Room a ⌝ }
+    requires dosable { ⌜ RecordDosable (a .season) «record» ⌝ }
     ensures { λ r. ⌜ r ≡ entered a «record» ⌝ }
 {
     match record {

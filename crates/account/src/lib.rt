@@ -15,11 +15,12 @@ pub use account_spec::Verdict;
 use frames::Decoded;
 use frames::Header;
 use frames::Parsed;
+use frames::Raw;
 use frames::Refusal;
 ghost use mathlib.Core.Path.{_≡_};
-ghost use Rattle.records.specs.Answers.{parsedAs};
+ghost use Rattle.records.specs.Answers.{rowOf};
 ghost use Rattle.account_spec.specs.Account.{freshAccount};
-ghost use Rattle.account_spec.specs.Rules.{stateOf, feedParsedOf, Answers, Feeds};
+ghost use Rattle.account_spec.specs.Rules.{stateOf, feedFrameOf, unreadRow, Answers, Feeds};
 ghost use Rattle.account_spec.specs.Promise.{SeasonPromise};
 
 // An account before its season: header fields and sums 0.
@@ -61,18 +62,28 @@ fn state_of(account: Account) -> State
     }
 }
 
-// The next account of one that takes what rows 1 to 3 made of a line: row 13 first, then those rows, then 4 to 11.
-pub fn feed_parsed(account: Account, parsed: Parsed) -> Fed
-    ensures { λ r. ⌜ Answers account (feedParsedOf account (parsedAs parsed)) r ⌝ }
+// The next account of one that takes a frame, which rows 1 to 3 let pass: row 13 first, then rows 4 to 11.
+pub fn feed_frame(account: Account, frame: Raw) -> Fed
+    ensures { λ r. ⌜ Answers account (feedFrameOf account frame) r ⌝ }
 {
     if account_read::impossible(account) {
         return Fed::Refused(Refusal::Account, account);
     }
-    let decoded = rows::decode(state_of(account), parsed);
+    let decoded = rows::decode(state_of(account), frame);
     let Decoded::Read(record) = decoded else {
         return Fed::Refused(rows::refusal_in(decoded), account);
     };
     Fed::Accepted(adding::enter(account, record))
+}
+
+// The refusal of a line that rows 1 to 3 refuse: row 13 first.
+pub fn refused_by(account: Account, refusal: Refusal) -> Refusal
+    ensures { λ r. ⌜ rowOf r ≡ unreadRow account (rowOf «refusal») ⌝ }
+{
+    if account_read::impossible(account) {
+        return Refusal::Account;
+    }
+    refusal
 }
 
 // The next account of one that takes a line: row 13 first, then rows 1 to 11.
@@ -80,5 +91,8 @@ pub fn feed(account: Account, line: &[u8]) -> Fed
     ensures { λ r. ⌜ Feeds account (now (line .entry)) r ⌝ }
 {
     let parsed = frames::parse(line);
-    feed_parsed(account, parsed)
+    match parsed {
+        Parsed::Frame(frame) => feed_frame(account, frame),
+        Parsed::Refused(refusal) => Fed::Refused(refused_by(account, refusal), account),
+    }
 }

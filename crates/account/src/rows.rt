@@ -2,13 +2,11 @@
 use crate::Phase;
 use account_spec::State;
 use frames::Decoded;
-use frames::Parsed;
 use frames::Raw;
 use frames::RawHour;
-use frames::Record;
 use frames::Refusal;
 ghost use mathlib.Core.Path.{_≡_};
-ghost use Rattle.records.specs.Answers.{onward, parsedAs, decodedAs};
+ghost use Rattle.records.specs.Answers.{decodedAs};
 ghost use Rattle.account_spec.specs.Rules.{outOfTurn, isDue, countWrong, dueOf, turnOf};
 ghost use Rattle.account_spec.specs.Steps.{refusalIn};
 
@@ -59,47 +57,36 @@ fn count_wrong(s: State, count: u16) -> bool
     !records::all_given(header, s.hours)
 }
 
-// Rows 5 to 8 of a header, 9 and 10 of an hour, 11 of an end.
+// Rows 5 to 8 of a header, 9 and 10 of an hour, 11 of an end. `record_of` is called at one place, where the compiler then writes it out.
 fn by_kind(s: State, frame: Raw) -> Decoded
     ensures { λ r. ⌜ decodedAs r ≡ dueOf s frame ⌝ }
 {
-    let season = s.season;
-    let header = season.header;
     match frame {
-        Raw::Header(_) => frames::record_of(header.tree, frame),
+        Raw::Header(_) => {},
         Raw::Hour(raw) => {
-            if due(s, raw) {
-                return frames::record_of(header.tree, frame);
+            if !due(s, raw) {
+                return Decoded::Refused(Refusal::Due);
             }
-            Decoded::Refused(Refusal::Due)
         },
         Raw::End(end) => {
             if count_wrong(s, end.hours) {
                 return Decoded::Refused(Refusal::Count);
             }
-            Decoded::Read(Record::End(end))
         },
     }
+    let season = s.season;
+    let header = season.header;
+    frames::record_of(header.tree, frame)
 }
 
-// Row 4, then those of the frame's kind.
-fn in_turn(s: State, frame: Raw) -> Decoded
+// The record of a frame that the state takes, or the first row that refuses it: row 4, then those of the frame's kind.
+pub(crate) fn decode(s: State, frame: Raw) -> Decoded
     ensures { λ r. ⌜ decodedAs r ≡ turnOf s frame ⌝ }
 {
     if out_of_turn(s, frame) {
         return Decoded::Refused(Refusal::Turn);
     }
     by_kind(s, frame)
-}
-
-// The record of a line that the state takes, or the first row that refuses it.
-pub(crate) fn decode(s: State, parsed: Parsed) -> Decoded
-    ensures { λ r. ⌜ decodedAs r ≡ onward (parsedAs parsed) (turnOf s) ⌝ }
-{
-    match parsed {
-        Parsed::Frame(frame) => in_turn(s, frame),
-        Parsed::Refused(refusal) => Decoded::Refused(refusal),
-    }
 }
 
 // The refusal of a line that is refused; row 13 stands for none.

@@ -28,8 +28,7 @@ fn begun_broken(phase: Phase, season: Season) -> bool
 {
     match phase {
         Phase::Fresh => false,
-        Phase::Open => broken(season),
-        Phase::Closed => broken(season),
+        _ => broken(season),
     }
 }
 

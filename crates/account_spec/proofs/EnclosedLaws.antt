@@ -1,26 +1,29 @@
 -- Sums that enclose their doses enclose them added up; so do the sums of any hours in a row that row 10 lets pass, from what those before them left.
 use Prim.Native.Nat.{ℕ, _+_, _*_, _≤_, max}
-use mathlib.Core.Path.{refl}
+use mathlib.Core.Path.{refl, sym, subst}
 use mathlib.Core.List.{List, [], _∷_, _++_}
 use native.Mathlib.Nat.{mul-le-mul-right}
 use native.Mathlib.Omega.{arith}
 use Rattle.exact.specs.Frac.{Frac, _⊕_}
 use Rattle.exact.proofs.FracLaws.{≼-trans, ⊕-mono, ⊕-low, ⊕-high}
 use Rattle.records.specs.declared.Hour.{Hour}
+use Rattle.records.specs.Answers.{Outcome, accepted}
+use Rattle.flux_spec.specs.declared.Stand.{Stand}
+use Rattle.flux_spec.specs.Enclosure.{Limited}
 use Rattle.account_spec.specs.declared.Season.{Season}
 use Rattle.account_spec.specs.declared.Sums.{Sums}
-use Rattle.account_spec.specs.Limits.{gapEach}
-use Rattle.account_spec.specs.Hours.{noSums, plus, Carried, carriedAfter, sumsOf, podOf}
-use Rattle.account_spec.specs.Enclosed.{AllDosed, Encloses, HoursEnclosed}
+use Rattle.account_spec.specs.Limits.{mostOfSix, mostHour, gapEach}
+use Rattle.account_spec.specs.Hours.{noSums, plus, standIn, Carried, carriedAfter, sumsOf, podOf}
+use Rattle.account_spec.specs.Enclosed.{AllChecked, AllDosed, Encloses, HoursEnclosed}
 use Rattle.account_spec.proofs.SumsLaws.{counted-le, aot40-le}
 use Rattle.account_spec.proofs.PossibleLaws.{SumsIn}
-use Rattle.account_spec.proofs.HourLaws.{none-encloses, hour-encloses}
+use Rattle.account_spec.proofs.HourLaws.{none-encloses, hour-encloses, stand-limited}
 
 -- ---- two parts
 
 -- the greater k serves both
 plus-encloses :
-    {season : Season} {s t : Sums} {p q : ℕ → Frac} → Encloses season s p → Encloses season t q → Encloses season (plus s t) (λ k. p k ⊕ q k)
+    {each : ℕ} {s t : Sums} {p q : ℕ → Frac} → Encloses each s p → Encloses each t q → Encloses each (plus s t) (λ k. p k ⊕ q k)
 plus-encloses e f =
     let k = max (e .low .at) (f .low .at) in
     record {
@@ -38,26 +41,45 @@ plus-encloses e f =
     }
 
 -- within row 13's gap
-pub encloses-gap : {season : Season} {s : Sums} {pod : ℕ → Frac} → Encloses season s pod → s .upper ≤ s .lower + gapEach season * s .counted
-encloses-gap {season} {s} e =
+pub encloses-gap : (season : Season) {each : ℕ} {s : Sums} {pod : ℕ → Frac} → Encloses each s pod → s .upper ≤ s .lower + gapEach season * s .counted
+encloses-gap season {s = s} e =
     let each : 2 ≤ gapEach season = omega arith in
     omega (arith, e .gap, mul-le-mul-right (s .counted) each)
 
 -- ---- hours in a row
 
-pub hours-enclosed : (season : Season) (c : Carried) (hs : List Hour) → AllDosed season hs → HoursEnclosed season c hs
+pub list-enclosed : (stand : Stand) → Limited (stand .figures) → (c : Carried) (hs : List Hour) → AllChecked hs → HoursEnclosed mostOfSix (accepted stand) c hs
 unfolding sumsOf podOf
-hours-enclosed season c [] all = none-encloses season noSums refl refl
+list-enclosed stand limited c [] all = none-encloses mostOfSix noSums refl refl
+list-enclosed stand limited c (h ∷ hs) all =
+    plus-encloses (hour-encloses stand limited c h (all .0)) (list-enclosed stand limited (carriedAfter (accepted stand) c h) hs (all .1))
+
+all-checked : (season : Season) (hs : List Hour) → AllDosed season hs → AllChecked hs
+all-checked season [] all = tt
+all-checked season (h ∷ hs) all = (all .0 .2, all-checked season hs (all .1))
+
+pub hours-enclosed : (season : Season) (c : Carried) (hs : List Hour) → AllDosed season hs → HoursEnclosed (mostHour season) (standIn season) c hs
+unfolding sumsOf podOf
+hours-enclosed season c [] all = none-encloses (mostHour season) noSums refl refl
 hours-enclosed season c (h ∷ hs) all =
-    plus-encloses (hour-encloses season c h (all .0)) (hours-enclosed season (carriedAfter season c h) hs (all .1))
+    let stand = all .0 .0 in
+    let is = all .0 .1 in
+    subst (λ (s : Outcome Stand). HoursEnclosed mostOfSix s c (h ∷ hs)) (sym is)
+    (list-enclosed stand (stand-limited season stand is) c (h ∷ hs) (all-checked season (h ∷ hs) all))
 
 -- row 13 lets their sums pass
-pub hours-in : (season : Season) (c : Carried) (hs : List Hour) → AllDosed season hs → SumsIn season (sumsOf season c hs)
+pub hours-in : (season : Season) (c : Carried) (hs : List Hour) → AllDosed season hs → SumsIn season (sumsOf (standIn season) c hs)
 hours-in season c hs all =
     let e = hours-enclosed season c hs all in
-    record { counted = counted-le season c hs; order = e .order; most = e .most; gap = encloses-gap e; aot40 = aot40-le season c hs all }
+    record {
+      counted = counted-le (standIn season) c hs;
+      order = e .order;
+      most = e .most;
+      gap = encloses-gap season e;
+      aot40 = aot40-le (standIn season) season c hs (all-checked season hs all);
+    }
 
--- ---- hours whose dose no row refuses
+-- ---- a part of a season and the next
 
 pub dosed-append : (season : Season) (xs ys : List Hour) → AllDosed season xs → AllDosed season ys → AllDosed season (xs ++ ys)
 dosed-append season [] ys p q = q

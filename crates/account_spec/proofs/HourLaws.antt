@@ -1,6 +1,6 @@
 -- One hour: its sums enclose its dose. All that is used of `flux_spec`'s pair is here: `enclosure .hour` and `enclosure .trees`.
 use Prim.Native.Nat.{ℕ, _≤_}
-use mathlib.Core.Path.{_≡_, refl, ap, _∙_}
+use mathlib.Core.Path.{_≡_, refl, sym, ap, subst}
 use mathlib.Core.Bool.{Bool, true, false, cond}
 use native.Mathlib.Nat.{mul-le-mul-right}
 use native.Mathlib.Omega.{arith}
@@ -9,17 +9,22 @@ use Rattle.exact.specs.Frac.{Frac, natural}
 use Rattle.exact.proofs.FracLaws.{≼-refl}
 use Rattle.trees.specs.Figures.{figuresOf}
 use Rattle.records.specs.declared.Hour.{Hour}
-use Rattle.records.specs.Answers.{Outcome, accepted, refused}
+use Rattle.records.specs.declared.Record.{Record}
+use Rattle.records.specs.Answers.{accepted}
+use Rattle.records.specs.Ranges.{checked}
+use Rattle.records.proofs.AnswerLaws.{accepted-same, onTree-passed}
 use Rattle.flux_spec.specs.declared.Stand.{Stand}
-use Rattle.flux_spec.specs.Dose.{isCounted, excess, NotAbove, NotBelow}
-use Rattle.flux_spec.specs.HourDose.{standOf, standFor, hourDoseOf}
+use Rattle.flux_spec.specs.Dose.{isCounted, excess, doseAt, NotAbove, NotBelow}
+use Rattle.flux_spec.specs.Pair.{hourPair}
+use Rattle.flux_spec.specs.Enclosure.{Limited}
 use Rattle.flux_spec.proofs.HourDoseLaws.{stand-passed}
 use Rattle.flux_spec.proofs.EnclosureLaws.{enclosure}
 use Rattle.account_spec.specs.declared.Season.{Season}
 use Rattle.account_spec.specs.declared.Sums.{Sums}
-use Rattle.account_spec.specs.Limits.{mostHour}
-use Rattle.account_spec.specs.Hours.{Carried, noDose, pairOf, countedSums, uncountedSums, hourSums, doseIn, hourPod}
+use Rattle.account_spec.specs.Limits.{mostOfSix, mostHour}
+use Rattle.account_spec.specs.Hours.{standIn, Carried, pairOf, countedSums, uncountedSums, hourSums, hourPod}
 use Rattle.account_spec.specs.Enclosed.{HasDose, Encloses}
+use Rattle.account_spec.specs.Steps.{Dosable}
 
 -- ---- a number below one that is not above the dose, and above one that is not below it
 
@@ -30,11 +35,11 @@ notAbove-le {pod = pod} h low =
 pub notBelow-le : {m n : ℕ} {pod : ℕ → Frac} → m ≤ n → NotBelow m pod → NotBelow n pod
 notBelow-le {pod = pod} h high = record { every = λ k. record { cross = omega (arith, high .every k .cross, mul-le-mul-right (pod k .den) h) } }
 
--- ---- one hour
+-- ---- one hour, by any stand
 
 -- nothing encloses nothing, whatever the number of hours
-pub none-encloses : (season : Season) (s : Sums) → s .lower ≡ 0 → s .upper ≡ 0 → Encloses season s (λ k. natural 0)
-none-encloses season s l u = record {
+pub none-encloses : (each : ℕ) (s : Sums) → s .lower ≡ 0 → s .upper ≡ 0 → Encloses each s (λ k. natural 0)
+none-encloses each s l u = record {
   low = record { at = 0; under = rw l (≼-refl (natural 0)) };
   high = record { every = λ k. rw u (≼-refl (natural 0)) };
   order = omega arith;
@@ -44,60 +49,53 @@ none-encloses season s l u = record {
 }
 
 cond-encloses :
-    (season : Season) (b : Bool) (s : Sums) (dose : ℕ → Frac) → (b ≡ true → Encloses season s dose) →
-    Encloses season (cond b s uncountedSums) (λ k. cond b (dose k) (natural 0))
-cond-encloses season true s dose e = e refl
-cond-encloses season false s dose e = none-encloses season uncountedSums refl refl
+    (each : ℕ) (b : Bool) (s : Sums) (dose : ℕ → Frac) → Encloses each s dose →
+    Encloses each (cond b s uncountedSums) (λ k. cond b (dose k) (natural 0))
+cond-encloses each true s dose e = e
+cond-encloses each false s dose e = none-encloses each uncountedSums refl refl
 
-pub record PairSized (season : Season) (pair : Bounds) : Type 0 where
-  pub order : pair .lower ≤ pair .upper
-  pub most : pair .upper ≤ mostHour season
-
-none-sized : (season : Season) → PairSized season noDose
-none-sized season = record { order = omega arith; most = omega arith }
-
-module _ (season : Season) (c : Carried) (h : Hour) where
-  abbrev standing : Outcome Stand
-  standing = standFor (figuresOf (season .header .tree)) (season .header .first) (season .header .last) h
-
+module _ (stand : Stand) (limited : Limited (stand .figures)) (c : Carried) (h : Hour) (passed : checked (Record.Hour h) ≡ accepted tt) where
   -- a counted hour adds its pair
-  counted-encloses : HasDose season h → isCounted h ≡ true → Encloses season (countedSums (pairOf season c h) (excess h)) (λ k. doseIn season c h k)
-  unfolding pairOf hourDoseOf
-  counted-encloses has counted =
-      let p = stand-passed _ _ _ h (has .0) (has .1) in
-      let stand = standOf (has .0 .figures) (season .header .first) (season .header .last) in
-      let at = rw (p .named) at (has .1 ∙ ap accepted (p .is)) in
-      let one = enclosure .hour stand (enclosure .trees (season .header .tree) (has .0 .figures) (p .named)) h (p .checks) in
-      simp (p .named, at, counted)
-      (record {
+  counted-encloses : Encloses mostOfSix (countedSums (hourPair stand h) (excess h)) (λ k. doseAt k stand h)
+  counted-encloses =
+      let one = enclosure .hour stand limited h passed in
+      record {
         low = notAbove-le (omega (arith, one .order)) (one .low);
         high = notBelow-le (omega (arith, one .most)) (one .high);
         order = omega (arith, one .order);
         gap = omega (arith, one .gap);
         most = omega (arith, one .most);
         grows = one .grows;
-      })
+      }
 
-  pub hour-encloses : HasDose season h → Encloses season (hourSums season c h) (hourPod season c h)
-  unfolding hourSums hourPod
-  hour-encloses has = cond-encloses season (isCounted h) _ _ (counted-encloses has)
+  pub hour-encloses : Encloses mostOfSix (hourSums (accepted stand) c h) (hourPod (accepted stand) c h)
+  unfolding hourSums hourPod pairOf
+  hour-encloses = cond-encloses mostOfSix (isCounted h) _ _ counted-encloses
 
-  dark-is : (stand : Stand) → standing ≡ accepted stand → isCounted h ≡ false → pairOf season c h ≡ noDose
-  unfolding pairOf hourDoseOf
-  dark-is stand e dark = rw (e, dark)
+-- ---- one hour of a season
 
-  refused-is : (w : ℕ × ℕ) → standing ≡ refused w → pairOf season c h ≡ noDose
-  unfolding pairOf hourDoseOf
-  refused-is w e = rw e
+-- the season's stand is its tree's
+pub stand-limited : (season : Season) (stand : Stand) → standIn season ≡ accepted stand → Limited (stand .figures)
+unfolding standIn
+stand-limited season stand e =
+    let found = onTree-passed (figuresOf (season .header .tree)) _ stand e in
+    subst (λ (s : Stand). Limited (s .figures)) (accepted-same (found .2)) (enclosure .trees (season .header .tree) (found .0) (found .1))
 
-  counted-sized : (stand : Stand) → standing ≡ accepted stand → (b : Bool) → isCounted h ≡ b → PairSized season (pairOf season c h)
-  counted-sized stand e true counted = let one = counted-encloses (stand, e) counted in record { order = one .order; most = omega (arith, one .most) }
-  counted-sized stand e false dark = rw (dark-is stand e dark) (none-sized season)
+pub record PairSized (season : Season) (pair : Bounds) : Type 0 where
+  pub order : pair .lower ≤ pair .upper
+  pub most : pair .upper ≤ mostHour season
 
-  outcome-sized : (o : Outcome Stand) → standing ≡ o → PairSized season (pairOf season c h)
-  outcome-sized (accepted stand) e = counted-sized stand e _ refl
-  outcome-sized (refused w) e = rw (refused-is w e) (none-sized season)
+module _ (season : Season) (h : Hour) where
+  pub pair-sized : (c : Carried) → HasDose season h → PairSized season (pairOf (standIn season) c h)
+  unfolding pairOf
+  pair-sized c has =
+      let one = enclosure .hour (has .0) (stand-limited season (has .0) (has .1)) h (has .2) in
+      rw (has .1) (record { order = one .order; most = omega (arith, one .most) })
 
-  -- whatever row refuses the hour's dose
-  pub pair-sized : PairSized season (pairOf season c h)
-  pair-sized = outcome-sized _ refl
+  -- `hour_dose` goes by the season's stand
+  pub dosable-stand : (d : Dosable season h) → standIn season ≡ accepted (d .0)
+  unfolding standIn
+  dosable-stand d = let p = stand-passed _ _ _ h (d .0) (d .1) in rw (p .named) (ap accepted (sym (p .is)))
+
+  pub dosable-has : Dosable season h → HasDose season h
+  dosable-has d = (d .0, dosable-stand d, stand-passed _ _ _ h (d .0) (d .1) .checks)

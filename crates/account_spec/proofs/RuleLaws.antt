@@ -1,20 +1,24 @@
 -- The answers to a line and to a reading, by what each test says.
 use mathlib.Core.Path.{_≡_, refl, _∙_}
 use mathlib.Core.Bool.{Bool, true, false}
-use mathlib.Core.List.{[], _∷_}
+use Prim.Native.Nat.{ℕ}
+use mathlib.Core.List.{List, [], _∷_}
 use mathlib.Core.Logic.{⊎-elim}
 use native.Mathlib.Omega.{arith}
 use types.Run.{OneOf}
 use denote.Enum.Declared.{tagOf}
+use Rattle.records.specs.declared.Header.{Header}
 use Rattle.records.specs.declared.Raw.{Raw}
 use Rattle.records.specs.declared.RawHour.{RawHour}
 use Rattle.records.specs.declared.End.{End}
 use Rattle.records.specs.declared.Record.{Record}
 use Rattle.records.specs.declared.Refusal.{Refusal}
+use Rattle.records.specs.declared.Parsed.{Parsed}
 use Rattle.records.specs.declared.Decoded.{Decoded}
-use Rattle.records.specs.Answers.{Outcome, accepted, refused, onward, decodedAs}
+use Rattle.records.specs.Answers.{accepted, refused, rowOf, parsedAs, decodedAs}
+use Rattle.records.specs.Ranges.{checked}
 use Rattle.records.proofs.AnswerLaws.{refused-not-accepted}
-use Rattle.frames.specs.Frames.{recordOf}
+use Rattle.frames.specs.Frames.{parsedOf, soundOf, recordOf}
 use Rattle.account_spec.specs.declared.Phase.{Phase}
 use Rattle.account_spec.specs.declared.Phase.the-variants.{Fresh, Open, Closed}
 use Rattle.account_spec.specs.declared.Account.{Account}
@@ -23,7 +27,7 @@ use Rattle.account_spec.specs.declared.Totals.{Totals}
 use Rattle.account_spec.specs.declared.Fed.{Fed}
 use Rattle.account_spec.specs.declared.Reading.{Reading}
 use Rattle.account_spec.specs.Account.{isFresh, impossible}
-use Rattle.account_spec.specs.Rules.{isDue, countWrong, dueOf, turnOf, stateOf, entered, feedParsedOf, Answers}
+use Rattle.account_spec.specs.Rules.{isDue, countWrong, dueOf, turnOf, answerOf, stateOf, entered, feedOf, unreadRow, feedFrameOf, Answers, Feeds}
 use Rattle.account_spec.specs.Reading.{totalsOf, readOf, Reads}
 use Rattle.account_spec.specs.Steps.{refusalIn}
 use Rattle.account_spec.proofs.Phase as phase
@@ -34,9 +38,13 @@ fresh-false Fresh k = ⊎-elim (λ z. absurd (omega arith)) (λ z. absurd (omega
 fresh-false Open k = refl
 fresh-false Closed k = refl
 
--- ---- row 9, before row 10; row 11
+-- ---- a header's rows; row 9, before row 10; row 11
 
 module _ (s : State) where
+  pub header-in : (h : Header) → recordOf (s .season .header .tree) (Raw.Header h) ≡ dueOf s (Raw.Header h)
+  unfolding dueOf
+  header-in h = refl
+
   module _ (raw : RawHour) where
     pub due-out : isDue s raw ≡ false → refused (9, 0) ≡ dueOf s (Raw.Hour raw)
     unfolding dueOf
@@ -61,25 +69,39 @@ module _ (s : State) where
     unfolding dueOf
     count-out e = rw e
 
-    pub count-in : countWrong s (x .hours) ≡ false → accepted (Record.End x) ≡ dueOf s (Raw.End x)
-    unfolding dueOf
+    pub count-in : countWrong s (x .hours) ≡ false → recordOf (s .season .header .tree) (Raw.End x) ≡ dueOf s (Raw.End x)
+    unfolding dueOf recordOf soundOf checked
     count-in e = rw e
 
 -- ---- feeding
 
-module _ (a : Account) (parsed : Outcome Raw) where
-  pub answers-impossible : impossible a ≡ true → Answers a (feedParsedOf a parsed) (Fed.Refused Refusal.Account a)
-  unfolding feedParsedOf
+module _ (a : Account) (frame : Raw) where
+  pub answers-impossible : impossible a ≡ true → Answers a (feedFrameOf a frame) (Fed.Refused Refusal.Account a)
+  unfolding feedFrameOf
   answers-impossible e = record { answers = rw e; leaves = rw e }
 
-  module _ (possible : impossible a ≡ false) (d : Decoded) (decoded : decodedAs d ≡ onward parsed (turnOf (stateOf a))) where
-    pub answers-refused : (r s : Refusal) → d ≡ Decoded.Refused s → r ≡ refusalIn d → Answers a (feedParsedOf a parsed) (Fed.Refused r a)
-    unfolding feedParsedOf
+  module _ (possible : impossible a ≡ false) (d : Decoded) (decoded : decodedAs d ≡ turnOf (stateOf a) frame) where
+    pub answers-refused : (r s : Refusal) → d ≡ Decoded.Refused s → r ≡ refusalIn d → Answers a (feedFrameOf a frame) (Fed.Refused r a)
+    unfolding feedFrameOf
     answers-refused r s e i = record { answers = rw (possible, ← decoded, i, e); leaves = rw (possible, ← decoded, e) }
 
-    pub answers-accepted : (r : Record) (b : Account) → d ≡ Decoded.Read r → b ≡ entered a r → Answers a (feedParsedOf a parsed) (Fed.Accepted b)
-    unfolding feedParsedOf
+    pub answers-accepted : (r : Record) (b : Account) → d ≡ Decoded.Read r → b ≡ entered a r → Answers a (feedFrameOf a frame) (Fed.Accepted b)
+    unfolding feedFrameOf
     answers-accepted r b e i = record { answers = rw (possible, ← decoded, e, i); leaves = rw (possible, ← decoded, e, i) }
+
+-- a line is its frame, or refused by rows 1 to 3
+module _ (a : Account) (l : List ℕ) (p : Parsed) (parsed : parsedAs p ≡ parsedOf l) where
+  pub frame-feeds : (frame : Raw) (r : Fed) → p ≡ Parsed.Frame frame → Answers a (feedFrameOf a frame) r → Feeds a l r
+  unfolding feedOf answerOf feedFrameOf
+  frame-feeds frame r e k = rw (← parsed, e) k
+
+  unread-by : (t : Bool) (s r : Refusal) → impossible a ≡ t → p ≡ Parsed.Refused s → rowOf r ≡ unreadRow a (rowOf s) → Feeds a l (Fed.Refused r a)
+  unfolding feedOf answerOf
+  unread-by true s r i e k = record { answers = rw (← parsed, e, k, i) refl; leaves = rw (← parsed, e, i) refl }
+  unread-by false s r i e k = record { answers = rw (← parsed, e, k, i) refl; leaves = rw (← parsed, e, i) refl }
+
+  pub unread-feeds : (s r : Refusal) → p ≡ Parsed.Refused s → rowOf r ≡ unreadRow a (rowOf s) → Feeds a l (Fed.Refused r a)
+  unread-feeds s r e k = unread-by (impossible a) s r refl e k
 
 -- ---- reading
 

@@ -21,7 +21,7 @@ use Rattle.account_spec.specs.Runs.{Event, fed, taken, Run, stop, feeds,
 use Rattle.account_spec.specs.Promise.{reply, Kept, dayCalls, acceptances, SeasonPromise}
 use Rattle.account_spec.specs.Steps.{accountOf, Proper}
 use Rattle.account_spec.proofs.BookLaws.{fresh-same}
-use Rattle.account_spec.proofs.EnclosedLaws.{hours-enclosed}
+use Rattle.account_spec.proofs.EnclosedLaws.{list-enclosed, hours-enclosed}
 use Rattle.account_spec.proofs.RowLaws.{answer-row}
 use Rattle.account_spec.proofs.SeasonLaws.{feedOf-is, left-is, next-is-proper, readOf-is, fresh-proper, season-kept}
 
@@ -89,5 +89,6 @@ season = record {
   kept = season-kept;
   exists = λ calls. subst (λ (a : Account). RunOf a calls) (sym fresh-same) (run-from emptyBook fresh-proper calls);
   day = λ r. replies-are _ _ (r .events) (season-kept (r .events) (r .run)) ∙ ap (bookReplies emptyBook) (r .same) ∙ day-replies;
+  listed = list-enclosed;
   enclosed = hours-enclosed;
 }

@@ -17,7 +17,7 @@ use Rattle.writer.proofs.WidthLaws.{range-fits}
 use Rattle.writer.proofs.LineLaws.{line-parsed, line-frame}
 use Rattle.writer.proofs.RoundTrip.{round-trip}
 use Rattle.account_spec.specs.Account.{freshAccount, impossible}
-use Rattle.account_spec.specs.Rules.{dueOf, turnOf, stateOf, opened, entered, feedParsedOf, feedOf}
+use Rattle.account_spec.specs.Rules.{dueOf, turnOf, stateOf, opened, answerOf, entered, feedOf}
 use Rattle.dates_spec.specs.Promise.{HeaderKept}
 
 module _ (h : Header) (sound : checked (Record.Header h) ≡ accepted tt) where
@@ -33,7 +33,7 @@ module _ (h : Header) (sound : checked (Record.Header h) ≡ accepted tt) where
   turn-is = simp sound
 
   fed-fresh : feedOf freshAccount (frameLine made) ≡ accepted (opened h)
-  unfolding feedOf feedParsedOf impossible entered
+  unfolding feedOf answerOf impossible entered
   fed-fresh = simp (line-is, turn-is)
 
   size : length (frameLine made) ≡ 20

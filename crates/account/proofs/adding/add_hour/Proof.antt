@@ -7,7 +7,8 @@ use Rattle.records.specs.declared.Hour.{Hour}
 use Rattle.account_spec.specs.declared.Account.{Account}
 use Rattle.account_spec.specs.Limits.{mostHour}
 use Rattle.account_spec.specs.Hours.{noneCarried}
-use Rattle.account_spec.proofs.HourLaws.{pair-sized}
+use Rattle.account_spec.specs.Enclosed.{HasDose}
+use Rattle.account_spec.proofs.HourLaws.{pair-sized, dosable-has}
 use Rattle.account.proofs.AddingLaws.{counted-hour, uncounted-hour}
 use Rattle.account.proofs.adding.add_hour.Statement.{statement}
 use Rattle.account.proofs.adding.add_hour.Tie as tie
@@ -16,7 +17,9 @@ add-sums : tie.Need-add-sums
 add-sums c = search needs
 
 pair-of-requires : tie.Need-pair-of-requires
-pair-of-requires c κs = search needs
+pair-of-requires c κs =
+    let start = c .before .before .before .before .before in
+    (start .pre .1, lt-ltb 50 (start .args .h .radiation) (omega (arith, c .if1 .taken)))
 
 module _ (c : tie.After-pair-of) where
   abbrev account : Account
@@ -25,11 +28,14 @@ module _ (c : tie.After-pair-of) where
   abbrev hour : Hour
   hour = c .before .before .before .before .before .before .args .h
 
+  has : HasDose (account .season) hour
+  has = dosable-has (account .season) hour (c .before .before .before .before .before .before .pre .1)
+
   lower-le : c .pair-of .result .lower ≤ mostHour (account .season)
-  lower-le = let sized = pair-sized (account .season) noneCarried hour in rw (c .pair-of .ensures) (omega arith)
+  lower-le = let sized = pair-sized (account .season) hour noneCarried has in rw (c .pair-of .ensures) (omega arith)
 
   upper-le : c .pair-of .result .upper ≤ mostHour (account .season)
-  upper-le = let sized = pair-sized (account .season) noneCarried hour in rw (c .pair-of .ensures) (omega arith)
+  upper-le = let sized = pair-sized (account .season) hour noneCarried has in rw (c .pair-of .ensures) (omega arith)
 
 add-sums-2 : tie.Need-add-sums-2
 add-sums-2 c = search needs

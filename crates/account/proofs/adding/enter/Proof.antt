@@ -1,6 +1,8 @@
 -- `account::adding::enter` meets its contract.
+use mathlib.Core.Path.{subst}
 use borrow.Author.Needs.{needs}
 use Rattle.account_spec.specs.Rules.{entered}
+use Rattle.account_spec.specs.Steps.{RecordDosable}
 use Rattle.account.proofs.adding.enter.Statement.{statement}
 use Rattle.account.proofs.adding.enter.Tie as tie
 
@@ -14,7 +16,9 @@ enum-known-record-2 : tie.Need-enum-known-record-2
 enum-known-record-2 c = search needs
 
 add-hour-requires : tie.Need-add-hour-requires
-add-hour-requires c κs = search needs
+add-hour-requires c κs =
+    let start = c .before .before .before in
+    (start .pre .0, subst (RecordDosable (start .args .a .season)) (c .before .record2 .given .1) (start .pre .1))
 
 enum-told : tie.Need-enum-told
 enum-told c = search needs

@@ -1,5 +1,4 @@
 -- `account::adding::pair_of` meets its contract.
-use mathlib.Core.Path.{sym}
 use borrow.Author.Needs.{needs}
 use Rattle.account.proofs.AddingLaws.{pair-given, pair-none}
 use Rattle.account.proofs.adding.pair_of.Statement.{statement}
@@ -15,10 +14,16 @@ enum-told : tie.Need-enum-told
 enum-told c = search needs
 
 returns : tie.Need-returns
-returns c = sym (pair-given _ _ _ (c .before .before .before .hour-dose .ensures .0) _ (c .before .dose .given .1))
+returns c =
+    let called = c .before .before .before in
+    let start = called .before .before in
+    pair-given _ _ (start .pre .0) (start .pre .1) _ (called .hour-dose .ensures .0) _ (c .before .dose .given .1)
 
 returns-2 : tie.Need-returns-2
-returns-2 c = sym (pair-none _ _ _ (c .before .before .hour-dose .ensures .0) _ (c .enum-told .given .1))
+returns-2 c =
+    let called = c .before .before in
+    let start = called .before .before in
+    pair-none _ _ (start .pre .0) (start .pre .1) _ (called .hour-dose .ensures .0) _ _ (c .enum-told .given .1)
 
 pub pair-of-spec : {M : Type 1} → statement M
 pair-of-spec = tie.close (tie.spec hour-dose-requires enum-known-dose enum-told returns returns-2)

@@ -1,22 +1,23 @@
 -- `account::rows::decode` meets its contract.
+use mathlib.Core.Path.{sym, _∙_}
 use borrow.Author.Needs.{needs}
+use Rattle.account_spec.specs.Rules.{turnOf}
 use Rattle.account.proofs.rows.decode.Statement.{statement}
 use Rattle.account.proofs.rows.decode.Tie as tie
 
-enum-known-parsed : tie.Need-enum-known-parsed
-enum-known-parsed c = search needs
-
-in-turn-requires : tie.Need-in-turn-requires
-in-turn-requires c κs = search needs
-
-enum-known-parsed-2 : tie.Need-enum-known-parsed-2
-enum-known-parsed-2 c = search needs
+out-of-turn-requires : tie.Need-out-of-turn-requires
+out-of-turn-requires c κs = search needs
 
 returns : tie.Need-returns
-returns c = rw (c .before .before .parsed .given .1) (c .in-turn .ensures)
+unfolding turnOf
+returns c = simp (sym (c .before .out-of-turn .ensures) ∙ c .if1 .taken)
+
+by-kind-requires : tie.Need-by-kind-requires
+by-kind-requires c κs = search needs
 
 returns-2 : tie.Need-returns-2
-returns-2 c = rw (c .before .parsed2 .given .1)
+unfolding turnOf
+returns-2 c = simp (sym (c .before .before .out-of-turn .ensures) ∙ c .before .if1 .left) (c .by-kind .ensures)
 
 pub decode-spec : {M : Type 1} → statement M
-decode-spec = tie.close (tie.spec enum-known-parsed in-turn-requires enum-known-parsed-2 returns returns-2)
+decode-spec = tie.close (tie.spec out-of-turn-requires returns by-kind-requires returns-2)

@@ -1,15 +1,16 @@
--- `account::feed_parsed` meets its contract.
+-- `account::feed_frame` meets its contract.
 use mathlib.Core.Path.{_≡_, sym, ap, _∙_}
 use mathlib.Core.Bool.{false}
 use borrow.Author.Needs.{needs}
-use Rattle.records.specs.Answers.{onward, parsedAs, decodedAs}
+use Rattle.records.specs.Answers.{decodedAs}
 use Rattle.account_spec.specs.declared.State.{State}
 use Rattle.account_spec.specs.Account.{impossible}
 use Rattle.account_spec.specs.Rules.{stateOf, turnOf}
 use Rattle.account_spec.proofs.PossibleLaws.{room-is}
+use Rattle.account_spec.proofs.TurnLaws.{frame-dosable}
 use Rattle.account_spec.proofs.RuleLaws.{answers-impossible, answers-refused, answers-accepted}
-use Rattle.account.proofs.feed_parsed.Statement.{statement}
-use Rattle.account.proofs.feed_parsed.Tie as tie
+use Rattle.account.proofs.feed_frame.Statement.{statement}
+use Rattle.account.proofs.feed_frame.Tie as tie
 
 impossible-requires : tie.Need-impossible-requires
 impossible-requires c κs = search needs
@@ -29,10 +30,8 @@ decode-requires c κs = search needs
 module _ (c : tie.After-decode) where
   decoded-is :
       let args = c .before .before .before .before .args in
-      decodedAs (c .decode .result) ≡ onward (parsedAs (args .parsed)) (turnOf (stateOf (args .account)))
-  decoded-is =
-      c .decode .ensures
-      ∙ ap (λ (s : State). onward (parsedAs (c .before .before .before .before .args .parsed)) (turnOf s)) (c .before .state-of .ensures)
+      decodedAs (c .decode .result) ≡ turnOf (stateOf (args .account)) (args .frame)
+  decoded-is = c .decode .ensures ∙ ap (λ (s : State). turnOf s (c .before .before .before .before .args .frame)) (c .before .state-of .ensures)
 
 enum-known-decoded : tie.Need-enum-known-decoded
 enum-known-decoded c = search needs
@@ -49,15 +48,18 @@ returns-2 c =
     (c .before .enum-told .given .1) (c .refusal-in .ensures)
 
 enter-requires : tie.Need-enter-requires
-enter-requires c κs = room-is _ (passed (c .before .before .before .before .before))
+enter-requires c κs =
+    let possible = passed (c .before .before .before .before .before) in
+    let args = c .before .before .before .before .before .before .before .args in
+    (room-is _ possible, frame-dosable _ possible (args .frame) _ (sym (decoded-is (c .before .before .before)) ∙ ap decodedAs (c .before .decoded .given .1)))
 
 returns-3 : tie.Need-returns-3
 returns-3 c =
     answers-accepted _ _ (passed (c .before .before .before .before .before .before)) _ (decoded-is (c .before .before .before .before)) _ _
     (c .before .before .decoded .given .1) (c .enter .ensures)
 
-pub feed-parsed-spec : {M : Type 1} → statement M
-feed-parsed-spec =
+pub feed-frame-spec : {M : Type 1} → statement M
+feed-frame-spec =
     tie.close
     (tie.spec
     impossible-requires
