@@ -15,7 +15,8 @@ import sys
 from fractions import Fraction
 from itertools import product
 
-RAMPS = {1: 20 + 30, 2: 20 + 30, 3: 0, 4: 20 + 20, 5: 15 + 20, 6: 0}  # f1 + f4, document 01, "Tree table"
+from paper import TREES, line_of, period_row
+
 WITH_MODEL = (1, 2, 4, 5)
 HEIGHTS = (0, 1, 50, 99, 100, 101, 1500, 3000)
 
@@ -44,7 +45,7 @@ def greatest_not_above(x):
 
 
 def answer(tree, days, level, latitude, height):
-    if not 1 <= tree <= 6:
+    if tree not in TREES:
         return "row 5"
     if days not in (365, 366):
         return "row 6"
@@ -52,11 +53,11 @@ def answer(tree, days, level, latitude, height):
         return "row 14"
     start, end = exact(latitude, height)
     first, last = least_not_below(start), greatest_not_above(end)
-    if first < 1 or last < first or last > days or last - first < RAMPS[tree]:
+    if period_row(tree, days, first, last):
         return "row 7"
     if not 1 <= level <= 10000:
         return "row 8"
-    return f"{first} {last} 01{tree:02X}{days:04X}{first:04X}{last:04X}{level:04X}"
+    return f"{first} {last} {line_of(1, tree, days, first, last, level).decode()}"
 
 
 # ---- the rows

@@ -1,10 +1,10 @@
 #!/usr/bin/env python3
-"""The commands for crates/frames_cases and what it must print, reckoned from document 01 alone ("Frames", "Tree table", "Turned-back lines").
+"""The commands for crates/frames_cases and what it must print, reckoned from document 01 ("Frames", "Tree table", "Turned-back lines") and document 02 (W-204) alone.
 
     python3 tests/frames_cases.py
 
 writes crates/frames_cases/stdin and stdout: document 01's examples, every length of line, every change of one character, every length of buffer,
-records on either side of each limit, and round trips.
+records on either side of each limit, lines with another kind's length, and round trips.
 """
 
 from pathlib import Path
@@ -15,12 +15,14 @@ BUFFER = 2097152  # bytes that the program reads
 DIGITS = b"0123456789ABCDEF"
 RAMPS = {1: 20 + 30, 2: 20 + 30, 3: 0, 4: 20 + 20, 5: 15 + 20, 6: 0}  # f1 + f4 of each tree, in days
 WATER, SUCTION = (1, 2), (3, 4, 5, 6)  # trees by their soil measure
-KINDS = {20: 1, 36: 2, 6: 3}  # the kind that a line of so many digits has
-WIDTHS = {1: (1, 2, 2, 2, 2), 2: (2, 1, 2, 2, 2, 2, 2, 2, 2), 3: (2,)}  # bytes of the fields after the kind
+LENGTHS = {1: 20, 2: 36, 3: 6, 4: 40}  # digits of a line of each kind
+WIDTHS = {1: (1, 2, 2, 2, 2), 2: (2, 1, 2, 2, 2, 2, 2, 2, 2), 3: (2,), 4: (2, 1, 2, 2, 2, 2, 2, 2, 2, 2)}  # bytes of the fields after the kind
 
-# A record is a tuple: (1, tree, days, first, last, level), (3, hours) or (2, day, hour, ozone, ppfd, radiation, temperature, vpd, wind, measure, soil).
+# A record is a tuple: (1, tree, days, first, last, level), (3, hours), (2, day, hour, ozone, ppfd, radiation, temperature, vpd, wind, measure, soil),
+# or (4, the same fields, pressure).
 # An answer is a record, a number of bytes, or a refusal: ("row", N) or ("row", 10, "field", F).
-HEADER_KIND, HOUR_KIND, END_KIND = 1, 2, 3
+HEADER_KIND, HOUR_KIND, END_KIND, PRESSURE_KIND = 1, 2, 3, 4
+HOUR_KINDS = (HOUR_KIND, PRESSURE_KIND)
 
 
 def row(n):
@@ -39,10 +41,10 @@ def refusal_of(record):
             return row(7)
         if not 1 <= level <= 10000:
             return row(8)
-    if record[0] == HOUR_KIND:
+    if record[0] in HOUR_KINDS:
         most = 10000 if record[9] == "suction" else 1000
-        limits = ((0, 5000), (0, 3000), (0, 1500), (-500, 600), (0, 10000), (0, 6000), (0, most))
-        readings = record[3:9] + record[10:]
+        limits = ((0, 5000), (0, 3000), (0, 1500), (-500, 600), (0, 10000), (0, 6000), (0, most), (5000, 11000))
+        readings = record[3:9] + record[10:]  # the last limit is for kind 04, which has one reading more
         for field, (reading, (low, high)) in enumerate(zip(readings, limits), start=1):
             if not low <= reading <= high:
                 return ("row", 10, "field", field)
@@ -51,12 +53,12 @@ def refusal_of(record):
 
 def parse(line):
     """Rows 1 to 3, or the kind and the numbers of the line's fields."""
-    if len(line) not in KINDS:
+    if len(line) not in LENGTHS.values():
         return row(1)
     if any(c not in DIGITS for c in line):
         return row(2)
     frame = bytes.fromhex(line.decode())
-    if frame[0] != KINDS[len(line)]:
+    if LENGTHS.get(frame[0]) != len(line):
         return row(3)
     numbers, at = [frame[0]], 1
     for width in WIDTHS[frame[0]]:
@@ -67,12 +69,12 @@ def parse(line):
 
 def record_of(tree, kind, *numbers):
     """The record that a frame's numbers say, its soil in the tree's measure."""
-    if kind != HOUR_KIND:
+    if kind not in HOUR_KINDS:
         return (kind, *numbers)
-    day, hour, ozone, ppfd, radiation, temperature, vpd, wind, soil = numbers
+    day, hour, ozone, ppfd, radiation, temperature, vpd, wind, soil, *pressure = numbers
     signed = temperature - 65536 if temperature >= 32768 else temperature
     measure = "water" if tree in WATER else "suction"
-    return (kind, day, hour, ozone, ppfd, radiation, signed, vpd, wind, measure, soil)
+    return (kind, day, hour, ozone, ppfd, radiation, signed, vpd, wind, measure, soil, *pressure)
 
 
 def read(tree, line):
@@ -80,7 +82,7 @@ def read(tree, line):
     frame = parse(line)
     if frame[0] == "row":
         return frame
-    if frame[0] == HOUR_KIND and tree not in RAMPS:
+    if frame[0] in HOUR_KINDS and tree not in RAMPS:
         return row(5)
     record = record_of(tree, *frame)
     return refusal_of(record) or record
@@ -108,15 +110,15 @@ def words(answer):
 
 
 def mark(answer):
-    """One character: `.` read, `1` to `8` the row, `a` to `g` row 10 with field 1 to 7."""
+    """One character: `.` read, `1` to `8` the row, `a` to `h` row 10 with field 1 to 8."""
     if answer[0] != "row":
         return "."
-    return "abcdefg"[answer[3] - 1] if answer[1] == 10 else str(answer[1])
+    return "abcdefgh"[answer[3] - 1] if answer[1] == 10 else str(answer[1])
 
 
 # ---- commands, each with its answer
 
-ROOM = 40  # bytes of the buffer
+ROOM = 44  # bytes of the buffer: the longest line and four more
 
 
 def command(letter, tree, n, line, answer):
@@ -166,6 +168,7 @@ BEECH = b"0104016D000100290208"
 HOUR = b"0200010001F40000000000E603E8012C03E8"
 NOON = b"0200010C01F401F4019000E603E8012C03E8"
 END = b"030018"
+MOUNTAIN = b"0400010C01F401F4019000E603E8012C03E81B58"  # 700.0 hPa
 EXAMPLES = (
     b"0104",
     b"03001g",
@@ -190,6 +193,17 @@ EXAMPLES = (
     b"0200010001F400000000800003E8012C03E8",
     b"02FFFFFF01F40000000000E603E8012C03E8",
     b"03FFFF",
+    MOUNTAIN,
+    b"0400010C01F401F4019000E603E8012C03E81388",
+    b"0400010C01F401F4019000E603E8012C03E81387",
+    b"0400010C01F401F4019000E603E8012C03E82AF8",
+    b"0400010C01F401F4019000E603E8012C03E82AF9",
+    b"0400010C01F401F40190FE0C03E8012C03E81B58",
+    b"0400010C01F401F40190FE0B03E8012C03E81B58",
+    b"0400010C01F401F40190025803E8012C03E81B58",
+    b"0400010C01F401F40190025903E8012C03E81B58",
+    b"0400010C01F401F4019000E603E8012C03E8FFFF",
+    b"04FFFFFF01F401F4019000E603E8012C03E81B58",
 )
 
 
@@ -199,6 +213,11 @@ def header(tree, days, first, last, level):
 
 def hour(ozone, ppfd, radiation, temperature, vpd, wind, measure, soil, day=105, clock=12):
     return (HOUR_KIND, day, clock, ozone, ppfd, radiation, temperature, vpd, wind, measure, soil)
+
+
+def mountain(pressure, *readings, **when):
+    """An hour of kind 04."""
+    return (PRESSURE_KIND, *hour(*readings, **when)[1:], pressure)
 
 
 def end(hours):
@@ -214,22 +233,37 @@ def examples():
     yield reading(2, b"0200010001F40000000000E603E8012C03E9")
     yield reading(3, b"0200010001F40000000000E603E8012C03E9")
     yield writing_of(end(24), 5)
+    yield from (reading(tree, MOUNTAIN) for tree in (*range(9), 255))
+
+
+def confused():
+    """Lines with the length of another kind, or with another kind's number."""
+    for line in (EVERGREEN, HOUR, END, MOUNTAIN):
+        for kind in range(10):
+            yield reading(6, b"%02X" % kind + line[2:])
+            yield writing(6, b"%02X" % kind + line[2:])
+    for line in (MOUNTAIN[:36], b"02" + MOUNTAIN[2:], HOUR + b"1B58", b"04" + HOUR[2:], b"04" + HOUR[2:] + b"1B58"):
+        yield from (reading(tree, line) for tree in (0, 1, 6))
+        yield writing(6, line)
+    # row 2 before row 3
+    yield reading(6, b"02" + MOUNTAIN[2:39] + b"g")
+    yield reading(6, b"04" + HOUR[2:35] + b"g")
 
 
 def frames():
     """Rows 1 to 3, and numbers that no row has tested."""
-    for line in (*EXAMPLES, b"", b"01FF000000000000FFFF", b"02FFFFFFFFFFFFFFFFFFFFFFFFFFFFFFFFFF"):
+    for line in (*EXAMPLES, b"", b"01FF000000000000FFFF", b"02" + b"F" * 34, b"04" + b"F" * 38):
         yield writing(6, line)
 
 
 def lengths():
-    for line in (EVERGREEN, HOUR, END):
+    for line in (EVERGREEN, HOUR, END, MOUNTAIN):
         text = (line + b"0123456789ABCDEF" * 5)[:80]
         yield from (reading(6, text[:n]) for n in range(81))
 
 
 def changes():
-    for tree, line in ((6, BEECH), (6, HOUR), (1, HOUR), (0, HOUR), (7, HOUR), (255, HOUR), (6, END)):
+    for tree, line in ((6, BEECH), (6, HOUR), (1, HOUR), (0, HOUR), (7, HOUR), (255, HOUR), (6, END), (6, MOUNTAIN), (1, MOUNTAIN), (7, MOUNTAIN)):
         yield from (change(tree, place, line) for place in range(len(line)))
 
 
@@ -239,6 +273,8 @@ def buffers():
         hour(500, 1200, 600, -205, 1100, 250, "suction", 300),
         hour(500, 1200, 600, -205, 1100, 250, "water", 300),
         end(4632),
+        mountain(7000, 500, 1200, 600, -205, 1100, 250, "suction", 300),
+        mountain(7000, 500, 1200, 600, -205, 1100, 250, "water", 300),
     ):
         yield from (writing_of(record, room) for room in range(ROOM + 1))
 
@@ -289,8 +325,23 @@ def hour_edges():
     yield hour(5000, 3000, 1500, -500, 10000, 6000, "water", 1001)
 
 
+def pressure_edges():
+    # every edge of kind 02 again, with a pressure in range and with one that is out
+    yield from (mountain(pressure, *record[3:], day=record[1], clock=record[2]) for record in hour_edges() for pressure in (5000, 11001))
+    for measure in ("suction", "water"):
+        for pressure in (0, 4999, 5000, 11000, 11001, 32768, 65535):
+            yield mountain(pressure, 500, 1200, 600, 205, 1100, 250, measure, 300)
+    for t in (-501, -500, 600, 601):
+        for pressure in (4999, 5000, 11000, 11001):
+            yield mountain(pressure, 500, 1200, 600, t, 1100, 250, "suction", 300)
+    # VPD or soil where the pressure stands, and the reverse
+    yield mountain(1100, 500, 1200, 600, 205, 7000, 250, "suction", 300)
+    yield mountain(300, 500, 1200, 600, 205, 1100, 250, "suction", 7000)
+    yield mountain(7000, 500, 1200, 600, 205, 1100, 250, "suction", 10001)
+
+
 def edges():
-    for record in (*header_edges(), *hour_edges()):
+    for record in (*header_edges(), *hour_edges(), *pressure_edges()):
         yield writing_of(record, 0)
         yield writing_of(record)
 
@@ -307,10 +358,19 @@ def hour_trips(measure, most):
     yield hour(5000, 3000, 1500, 600, 10000, 6000, measure, most, day=65535, clock=255)
 
 
+def pressure_trips(measure, most):
+    yield from (mountain(7000, *record[3:], day=record[1], clock=record[2]) for record in hour_trips(measure, most))
+    for t in (-500, 205, 600):
+        for pressure in (5000, 5001, 8192, 10132, 10999, 11000):
+            yield mountain(pressure, 500, 1200, 600, t, 1100, 250, measure, 300)
+    yield mountain(11000, 5000, 3000, 1500, 600, 10000, 6000, measure, most, day=65535, clock=255)
+
+
 def trip(record, tree):
-    """Written into 36 bytes and read back the same."""
-    assert read(tree, line_of(record)) == record
-    return writing_of(record, 36, tree)
+    """Written into the bytes of its line and read back the same."""
+    line = line_of(record)
+    assert read(tree, line) == record
+    return writing_of(record, len(line), tree)
 
 
 def trips():
@@ -327,12 +387,13 @@ def trips():
         end(65535),
     ):
         yield from (trip(record, tree) for tree in range(8))
-    yield from (trip(record, tree) for record in hour_trips("suction", 10000) for tree in SUCTION)
-    yield from (trip(record, tree) for record in hour_trips("water", 1000) for tree in WATER)
+    for trips_of in (hour_trips, pressure_trips):
+        yield from (trip(record, tree) for record in trips_of("suction", 10000) for tree in SUCTION)
+        yield from (trip(record, tree) for record in trips_of("water", 1000) for tree in WATER)
 
 
 def main():
-    cases = [*examples(), *frames(), *lengths(), *changes(), *buffers(), *edges(), *trips()]
+    cases = [*examples(), *confused(), *frames(), *lengths(), *changes(), *buffers(), *edges(), *trips()]
     commands, answers = (b"".join(text + b"\n" for text in side) for side in zip(*cases))
     assert len(commands) <= BUFFER
     (CRATE / "stdin").write_bytes(commands)

@@ -9,14 +9,15 @@ The pairs are those of tests/flux_cases.py, by the definitions that the code is 
 import sys
 from pathlib import Path
 
-from flux_cases import pair_of, read
+from flux_cases import pair_of
+from paper import TREES
+from report_cases import hours_of
 
 
 def gaps(path):
     """The gaps of a season's counted hours with a dose, and the sums of their lower and of their upper numbers."""
-    header, *lines = Path(path).read_text().split()
-    cases = [read(f"{header} {line}") for line in lines if line[:2] == "02"]
-    pairs = [pair_of(*case) for case in cases if case[3][4] > 50]
+    (tree, _, first, last, _), hours = hours_of(Path(path).read_bytes())
+    pairs = [pair_of(TREES[tree], first, last, hour) for hour in hours if hour.is_counted]
     return [upper - lower for lower, upper in pairs if upper > 0], sum(low for low, _ in pairs), sum(up for _, up in pairs)
 
 

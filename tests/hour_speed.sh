@@ -1,6 +1,6 @@
 #!/usr/bin/env bash
-# The time of an hour's pair over that of the same formulas in C with doubles (tests/hour_speed.c), for each season text: over all its hours,
-# then over the counted ones. Needs gcc beside the kit.
+# The time of an hour's pair over that of the same formulas in C with doubles (tests/hour_speed.c), over the counted hours of each season text. Needs gcc
+# beside the kit.
 #
 #     tests/hour_speed.sh SEASON..
 set -eu
@@ -13,5 +13,4 @@ gcc -O2 -o "$room/hour_speed" "$repository/tests/hour_speed.c" "$room/libprobe.a
 for season in "$@"; do
     basename "$season"
     "$room/hour_speed" "$season"
-    "$room/hour_speed" "$season" counted
 done

@@ -16,14 +16,16 @@ import tempfile
 from pathlib import Path
 
 import report_cases
+import vectors
 from account_cases import end_line, header_line, hour_line
+from paper import HOUR_KINDS
+from vectors import REPOSITORY
 
-REPOSITORY = Path(__file__).resolve().parent.parent
 PROGRAM = REPOSITORY / "target" / "bin" / "pod1"
 SCRIPT = REPOSITORY / "pod1"
 TIME = Path("/usr/bin/time")
-LONGEST = 325036  # bytes of a leap year's text, which no accepted text exceeds
-TAKEN = 327680  # bytes that the program reads
+LEAP_YEAR = {2: 325036, 4: 360172}  # bytes of a leap year's text, by the kind of its hours; no accepted text exceeds the greatest
+TAKEN = 360448  # bytes that the program reads; the first 360,267 decide any report
 MOST_MEMORY = 4096  # KiB
 SECONDS = 30  # for a run to end
 
@@ -41,13 +43,20 @@ def same(name, got, expected):
 # ---- texts
 
 
-def leap_year():
+def leap_year(kind):
     """Evergreen, the hours from 9 to 14 counted."""
     yield header_line(days=366, last=366)
     for n in range(8784):
         light = 500 if 9 <= n % 24 < 15 else 0
-        yield hour_line(1 + n // 24, n % 24, ppfd=light, radiation=light)
+        yield hour_line(1 + n // 24, n % 24, kind, ppfd=light, radiation=light)
     yield end_line(8784)
+
+
+def leap_years():
+    """The leap year's text in each kind."""
+    years = {kind: report_cases.text_of(leap_year(kind)) for kind in HOUR_KINDS}
+    assert all(len(year) == LEAP_YEAR[kind] for kind, year in years.items())
+    return years
 
 
 def odd_texts(day, year):
@@ -59,7 +68,7 @@ def odd_texts(day, year):
     yield "carriage returns for line feeds", day.replace(b"\n", b"\r")
     yield "one carriage return after the season", day + b"\r\n"
     yield "NUL bytes", bytes(40)
-    yield "lines of NUL bytes", b"\n".join([bytes(6), bytes(20), bytes(36)])
+    yield "lines of NUL bytes", b"\n".join([bytes(6), bytes(20), bytes(36), bytes(40)])
     yield "NUL bytes after the season", day + bytes(36)
     yield "NUL bytes for line feeds", day.replace(b"\n", b"\0")
     yield "a digit made NUL", day[:60] + b"\0" + day[61:]
@@ -88,6 +97,7 @@ def long_texts(day, year):
     yield "100,000 empty lines", b"\n" * 100_000
     yield "100,000 hours without a header", hour * 100_000
     yield "100,000 equal hours", header_line() + b"\n" + hour * 100_000
+    yield "leap year, its last hour followed by 100,000 of another kind", year[:-7] + hour * 100_000
 
 
 def padded(text, line, size):
@@ -97,14 +107,16 @@ def padded(text, line, size):
 
 def border_texts(year):
     """Sizes around what the program takes, and around the longest season."""
-    lines = (b"\n", b"A\n", b"A", end_line(8784) + b"\n", hour_line() + b"\n", header_line() + b"\n")
+    lines = (b"\n", b"A\n", b"A", end_line(8784) + b"\n", hour_line() + b"\n", hour_line(kind=4) + b"\n", header_line() + b"\n")
     for size in (TAKEN - 1, TAKEN, TAKEN + 1):
         for line in lines:
             yield f"leap year and {line!r} to {size} bytes", padded(year, line, size)
         yield f"leap year open, to {size} bytes", padded(year[:-7], b"0", size)
         yield f"line feeds to {size} bytes", b"\n" * size
-    for extra in (1, 6, 7, 20, 21, 36, 37, 38):
+    for extra in (1, 6, 7, 20, 21, 36, 37, 38, 40, 41, 42):
         yield f"leap year and {extra} digits", year + b"0" * extra
+        yield f"leap year and a line of {extra} digits", year + b"0" * extra + b"\n"
+        yield f"leap year open and {extra} digits", year[:-7] + b"0" * extra
 
 
 # ---- runs of the program
@@ -129,7 +141,7 @@ def try_text(name, text):
 def try_file(path):
     """A season text as a file, held to its .expect too."""
     text = path.read_bytes()
-    report_cases.hold(path.name, text, path.with_suffix(".expect").read_text())
+    report_cases.hold(path.name, text, vectors.answer(path))
     with path.open("rb") as file:
         same(path.name, run([PROGRAM], stdin=file), (report_cases.report(text), b"", 0))
     if text.endswith(b"\n"):
@@ -159,7 +171,7 @@ def try_pieces_of(day, year):
     try_pieces("day", day, 1)
     try_pieces("day without its last line feed", day[:-1], 1)
     try_pieces("day and a line feed", day + b"\n", 1)
-    try_pieces("leap year", year, 37)
+    try_pieces("leap year", year, 41)
     try_pieces("leap year without its last line feed", year[:-1], 37)
     try_pieces("leap year", year, 4096)
 
@@ -228,22 +240,22 @@ def try_vectors(folder):
     if not folder.is_dir():
         print(f"no folder {folder}: its season texts are left out")
         return
-    for path in sorted(folder.glob("*.txt")):
+    for path in vectors.texts(folder):
         try_file(path)
 
 
 def main():
     build()
-    day, year = report_cases.text_of(report_cases.day(True)), report_cases.text_of(leap_year())
-    assert len(year) == LONGEST
-    try_vectors(Path(sys.argv[1]) if len(sys.argv) > 1 else REPOSITORY.parent / "shared" / "vectors")
-    for texts in (odd_texts(day, year), cut_texts(day), long_texts(day, year), border_texts(year)):
+    day, years = report_cases.text_of(report_cases.day(True)), leap_years()
+    year = max(years.values(), key=len)
+    try_vectors(vectors.folder_of(sys.argv))
+    named = [(f"leap year of kind {kind}", text) for kind, text in years.items()]
+    for texts in (named, odd_texts(day, year), cut_texts(day), long_texts(day, year), border_texts(year)):
         for name, text in texts:
             try_text(name, text)
     for text in report_cases.written_by_hand():
         try_text(repr(text[:60]), text)
-    for lines in report_cases.month_seasons():
-        text = report_cases.text_of(lines)
+    for text in (*map(report_cases.text_of, report_cases.month_seasons()), *report_cases.mountain_seasons()):
         try_text(f"season {text[:20].decode()}", text)
     try_pieces_of(day, year)
     try_folder(PROGRAM, b"", 0)

@@ -11,6 +11,7 @@ import random
 import sys
 
 DAYS, LEVEL = 366, 520
+LOWLAND, MOUNTAIN = 9500, 7000  # mean pressure, tenths of hPa
 
 
 def between(low, x, high):
@@ -39,14 +40,14 @@ def moisture(kind, degrees, dryness):
     return between(0, 610.8 * math.exp(17.27 * degrees / (degrees + 237.3)) * dryness, 10000)
 
 
-def pressure(day, hour):
-    """Tenths of hPa: about 950 hPa, falling and rising over weeks, and a little over the day."""
+def pressure(mean, day, hour):
+    """Tenths of hPa, falling and rising over weeks, and a little over the day."""
     days = day + hour / 24
-    return between(5000, 9500 + 90 * math.sin(days / 2.3) + 60 * math.sin(days / 7.1) + 6 * math.cos(4 * math.pi * days), 11000)
+    return between(5000, mean + 90 * math.sin(days / 2.3) + 60 * math.sin(days / 7.1) + 6 * math.cos(4 * math.pi * days), 11000)
 
 
 def readings(rng, kind, tree, day, hour, sky, dry):
-    """Ozone, PPFD, global radiation, temperature, VPD or humidity, wind, soil and, in kind 04, pressure of an hour, in the frame's units."""
+    """Ozone, PPFD, global radiation, temperature, VPD or humidity, wind and soil of an hour, in the frame's units."""
     height = sun(day, hour)
     summer = -math.cos(2 * math.pi * (day - 20) / DAYS)
     afternoon = math.cos(2 * math.pi * (hour - 15) / 24)
@@ -63,20 +64,21 @@ def readings(rng, kind, tree, day, hour, sky, dry):
         moisture(kind, degrees, dryness),
         between(0, wind, 6000),
         soil(rng, tree, dry),
-        *([pressure(day, hour)] if kind == 4 else []),
     ]
 
 
-def year(tree, kind):
+def season(tree, kind, first=1, last=DAYS, mean=LOWLAND):
+    """The lines of a season from a first to a last day, at a mean pressure."""
     rng = random.Random(2024)
-    yield f"01{tree:02X}{DAYS:04X}{1:04X}{DAYS:04X}{LEVEL:04X}"
+    yield f"01{tree:02X}{DAYS:04X}{first:04X}{last:04X}{LEVEL:04X}"
     dry = 0.3
-    for day in range(1, DAYS + 1):
+    for day in range(first, last + 1):
         sky = rng.uniform(0.25, 1)
         dry = min(1.0, dry + 0.01) if sky > 0.5 else max(0.0, dry - 0.03)
         for hour in range(24):
-            yield f"{kind:02X}{day:04X}{hour:02X}" + "".join(f"{n:04X}" for n in readings(rng, kind, tree, day, hour, sky, dry))
-    yield f"03{24 * DAYS:04X}"
+            numbers = readings(rng, kind, tree, day, hour, sky, dry) + ([pressure(mean, day, hour)] if kind == 4 else [])
+            yield f"{kind:02X}{day:04X}{hour:02X}" + "".join(f"{n:04X}" for n in numbers)
+    yield f"03{24 * (last - first + 1):04X}"
 
 
 def main():
@@ -84,7 +86,8 @@ def main():
     kind = int(sys.argv[2]) if len(sys.argv) > 2 else 2
     if not 1 <= tree <= 6 or kind not in (2, 4, 5):
         sys.exit(__doc__)
-    print("\n".join(year(tree, kind)))
+    print("\n".join(season(tree, kind)))
 
 
-main()
+if __name__ == "__main__":
+    main()

@@ -13,8 +13,10 @@ use Rattle.flux_spec.specs.Dose.{isCounted, excess}
 use Rattle.flux_spec.specs.HourDose.{hourDoseOf, dosedAs}
 use Rattle.flux_spec.specs.declared.Dosed.{Dosed}
 use Rattle.account_spec.specs.declared.Season.{Season}
+use Rattle.account_spec.specs.declared.HourKind.{HourKind}
 use Rattle.account_spec.specs.declared.Sums.{Sums}
 use Rattle.account_spec.specs.declared.Account.{Account}
+use Rattle.account_spec.specs.HourKinds.{hourKind}
 use Rattle.account_spec.specs.Hours.{plus, standIn, noneCarried, pairOf, countedSums, hourSums}
 use Rattle.account_spec.specs.Rules.{carriedIn, withHour}
 use Rattle.account_spec.specs.Steps.{Dosable}
@@ -38,19 +40,19 @@ module _
 
 -- ---- an hour added
 
-module _ (a : Account) (h : Hour) where
+module _ (a : Account) (h : Hour) (kind : HourKind) (is : kind ≡ hourKind (h .air)) where
   abbrev withSums : Sums → Account
-  withSums s = record { phase = a .phase; season = a .season; sums = s }
+  withSums s = record { phase = a .phase; season = a .season; kind = kind; sums = s }
 
   pub counted-hour :
       isCounted h ≡ true → (pair : Bounds) (over : ℕ) → pair ≡ pairOf (standIn (a .season)) (carriedIn a) h → over ≡ excess h →
       withSums (plus (a .sums) (countedSums pair over)) ≡ withHour a h
   unfolding hourSums
-  counted-hour e pair over p x = rw (e, p, x)
+  counted-hour e pair over p x = rw (is, e, p, x)
 
   pub uncounted-hour :
       isCounted h ≡ false →
       withSums (record { hours = a .sums .hours + 1; counted = a .sums .counted; lower = a .sums .lower; upper = a .sums .upper; aot40 = a .sums .aot40 })
       ≡ withHour a h
   unfolding hourSums
-  uncounted-hour e = simp (e, add-zero)
+  uncounted-hour e = simp (is, e, add-zero)

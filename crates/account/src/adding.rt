@@ -1,10 +1,12 @@
 // What an accepted record adds to an account (document 01, "Account").
 use crate::Account;
+use crate::HourKind;
 use crate::Phase;
 use crate::Season;
 use crate::Sums;
 use exact::Bounds;
 use flux::Dosed;
+use frames::Air;
 use frames::Header;
 use frames::Hour;
 use frames::Record;
@@ -12,6 +14,7 @@ ghost use Prim.Native.Nat.{_<_};
 ghost use mathlib.Core.Path.{_≡_};
 ghost use mathlib.Core.Bool.{true};
 ghost use Rattle.flux_spec.specs.Dose.{isCounted, excess};
+ghost use Rattle.account_spec.specs.HourKinds.{hourKind};
 ghost use Rattle.account_spec.specs.Hours.{standIn, noneCarried, pairOf};
 ghost use Rattle.account_spec.specs.Rules.{opened, withHour, ended, entered};
 ghost use Rattle.account_spec.specs.Steps.{Dosable, RecordDosable, Room};
@@ -42,12 +45,25 @@ fn excess(h: Hour) -> u32
     }
 }
 
+fn kind_of(air: Air) -> HourKind
+    ensures { λ r. ⌜ r ≡ hourKind air ⌝ }
+{
+    match air {
+        Air::Deficit(_) => HourKind::Deficit,
+        Air::Pressure {
+            deficit: _,
+            pressure: _,
+        } => HourKind::Pressure,
+    }
+}
+
 fn open(header: Header) -> Account
     ensures { λ r. ⌜ r ≡ opened header ⌝ }
 {
     Account {
         phase: Phase::Open,
         season: Season { header: header },
+        kind: HourKind::None,
         sums: Sums {
             hours: 0,
             counted: 0,
@@ -66,6 +82,8 @@ fn add_hour(a: Account, h: Hour) -> Account
 {
     let phase = a.phase;
     let season = a.season;
+    let air = h.air;
+    let kind = kind_of(air);
     let mut sums = a.sums;
     sums.hours = sums.hours + 1;
     if 50 < h.radiation {
@@ -78,6 +96,7 @@ fn add_hour(a: Account, h: Hour) -> Account
     Account {
         phase: phase,
         season: season,
+        kind: kind,
         sums: sums,
     }
 }
@@ -86,10 +105,12 @@ fn end(a: Account) -> Account
     ensures { λ r. ⌜ r ≡ ended a ⌝ }
 {
     let season = a.season;
+    let kind = a.kind;
     let sums = a.sums;
     Account {
         phase: Phase::Closed,
         season: season,
+        kind: kind,
         sums: sums,
     }
 }

@@ -5,6 +5,7 @@ mod rows;
 pub use account_read::read;
 pub use account_spec::Account;
 pub use account_spec::Fed;
+pub use account_spec::HourKind;
 pub use account_spec::Phase;
 pub use account_spec::Reading;
 pub use account_spec::Season;
@@ -39,6 +40,7 @@ pub fn fresh() -> Account
                 level: 0,
             },
         },
+        kind: HourKind::None,
         sums: Sums {
             hours: 0,
             counted: 0,
@@ -54,10 +56,12 @@ fn state_of(account: Account) -> State
 {
     let phase = account.phase;
     let season = account.season;
+    let kind = account.kind;
     let sums = account.sums;
     State {
         phase: phase,
         season: season,
+        kind: kind,
         hours: sums.hours,
     }
 }

@@ -1,12 +1,15 @@
-// Rows 4 to 11 for a state: phase, season and number of hours accepted so far (document 01, "Turned-back lines").
+// Rows 4 to 11 and 15 for a state: phase, season, kind and number of hours accepted so far (document 01, "Turned-back lines").
 use crate::Phase;
+use account_spec::HourKind;
 use account_spec::State;
+use frames::Air;
 use frames::Decoded;
 use frames::Raw;
 use frames::RawHour;
 use frames::Refusal;
 ghost use mathlib.Core.Path.{_≡_};
 ghost use Rattle.records.specs.Answers.{decodedAs};
+ghost use Rattle.account_spec.specs.HourKinds.{isMixed};
 ghost use Rattle.account_spec.specs.Rules.{outOfTurn, isDue, countWrong, dueOf, turnOf};
 ghost use Rattle.account_spec.specs.Steps.{refusalIn};
 
@@ -27,6 +30,29 @@ fn out_of_turn(s: State, frame: Raw) -> bool
             Raw::End(_) => false,
         },
         Phase::Closed => true,
+    }
+}
+
+// Row 15: a kind other than the season's first.
+fn mixed(kind: HourKind, air: Air) -> bool
+    ensures { λ r. ⌜ r ≡ isMixed kind air ⌝ }
+{
+    match kind {
+        HourKind::None => false,
+        HourKind::Deficit => match air {
+            Air::Deficit(_) => false,
+            Air::Pressure {
+                deficit: _,
+                pressure: _,
+            } => true,
+        },
+        HourKind::Pressure => match air {
+            Air::Deficit(_) => true,
+            Air::Pressure {
+                deficit: _,
+                pressure: _,
+            } => false,
+        },
     }
 }
 
@@ -57,13 +83,18 @@ fn count_wrong(s: State, count: u16) -> bool
     !records::all_given(header, s.hours)
 }
 
-// Rows 5 to 8 of a header, 9 and 10 of an hour, 11 of an end. `record_of` is called at one place, where the compiler then writes it out.
+// Rows 5 to 8 of a header, 15, 9 and 10 of an hour, 11 of an end. `record_of` is called at one place, where the compiler then writes it out.
 fn by_kind(s: State, frame: Raw) -> Decoded
     ensures { λ r. ⌜ decodedAs r ≡ dueOf s frame ⌝ }
 {
     match frame {
         Raw::Header(_) => {},
         Raw::Hour(raw) => {
+            let kind = s.kind;
+            let air = raw.air;
+            if mixed(kind, air) {
+                return Decoded::Refused(Refusal::Mixed);
+            }
             if !due(s, raw) {
                 return Decoded::Refused(Refusal::Due);
             }

@@ -1,4 +1,4 @@
-// Commands, one a line: `N` takes a fresh account, `A` and 67 digits the account with these fields, `F` and a line feeds that
+// Commands, one a line: `N` takes a fresh account, `A` and 68 digits the account with these fields, `F` and a line feeds that
 // line. After each the account is read. An empty line says nothing.
 use crate::answers::print_fed;
 use crate::answers::print_reading;
@@ -31,12 +31,28 @@ fn obeyed(held: Account, command: &[u8]) -> Account {
     }
 }
 
-pub(crate) fn run_lines(text: &[u8]) {
-    let mut held = account::fresh();
+fn run_lines(first: Account, text: &[u8]) -> Account {
+    let mut held = first;
     let mut rest = text;
     while 0 < rest.len() {
         held = obeyed(held, cases::line(rest));
         let next = cases::after_line(rest);
         rest = next;
+    }
+    held
+}
+
+// A proved loop has to end, and nothing says that the input does.
+const MOST_PIECES: u64 = 1000000;
+
+// No command lies in two of the pieces that fill the buffer.
+pub(crate) fn run_pieces(piece: &mut [u8]) {
+    let mut held = account::fresh();
+    for _ in 0..MOST_PIECES {
+        let n = cases::read(piece);
+        if n == 0 {
+            return;
+        }
+        held = run_lines(held, &piece[..n]);
     }
 }

@@ -1,6 +1,8 @@
-// An account written as 67 capital hexadecimal digits:
-// phase 1 (0 fresh, 1 open, 2 closed) | tree 2 | days 4 | first 4 | last 4 | level 4 | hours 4 | counted 4 | lower 16 | upper 16 | aot40 8
+// An account written as 68 capital hexadecimal digits:
+// phase 1 (0 fresh, 1 open, 2 closed) | tree 2 | days 4 | first 4 | last 4 | level 4 | kind of its hours 1 (0 none) | hours 4 | counted 4 | lower 16 |
+// upper 16 | aot40 8
 use account::Account;
+use account::HourKind;
 use account::Phase;
 use account::Season;
 use account::Sums;
@@ -18,12 +20,21 @@ fn phase_of(c: u8) -> Phase {
     }
 }
 
+fn kind_of(c: u8) -> HourKind {
+    match c {
+        b'2' => HourKind::Deficit,
+        b'4' => HourKind::Pressure,
+        _ => HourKind::None,
+    }
+}
+
 // The fresh account for any other number of digits.
 pub(crate) fn account_of(digits: &[u8]) -> Account {
-    if digits.len() != 67 {
+    if digits.len() != 68 {
         return account::fresh();
     }
     let phase = phase_of(digits[0]);
+    let kind = kind_of(digits[19]);
     let header = Header {
         tree: u8_at(digits, 1),
         days: u16_at(digits, 3),
@@ -32,15 +43,16 @@ pub(crate) fn account_of(digits: &[u8]) -> Account {
         level: u16_at(digits, 15),
     };
     let sums = Sums {
-        lower: u64_at(digits, 27),
-        upper: u64_at(digits, 43),
-        aot40: u32_at(digits, 59),
-        hours: u16_at(digits, 19),
-        counted: u16_at(digits, 23),
+        lower: u64_at(digits, 28),
+        upper: u64_at(digits, 44),
+        aot40: u32_at(digits, 60),
+        hours: u16_at(digits, 20),
+        counted: u16_at(digits, 24),
     };
     Account {
         phase: phase,
         season: Season { header: header },
+        kind: kind,
         sums: sums,
     }
 }

@@ -4,7 +4,6 @@ mod commands;
 mod fields;
 
 fn main() {
-    let mut text = cases::buffer();
-    let n = cases::read(&mut text);
-    commands::run_lines(&text[..n]);
+    let mut piece = [0; 65536];
+    commands::run_pieces(&mut piece);
 }

@@ -3,7 +3,7 @@ use account_spec::Season;
 ghost use mathlib.Core.Path.{_≡_};
 ghost use Rattle.account_spec.specs.Limits.{mostHour, gapEach, mostAot40};
 
-const MOST_HOUR: u64 = 600000;
+const MOST_HOUR: u64 = 800000;
 
 const GAP_EACH: u64 = 4;
 

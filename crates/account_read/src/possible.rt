@@ -1,13 +1,14 @@
 // Row 13: an account that no season can give (document 01, "Turned-back lines").
 use crate::limits;
 use account_spec::Account;
+use account_spec::HourKind;
 use account_spec::Phase;
 use account_spec::Season;
 use account_spec::Sums;
 use frames::Checked;
-use frames::Record;
 ghost use mathlib.Core.Path.{_≡_};
 ghost use mathlib.Core.Bool.{_&&_};
+ghost use Rattle.account_spec.specs.HourKinds.{kindOut};
 ghost use Rattle.account_spec.specs.Account.{isBegun, isBroken, allZero, seasonNumbers, sumsNumbers, isBlank, anyOf, sumsOut, impossible};
 
 // Rows 5 to 8 refuse the header.
@@ -15,7 +16,7 @@ fn broken(season: Season) -> bool
     ensures { λ r. ⌜ r ≡ isBroken season ⌝ }
 {
     let header = season.header;
-    let answer = frames::check(Record::Header(header));
+    let answer = records::check_header(header);
     match answer {
         Checked::Sound => false,
         Checked::Refused(_) => true,
@@ -101,7 +102,18 @@ fn sums_out(season: Season, s: Sums) -> bool
     limits::most_aot40(season) * n < (s.aot40 as u64)
 }
 
-// Row 13: the account is one that no list of lines gives. The row is one condition of nine, in any order: with the sums first the account is not
+// Hours without a kind, or a kind without hours.
+fn kind_out(kind: HourKind, hours: u16) -> bool
+    ensures { λ r. ⌜ r ≡ kindOut kind hours ⌝ }
+{
+    match kind {
+        HourKind::None => 0 < hours,
+        HourKind::Deficit => hours == 0,
+        HourKind::Pressure => hours == 0,
+    }
+}
+
+// Row 13: the account is one that no list of lines gives. The row is one condition of ten, in any order: with the sums first the account is not
 // copied before its test.
 pub fn impossible(a: Account) -> bool
     ensures { λ r. ⌜ r ≡ impossible a ⌝ }
@@ -110,6 +122,10 @@ pub fn impossible(a: Account) -> bool
     let season = a.season;
     let sums = a.sums;
     if sums_out(season, sums) {
+        return true;
+    }
+    let kind = a.kind;
+    if kind_out(kind, sums.hours) {
         return true;
     }
     if begun_broken(phase, season) {

@@ -6,13 +6,14 @@ use native.Mathlib.Nat.{mul-le-mul-right}
 use native.Mathlib.Omega.{arith}
 use Rattle.exact.specs.Frac.{Frac, _⊕_}
 use Rattle.exact.proofs.FracLaws.{≼-trans, ⊕-mono, ⊕-low, ⊕-high}
+use Rattle.trees.specs.Sound.{Sound}
 use Rattle.records.specs.declared.Hour.{Hour}
 use Rattle.records.specs.Answers.{Outcome, accepted}
 use Rattle.flux_spec.specs.declared.Stand.{Stand}
-use Rattle.flux_spec.specs.Enclosure.{Limited}
+use Rattle.flux_spec.specs.Enclosure.{mostDose, gapDose}
 use Rattle.account_spec.specs.declared.Season.{Season}
 use Rattle.account_spec.specs.declared.Sums.{Sums}
-use Rattle.account_spec.specs.Limits.{mostOfSix, mostHour, gapEach}
+use Rattle.account_spec.specs.Limits.{mostHour, gapEach}
 use Rattle.account_spec.specs.Hours.{noSums, plus, standIn, Carried, carriedAfter, sumsOf, podOf}
 use Rattle.account_spec.specs.Enclosed.{AllChecked, AllDosed, Encloses, HoursEnclosed}
 use Rattle.account_spec.proofs.SumsLaws.{counted-le, aot40-le}
@@ -40,19 +41,30 @@ plus-encloses e f =
       grows = λ j l h. ⊕-mono (e .grows j l h) (f .grows j l h);
     }
 
+-- by a greater most
+encloses-most : {m n : ℕ} {s : Sums} {pod : ℕ → Frac} → m ≤ n → Encloses m s pod → Encloses n s pod
+encloses-most {s = s} le e = record {
+  low = e .low;
+  high = e .high;
+  order = e .order;
+  gap = e .gap;
+  most = omega (arith, e .most, mul-le-mul-right (s .counted) le);
+  grows = e .grows;
+}
+
 -- within row 13's gap
 pub encloses-gap : (season : Season) {each : ℕ} {s : Sums} {pod : ℕ → Frac} → Encloses each s pod → s .upper ≤ s .lower + gapEach season * s .counted
 encloses-gap season {s = s} e =
-    let each : 2 ≤ gapEach season = omega arith in
+    let each : gapDose ≤ gapEach season = omega arith in
     omega (arith, e .gap, mul-le-mul-right (s .counted) each)
 
 -- ---- hours in a row
 
-pub list-enclosed : (stand : Stand) → Limited (stand .figures) → (c : Carried) (hs : List Hour) → AllChecked hs → HoursEnclosed mostOfSix (accepted stand) c hs
+pub list-enclosed : (stand : Stand) → Sound (stand .figures) → (c : Carried) (hs : List Hour) → AllChecked hs → HoursEnclosed (mostDose (stand .figures .gmax)) (accepted stand) c hs
 unfolding sumsOf podOf
-list-enclosed stand limited c [] all = none-encloses mostOfSix noSums refl refl
-list-enclosed stand limited c (h ∷ hs) all =
-    plus-encloses (hour-encloses stand limited c h (all .0)) (list-enclosed stand limited (carriedAfter (accepted stand) c h) hs (all .1))
+list-enclosed stand sound c [] all = none-encloses (mostDose (stand .figures .gmax)) noSums refl refl
+list-enclosed stand sound c (h ∷ hs) all =
+    plus-encloses (hour-encloses stand sound c h (all .0)) (list-enclosed stand sound (carriedAfter (accepted stand) c h) hs (all .1))
 
 all-checked : (season : Season) (hs : List Hour) → AllDosed season hs → AllChecked hs
 all-checked season [] all = tt
@@ -64,8 +76,9 @@ hours-enclosed season c [] all = none-encloses (mostHour season) noSums refl ref
 hours-enclosed season c (h ∷ hs) all =
     let stand = all .0 .0 in
     let is = all .0 .1 in
-    subst (λ (s : Outcome Stand). HoursEnclosed mostOfSix s c (h ∷ hs)) (sym is)
-    (list-enclosed stand (stand-limited season stand is) c (h ∷ hs) (all-checked season (h ∷ hs) all))
+    let limited = stand-limited season stand is in
+    subst (λ (s : Outcome Stand). HoursEnclosed (mostHour season) s c (h ∷ hs)) (sym is)
+    (encloses-most (omega (arith, limited .gmax)) (list-enclosed stand (limited .sound) c (h ∷ hs) (all-checked season (h ∷ hs) all)))
 
 -- row 13 lets their sums pass
 pub hours-in : (season : Season) (c : Carried) (hs : List Hour) → AllDosed season hs → SumsIn season (sumsOf (standIn season) c hs)

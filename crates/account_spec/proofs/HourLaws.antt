@@ -7,6 +7,7 @@ use native.Mathlib.Omega.{arith}
 use Rattle.exact.specs.declared.Bounds.{Bounds}
 use Rattle.exact.specs.Frac.{Frac, natural}
 use Rattle.exact.proofs.FracLaws.{≼-refl}
+use Rattle.trees.specs.Sound.{Sound}
 use Rattle.trees.specs.Figures.{figuresOf}
 use Rattle.records.specs.declared.Hour.{Hour}
 use Rattle.records.specs.declared.Record.{Record}
@@ -16,12 +17,12 @@ use Rattle.records.proofs.AnswerLaws.{accepted-same, onTree-passed}
 use Rattle.flux_spec.specs.declared.Stand.{Stand}
 use Rattle.flux_spec.specs.Dose.{isCounted, excess, doseAt, NotAbove, NotBelow}
 use Rattle.flux_spec.specs.Pair.{hourPair}
-use Rattle.flux_spec.specs.Enclosure.{Limited}
+use Rattle.flux_spec.specs.Enclosure.{mostDose, Limited}
 use Rattle.flux_spec.proofs.HourDoseLaws.{stand-passed}
 use Rattle.flux_spec.proofs.EnclosureLaws.{enclosure}
 use Rattle.account_spec.specs.declared.Season.{Season}
 use Rattle.account_spec.specs.declared.Sums.{Sums}
-use Rattle.account_spec.specs.Limits.{mostOfSix, mostHour}
+use Rattle.account_spec.specs.Limits.{mostHour}
 use Rattle.account_spec.specs.Hours.{standIn, Carried, pairOf, countedSums, uncountedSums, hourSums, hourPod}
 use Rattle.account_spec.specs.Enclosed.{HasDose, Encloses}
 use Rattle.account_spec.specs.Steps.{Dosable}
@@ -54,11 +55,14 @@ cond-encloses :
 cond-encloses each true s dose e = e
 cond-encloses each false s dose e = none-encloses each uncountedSums refl refl
 
-module _ (stand : Stand) (limited : Limited (stand .figures)) (c : Carried) (h : Hour) (passed : checked (Record.Hour h) ≡ accepted tt) where
+module _ (stand : Stand) (sound : Sound (stand .figures)) (c : Carried) (h : Hour) (passed : checked (Record.Hour h) ≡ accepted tt) where
+  abbrev each : ℕ
+  each = mostDose (stand .figures .gmax)
+
   -- a counted hour adds its pair
-  counted-encloses : Encloses mostOfSix (countedSums (hourPair stand h) (excess h)) (λ k. doseAt k stand h)
+  counted-encloses : Encloses each (countedSums (hourPair stand h) (excess h)) (λ k. doseAt k stand h)
   counted-encloses =
-      let one = enclosure .hour stand limited h passed in
+      let one = enclosure .hour stand sound h passed in
       record {
         low = notAbove-le (omega (arith, one .order)) (one .low);
         high = notBelow-le (omega (arith, one .most)) (one .high);
@@ -68,9 +72,9 @@ module _ (stand : Stand) (limited : Limited (stand .figures)) (c : Carried) (h :
         grows = one .grows;
       }
 
-  pub hour-encloses : Encloses mostOfSix (hourSums (accepted stand) c h) (hourPod (accepted stand) c h)
+  pub hour-encloses : Encloses each (hourSums (accepted stand) c h) (hourPod (accepted stand) c h)
   unfolding hourSums hourPod pairOf
-  hour-encloses = cond-encloses mostOfSix (isCounted h) _ _ counted-encloses
+  hour-encloses = cond-encloses each (isCounted h) _ _ counted-encloses
 
 -- ---- one hour of a season
 
@@ -89,8 +93,9 @@ module _ (season : Season) (h : Hour) where
   pub pair-sized : (c : Carried) → HasDose season h → PairSized season (pairOf (standIn season) c h)
   unfolding pairOf
   pair-sized c has =
-      let one = enclosure .hour (has .0) (stand-limited season (has .0) (has .1)) h (has .2) in
-      rw (has .1) (record { order = one .order; most = omega (arith, one .most) })
+      let limited = stand-limited season (has .0) (has .1) in
+      let one = enclosure .hour (has .0) (limited .sound) h (has .2) in
+      rw (has .1) (record { order = one .order; most = omega (arith, one .most, limited .gmax) })
 
   -- `hour_dose` goes by the season's stand
   pub dosable-stand : (d : Dosable season h) → standIn season ≡ accepted (d .0)

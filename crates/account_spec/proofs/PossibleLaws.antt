@@ -17,6 +17,7 @@ use Rattle.account_spec.specs.declared.Season.{Season}
 use Rattle.account_spec.specs.declared.Sums.{Sums}
 use Rattle.account_spec.specs.declared.Account.{Account}
 use Rattle.account_spec.specs.Limits.{mostHour, gapEach, mostAot40}
+use Rattle.account_spec.specs.HourKinds.{kindOut}
 use Rattle.account_spec.specs.Account.{isFresh, isClosed, isBegun, isRefused, isBroken, allZero, seasonNumbers, isBlank, anyOf, sumsOut, impossible}
 use Rattle.account_spec.specs.Steps.{Room}
 
@@ -32,6 +33,7 @@ pub record Possible (a : Account) : Type 0 where
   pub header : isBegun (a .phase) ≡ true → checked (Record.Header (a .season .header)) ≡ accepted tt
   pub hours : a .sums .hours ≤ periodHours (a .season .header)
   pub sums : SumsIn (a .season) (a .sums)
+  pub kind : kindOut (a .kind) (a .sums .hours) ≡ false
   pub blank : isFresh (a .phase) ≡ true → isBlank a ≡ true
   pub given : isClosed (a .phase) ≡ true → allGiven (a .season .header) (a .sums .hours) ≡ true
 
@@ -64,19 +66,20 @@ open-is a e = rw e
 pub closed-is : (a : Account) → a .phase ≡ Closed → not (allGiven (a .season .header) (a .sums .hours)) ≡ byPhase a
 closed-is a e = rw e
 
-third-first : (b p s x y : Bool) → (s || (b || (p || (x || y)))) ≡ (b || p || s || x || y)
-third-first true p s x y = or-true s
-third-first false true s x y = or-true s
-third-first false false true x y = refl
-third-first false false false x y = refl
+third-first : (b p s k x y : Bool) → (s || (k || (b || (p || (x || y))))) ≡ (b || p || s || k || x || y)
+third-first true p s k x y = rw (or-true k) (or-true s)
+third-first false true s k x y = rw (or-true k) (or-true s)
+third-first false false true k x y = refl
+third-first false false false true x y = refl
+third-first false false false false x y = refl
 
 pub sums-first : (a : Account) →
-    (anyOf (sumsOut (a .season) (a .sums)) || ((isBegun (a .phase) && isBroken (a .season)) || (ltb (periodHours (a .season .header)) (a .sums .hours) || byPhase a)))
+    (anyOf (sumsOut (a .season) (a .sums)) || (kindOut (a .kind) (a .sums .hours) || ((isBegun (a .phase) && isBroken (a .season)) || (ltb (periodHours (a .season .header)) (a .sums .hours) || byPhase a))))
     ≡ impossible a
 unfolding impossible
 sums-first a =
     third-first (isBegun (a .phase) && isBroken (a .season)) (ltb (periodHours (a .season .header)) (a .sums .hours)) (anyOf (sumsOut (a .season) (a .sums)))
-    (isFresh (a .phase) && not (isBlank a)) (isClosed (a .phase) && not (allGiven (a .season .header) (a .sums .hours)))
+    (kindOut (a .kind) (a .sums .hours)) (isFresh (a .phase) && not (isBlank a)) (isClosed (a .phase) && not (allGiven (a .season .header) (a .sums .hours)))
 
 -- ---- row 13, one condition after the other
 
@@ -113,12 +116,14 @@ module _ (a : Account) where
   possible-is e =
       let given = or-neither _ (isClosed (a .phase) && not (allGiven (a .season .header) (a .sums .hours))) e in
       let blank = or-neither _ (isFresh (a .phase) && not (isBlank a)) (given .0) in
-      let sums = or-neither _ (anyOf (sumsOut (a .season) (a .sums))) (blank .0) in
+      let kind = or-neither _ (kindOut (a .kind) (a .sums .hours)) (blank .0) in
+      let sums = or-neither _ (anyOf (sumsOut (a .season) (a .sums))) (kind .0) in
       let hours = or-neither (isBegun (a .phase) && isBroken (a .season)) (ltb (periodHours (a .season .header)) (a .sums .hours)) (sums .0) in
       record {
         header = λ h. accepted-is (checked (Record.Header (a .season .header))) (and-false (isBegun (a .phase)) _ (hours .0) h);
         hours = ltb-false _ _ (hours .1);
         sums = sums-in (a .season) (a .sums) (sums .1);
+        kind = kind .1;
         blank = λ h. not-false (isBlank a) (and-false (isFresh (a .phase)) _ (blank .1) h);
         given = λ h. not-false (allGiven (a .season .header) (a .sums .hours)) (and-false (isClosed (a .phase)) _ (given .1) h);
       }
@@ -130,6 +135,7 @@ module _ (a : Account) where
         false-and (isBegun (a .phase)) (isBroken (a .season)) (λ h. ap isRefused (p .header h)),
         le-ltb (periodHours (a .season .header)) (a .sums .hours) (p .hours),
         in-sums (a .season) (a .sums) (p .sums),
+        p .kind,
         false-and (isFresh (a .phase)) (not (isBlank a)) (λ h. ap not (p .blank h)),
         false-and (isClosed (a .phase)) (not (allGiven (a .season .header) (a .sums .hours))) (λ h. ap not (p .given h)),
       )

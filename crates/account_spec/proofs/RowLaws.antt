@@ -1,17 +1,16 @@
--- The rows that refuse a line: 1 to 11, each of which has a case of its own.
-use Prim.Native.Nat.{ℕ, _≤_}
+-- The rows that refuse a line, never 13; each has a case of its own.
+use Prim.Native.Nat.{ℕ}
 use mathlib.Core.Path.{_≡_, refl, sym, subst}
-use mathlib.Core.Bool.{Bool, true, false, _&&_}
+use mathlib.Core.Bool.{Bool, true, false, not, _&&_}
 use mathlib.Core.List.{List, [], _∷_}
 use mathlib.Core.Logic.{⊎-elim}
-use native.Mathlib.Omega.{arith}
-use borrow.Author.Tests.{eqb-true, leb-true}
-use lib.Dec.{eqb, leb}
+use borrow.Author.Tests.{eqb-true, not-true}
+use lib.Dec.{eqb}
 use lib.ListN.{getD}
 use Rattle.records.specs.declared.Raw.{Raw}
 use Rattle.records.specs.declared.RawHour.{RawHour}
 use Rattle.records.specs.declared.Refusal.{Refusal}
-use Rattle.records.specs.declared.Refusal.the-variants.{Length, Digit, Kind, Turn, Tree, Year, Period, Level, Due, Range, Count, Account}
+use Rattle.records.specs.declared.Refusal.the-variants.{Length, Digit, Kind, Turn, Tree, Year, Period, Level, Due, Range, Count, Buffer, Account, Place, Mixed}
 use Rattle.records.specs.Answers.{refused, rowOf}
 use Rattle.records.proofs.AnswerLaws.{and-both, or-either}
 use Rattle.frames.specs.Digits.{within}
@@ -21,25 +20,27 @@ use Rattle.frames.specs.Rows.{oneOf}
 use Rattle.frames.proofs.KindLaws.{among-passes}
 use Rattle.frames.proofs.RowLaws.{Only, accepted-only, refused-only, row-only, onward-only, only-wider, parsed-only, record-only}
 use Rattle.account_spec.specs.declared.State.{State}
+use Rattle.account_spec.specs.HourKinds.{isMixed}
 use Rattle.account_spec.specs.Rules.{outOfTurn, isDue, countWrong, dueOf, turnOf, answerOf}
 use Rattle.account_spec.specs.Book.{Book, bookState, bookAnswer}
-use Rattle.account_spec.proofs.RuleLaws.{due-out, due-in}
+use Rattle.account_spec.proofs.RuleLaws.{mixed-out, due-out, due-in}
 
 -- row 10 besides
 abbrev answerRows : List ℕ
-answerRows = 1 ∷ 2 ∷ 3 ∷ 4 ∷ 5 ∷ 6 ∷ 7 ∷ 8 ∷ 9 ∷ 11 ∷ []
+answerRows = 1 ∷ 2 ∷ 3 ∷ 4 ∷ 5 ∷ 6 ∷ 7 ∷ 8 ∷ 9 ∷ 11 ∷ 15 ∷ []
 
 module _ (s : State) where
-  hour-only : (h : RawHour) (t : Bool) → isDue s h ≡ t → Only answerRows (dueOf s (Raw.Hour h))
+  hour-only : (h : RawHour) (m t : Bool) → isMixed (s .kind) (h .air) ≡ m → isDue s h ≡ t → Only answerRows (dueOf s (Raw.Hour h))
   unfolding among
-  hour-only h true e = subst (Only answerRows) (due-in s h e) (only-wider refl (record-only _ (Raw.Hour h)))
-  hour-only h false e = subst (Only answerRows) (due-out s h e) (refused-only 9 0 refl)
+  hour-only h true t m e = subst (Only answerRows) (mixed-out s h m) (refused-only 15 0 refl)
+  hour-only h false true m e = subst (Only answerRows) (due-in s h m e) (only-wider refl (record-only _ (Raw.Hour h)))
+  hour-only h false false m e = subst (Only answerRows) (due-out s h m e) (refused-only 9 0 refl)
 
   -- by the frame that rows 1 to 3 let pass
   frame-only : (frame : Raw) → Only answerRows (turnOf s frame)
   unfolding turnOf dueOf among
   frame-only (Raw.Header h) = row-only (outOfTurn s (Raw.Header h)) _ _ _ refl (only-wider refl (record-only _ (Raw.Header h)))
-  frame-only (Raw.Hour h) = row-only (outOfTurn s (Raw.Hour h)) _ _ _ refl (hour-only h (isDue s h) refl)
+  frame-only (Raw.Hour h) = row-only (outOfTurn s (Raw.Hour h)) _ _ _ refl (hour-only h (isMixed (s .kind) (h .air)) (isDue s h) refl refl)
   frame-only (Raw.End x) =
       row-only (outOfTurn s (Raw.End x)) _ _ _ refl
       (row-only (countWrong s (x .hours)) _ _ _ refl (accepted-only _))
@@ -53,23 +54,23 @@ module _ (s : State) where
 pub record RefusalRow (n f : ℕ) : Type 0 where
   pub refusal : Refusal
   pub is : rowOf refusal ≡ (n, f)
-  pub most : n ≤ 11
+  pub possible : eqb n 13 ≡ false
 
 -- by its number; no case answers 0, and row 10's has its field
 abbrev refusalAt : ℕ → Refusal
-refusalAt n = getD (Account ∷ Length ∷ Digit ∷ Kind ∷ Turn ∷ Tree ∷ Year ∷ Period ∷ Level ∷ Due ∷ Account ∷ Count ∷ []) n Account
+refusalAt n = getD (Account ∷ Length ∷ Digit ∷ Kind ∷ Turn ∷ Tree ∷ Year ∷ Period ∷ Level ∷ Due ∷ Account ∷ Count ∷ Buffer ∷ Account ∷ Place ∷ Mixed ∷ []) n Account
 
 abbrev isCase : ℕ → Bool
-isCase n = eqb (rowOf (refusalAt n) .0) n && eqb (rowOf (refusalAt n) .1) 0 && leb n 11
+isCase n = eqb (rowOf (refusalAt n) .0) n && eqb (rowOf (refusalAt n) .1) 0 && not (eqb n 13)
 
 pair-is : {w : ℕ × ℕ} {n f : ℕ} → w .0 ≡ n → w .1 ≡ f → w ≡ (n, f)
 pair-is p q i = (p i, q i)
 
 case-row : (n : ℕ) → isCase n ≡ true → RefusalRow n 0
 case-row n e =
-    let p = and-both (eqb (rowOf (refusalAt n) .0) n && eqb (rowOf (refusalAt n) .1) 0) (leb n 11) e in
+    let p = and-both (eqb (rowOf (refusalAt n) .0) n && eqb (rowOf (refusalAt n) .1) 0) (not (eqb n 13)) e in
     let q = and-both (eqb (rowOf (refusalAt n) .0) n) _ (p .0) in
-    record { refusal = refusalAt n; is = pair-is (eqb-true _ n (q .0)) (eqb-true _ 0 (q .1)); most = leb-true n 11 (p .1) }
+    record { refusal = refusalAt n; is = pair-is (eqb-true _ n (q .0)) (eqb-true _ 0 (q .1)); possible = not-true (eqb n 13) (p .1) }
 
 one-row : (n f : ℕ) → oneOf answerRows n f ≡ true → RefusalRow n f
 unfolding among
@@ -79,9 +80,9 @@ one-row n f e =
     let both = and-both (among answerRows n) (eqb f 0) s in
     subst (RefusalRow n) (sym (eqb-true f 0 (both .1))) (case-row n (among-passes isCase answerRows n refl (both .0))))
     (λ s.
-    let ten = eqb-true n 10 (and-both (eqb n 10) (within 1 7 f) s .0) in
-    record { refusal = Range f; is = rw ten refl; most = omega (arith, ten) })
-    (or-either (among answerRows n && eqb f 0) (eqb n 10 && within 1 7 f) e)
+    let ten = eqb-true n 10 (and-both (eqb n 10) (within 1 8 f) s .0) in
+    record { refusal = Range f; is = rw ten refl; possible = rw ten refl })
+    (or-either (among answerRows n && eqb f 0) (eqb n 10 && within 1 8 f) e)
 
 pub answer-row : (b : Book) (l : List ℕ) (n f : ℕ) → bookAnswer b l ≡ refused (n, f) → RefusalRow n f
 unfolding bookAnswer

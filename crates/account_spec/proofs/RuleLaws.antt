@@ -1,10 +1,11 @@
 -- The answers to a line and to a reading, by what each test says.
-use mathlib.Core.Path.{_≡_, refl, _∙_}
-use mathlib.Core.Bool.{Bool, true, false}
+use mathlib.Core.Path.{_≡_, refl}
+use mathlib.Core.Bool.{Bool, true, false, not}
 use Prim.Native.Nat.{ℕ}
 use mathlib.Core.List.{List, [], _∷_}
 use mathlib.Core.Logic.{⊎-elim}
 use native.Mathlib.Omega.{arith}
+use borrow.Author.Tests.{not-false}
 use types.Run.{OneOf}
 use denote.Enum.Declared.{tagOf}
 use Rattle.records.specs.declared.Header.{Header}
@@ -17,7 +18,7 @@ use Rattle.records.specs.declared.Parsed.{Parsed}
 use Rattle.records.specs.declared.Decoded.{Decoded}
 use Rattle.records.specs.Answers.{accepted, refused, rowOf, parsedAs, decodedAs}
 use Rattle.records.specs.Ranges.{checked}
-use Rattle.records.proofs.AnswerLaws.{refused-not-accepted}
+use Rattle.records.proofs.AnswerLaws.{row-passed}
 use Rattle.frames.specs.Frames.{parsedOf, soundOf, recordOf}
 use Rattle.account_spec.specs.declared.Phase.{Phase}
 use Rattle.account_spec.specs.declared.Phase.the-variants.{Fresh, Open, Closed}
@@ -26,6 +27,7 @@ use Rattle.account_spec.specs.declared.State.{State}
 use Rattle.account_spec.specs.declared.Totals.{Totals}
 use Rattle.account_spec.specs.declared.Fed.{Fed}
 use Rattle.account_spec.specs.declared.Reading.{Reading}
+use Rattle.account_spec.specs.HourKinds.{isMixed}
 use Rattle.account_spec.specs.Account.{isFresh, impossible}
 use Rattle.account_spec.specs.Rules.{isDue, countWrong, dueOf, turnOf, answerOf, stateOf, entered, feedOf, unreadRow, feedFrameOf, Answers, Feeds}
 use Rattle.account_spec.specs.Reading.{totalsOf, readOf, Reads}
@@ -38,7 +40,7 @@ fresh-false Fresh k = ⊎-elim (λ z. absurd (omega arith)) (λ z. absurd (omega
 fresh-false Open k = refl
 fresh-false Closed k = refl
 
--- ---- a header's rows; row 9, before row 10; row 11
+-- ---- a header's rows; row 15, then 9, before row 10; row 11
 
 module _ (s : State) where
   pub header-in : (h : Header) → recordOf (s .season .header .tree) (Raw.Header h) ≡ dueOf s (Raw.Header h)
@@ -46,23 +48,31 @@ module _ (s : State) where
   header-in h = refl
 
   module _ (raw : RawHour) where
-    pub due-out : isDue s raw ≡ false → refused (9, 0) ≡ dueOf s (Raw.Hour raw)
+    pub mixed-out : isMixed (s .kind) (raw .air) ≡ true → refused (15, 0) ≡ dueOf s (Raw.Hour raw)
     unfolding dueOf
-    due-out e = rw e
+    mixed-out m = rw m
 
-    pub due-in : isDue s raw ≡ true → recordOf (s .season .header .tree) (Raw.Hour raw) ≡ dueOf s (Raw.Hour raw)
+    module _ (one : isMixed (s .kind) (raw .air) ≡ false) where
+      pub due-out : isDue s raw ≡ false → refused (9, 0) ≡ dueOf s (Raw.Hour raw)
+      unfolding dueOf
+      due-out e = rw (one, e)
+
+      pub due-in : isDue s raw ≡ true → recordOf (s .season .header .tree) (Raw.Hour raw) ≡ dueOf s (Raw.Hour raw)
+      unfolding dueOf
+      due-in e = rw (one, e)
+
+    -- what an hour that is accepted has passed
+    pub record HourPassed (r : Record) : Type 0 where
+      pub one-kind : isMixed (s .kind) (raw .air) ≡ false
+      pub due : isDue s raw ≡ true
+      pub is : recordOf (s .season .header .tree) (Raw.Hour raw) ≡ accepted r
+
+    pub hour-passed : (r : Record) → dueOf s (Raw.Hour raw) ≡ accepted r → HourPassed r
     unfolding dueOf
-    due-in e = rw e
-
-    by-due : (t : Bool) (r : Record) → isDue s raw ≡ t → dueOf s (Raw.Hour raw) ≡ accepted r
-        → (isDue s raw ≡ true) × (recordOf (s .season .header .tree) (Raw.Hour raw) ≡ accepted r)
-    by-due true r t e = (t, due-in t ∙ e)
-    by-due false r t e = refused-not-accepted (due-out t ∙ e)
-
-    -- an hour that is accepted is due
-    pub due-passed : (r : Record) → dueOf s (Raw.Hour raw) ≡ accepted r
-        → (isDue s raw ≡ true) × (recordOf (s .season .header .tree) (Raw.Hour raw) ≡ accepted r)
-    due-passed r e = by-due (isDue s raw) r refl e
+    hour-passed r e =
+        let mixed = row-passed (isMixed (s .kind) (raw .air)) _ _ r e in
+        let due = row-passed (not (isDue s raw)) _ _ r (mixed .1) in
+        record { one-kind = mixed .0; due = not-false (isDue s raw) (due .0); is = due .1 }
 
   module _ (x : End) where
     pub count-out : countWrong s (x .hours) ≡ true → refused (11, 0) ≡ dueOf s (Raw.End x)

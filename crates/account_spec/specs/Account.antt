@@ -12,7 +12,9 @@ use Rattle.account_spec.specs.declared.Phase.the-variants.{Fresh, Open, 
 use Rattle.account_spec.specs.declared.Season.{Season}
 use Rattle.account_spec.specs.declared.Sums.{Sums}
 use Rattle.account_spec.specs.declared.Account.{Account}
+use Rattle.account_spec.specs.declared.HourKind.{HourKind}
 use Rattle.account_spec.specs.Limits.{mostHour, gapEach, mostAot40}
+use Rattle.account_spec.specs.HourKinds.{kindOut}
 use Rattle.account_spec.specs.Hours.{noSums}
 
 -- the fresh account: header fields and figures 0
@@ -20,7 +22,7 @@ abbrev pub noSeason : Season
 noSeason = record { header = record { tree = 0; days = 0; first = 0; last = 0; level = 0 } }
 
 abbrev pub freshAccount : Account
-freshAccount = record { phase = Fresh; season = noSeason; sums = noSums }
+freshAccount = record { phase = Fresh; season = noSeason; kind = HourKind.None; sums = noSums }
 
 abbrev pub isFresh : Phase → Bool
 isFresh Fresh = true
@@ -62,7 +64,7 @@ abbrev pub anyOf : List Bool → Bool
 anyOf [] = false
 anyOf (b ∷ bs) = b || anyOf bs
 
--- counted > hours; lower > upper; upper > 600000·counted; gap > 4·counted; AOT40 > 4600·counted
+-- counted > hours; lower > upper; upper > 800000·counted; gap > 4·counted; AOT40 > 4600·counted
 abbrev pub sumsOut : Season → Sums → List Bool
 sumsOut season s =
     ltb (s .hours) (s .counted)
@@ -72,12 +74,13 @@ sumsOut season s =
     ∷ ltb (mostAot40 season * s .counted) (s .aot40)
     ∷ []
 
--- row 13: open or closed with header broken by 5 to 8; hours past the period; sums that no hours give; fresh with a header field or figure not 0;
--- closed with hours due
+-- row 13: open or closed with header broken by 5 to 8; hours past the period; sums that no hours give; hours without a kind or a kind without hours;
+-- fresh with a header field or figure not 0; closed with hours due
 unfoldable pub impossible : Account → Bool
 impossible a =
     (isBegun (a .phase) && isBroken (a .season))
     || ltb (periodHours (a .season .header)) (a .sums .hours)
     || anyOf (sumsOut (a .season) (a .sums))
+    || kindOut (a .kind) (a .sums .hours)
     || (isFresh (a .phase) && not (isBlank a))
     || (isClosed (a .phase) && not (allGiven (a .season .header) (a .sums .hours)))

@@ -9,6 +9,7 @@ use Rattle.records.specs.Answers.{Outcome, accepted}
 use Rattle.records.specs.Ranges.{checked}
 use Rattle.flux_spec.specs.declared.Stand.{Stand}
 use Rattle.flux_spec.specs.Dose.{NotAbove, NotBelow}
+use Rattle.flux_spec.specs.Enclosure.{gapDose}
 use Rattle.account_spec.specs.declared.Season.{Season}
 use Rattle.account_spec.specs.declared.Sums.{Sums}
 use Rattle.account_spec.specs.Hours.{standIn, Carried, sumsOf, podOf}
@@ -32,7 +33,7 @@ pub record Encloses (each : ℕ) (sums : Sums) (pod : ℕ → Frac) : Type 0 whe
   pub low : NotAbove (sums .lower) pod
   pub high : NotBelow (sums .upper) pod
   pub order : sums .lower ≤ sums .upper
-  pub gap : sums .upper ≤ sums .lower + 2 * sums .counted
+  pub gap : sums .upper ≤ sums .lower + gapDose * sums .counted
   pub most : sums .upper ≤ each * sums .counted
   pub grows : (k l : ℕ) → k ≤ l → pod k ≼ pod l
 

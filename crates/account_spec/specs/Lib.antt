@@ -1,4 +1,5 @@
 pub mod Limits
+pub mod HourKinds
 pub mod Hours
 pub mod Enclosed
 pub mod Account

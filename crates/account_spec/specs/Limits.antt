@@ -2,13 +2,9 @@
 use Prim.Native.Nat.{ℕ}
 use Rattle.account_spec.specs.declared.Season.{Season}
 
--- nmol m⁻², of figures within the six trees' limits
-abbrev pub mostOfSix : ℕ
-mostOfSix = 600000
-
 -- nmol m⁻²
 abbrev pub mostHour : Season → ℕ
-mostHour season = mostOfSix
+mostHour season = 800000
 
 -- nmol m⁻² between its two dose numbers
 abbrev pub gapEach : Season → ℕ

@@ -5,19 +5,20 @@ use mathlib.Core.Bool.{cond}
 use mathlib.Core.List.{List, [], _∷_, _++_}
 use lib.Dec.{eqb}
 use lib.ListN.{length}
+use Rattle.trees.specs.Sound.{Sound}
 use Rattle.records.specs.declared.Hour.{Hour}
 use Rattle.records.specs.declared.Record.{Record}
 use Rattle.records.specs.Answers.{Outcome, accepted, refused}
 use Rattle.frames.specs.Digits.{byte, number}
 use Rattle.flux_spec.specs.declared.Stand.{Stand}
 use Rattle.flux_spec.specs.Dose.{NotAbove, NotBelow}
-use Rattle.flux_spec.specs.Enclosure.{Limited}
+use Rattle.flux_spec.specs.Enclosure.{mostDose}
 use Rattle.account_spec.specs.declared.Season.{Season}
 use Rattle.account_spec.specs.declared.Account.{Account}
 use Rattle.account_spec.specs.declared.Totals.{Totals}
 use Rattle.account_spec.specs.declared.Fed.{Fed}
 use Rattle.account_spec.specs.declared.Reading.{Reading}
-use Rattle.account_spec.specs.Limits.{mostOfSix, mostHour, gapEach}
+use Rattle.account_spec.specs.Limits.{mostHour, gapEach}
 use Rattle.account_spec.specs.Hours.{standIn, Carried}
 use Rattle.account_spec.specs.Enclosed.{AllChecked, AllDosed, HoursEnclosed}
 use Rattle.account_spec.specs.Account.{freshAccount}
@@ -108,7 +109,7 @@ pub record SeasonPromise : Type 0 where
   pub kept : (es : List Event) → Run freshAccount es → Kept freshAccount emptyBook es
   pub exists : (calls : List Call) → RunOf freshAccount calls
   pub day : (r : RunOf freshAccount dayCalls) → repliesOf (r .events) ≡ accepted tt ∷ refused (1, 0) ∷ acceptances 25
-  -- the sums of any list of hours, for any figures within the six trees' limits and any first and last day
-  pub listed : (stand : Stand) → Limited (stand .figures) → (c : Carried) (hs : List Hour) → AllChecked hs → HoursEnclosed mostOfSix (accepted stand) c hs
+  -- the sums of any list of hours, for any sound figures and any first and last day
+  pub listed : (stand : Stand) → Sound (stand .figures) → (c : Carried) (hs : List Hour) → AllChecked hs → HoursEnclosed (mostDose (stand .figures .gmax)) (accepted stand) c hs
   -- so those of any part of a season
   pub enclosed : (season : Season) (c : Carried) (hs : List Hour) → AllDosed season hs → HoursEnclosed (mostHour season) (standIn season) c hs

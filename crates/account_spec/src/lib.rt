@@ -9,6 +9,13 @@ pub enum Phase {
     Closed,
 }
 
+// The kind of a season's hours, by what they say of the air: that of its first hour, none before it.
+pub enum HourKind {
+    None,
+    Deficit,
+    Pressure,
+}
+
 // What the frames before the first hour said.
 pub struct Season {
     pub header: Header,
@@ -28,13 +35,15 @@ pub struct Sums {
 pub struct Account {
     pub phase: Phase,
     pub season: Season,
+    pub kind: HourKind,
     pub sums: Sums,
 }
 
-// What a line's answer depends on: an account's, or a book's, phase, season and number of hours accepted.
+// What a line's answer depends on: an account's, or a book's, phase, season, kind and number of hours accepted.
 pub struct State {
     pub phase: Phase,
     pub season: Season,
+    pub kind: HourKind,
     pub hours: u16,
 }
 

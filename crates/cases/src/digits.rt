@@ -56,22 +56,11 @@ pub fn u16_at(line: &[u8], at: usize) -> u16
     number(line, at, 4) as u16
 }
 
-// A number's two bytes in two's complement.
-fn signed(n: u16) -> i16
-    ensures { λ r. ⌜ r ≡ signedOf n ⌝ }
-{
-    if n < 32768 {
-        n as i16
-    } else {
-        -((65535 - n) as i16) - 1
-    }
-}
-
 // What four digits from a place on say in two's complement.
 pub fn i16_at(line: &[u8], at: usize) -> i16
     ensures { λ r. ⌜ r ≡ signedOf (hexAt 4 at (now (line .entry))) ⌝ }
 {
-    signed(u16_at(line, at))
+    frames::signed(u16_at(line, at))
 }
 
 // What eight digits from a place on say.

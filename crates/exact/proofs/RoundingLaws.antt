@@ -5,6 +5,7 @@ use mathlib.Core.Path.{_≡_, ap}
 use native.Mathlib.Nat.{
   le-refl,
   le-trans,
+  le-antisymm,
   one-mul,
   mul-le-mul-left,
   mul-le-mul-right,
@@ -14,9 +15,9 @@ use native.Mathlib.Nat.{
   lt-of-mul-lt-mul-right,
 }
 use native.Mathlib.Omega.{arith}
-use Rattle.exact.specs.Frac.{Frac, natural, _over_, _⊕_, _⊗_, _≼_}
+use Rattle.exact.specs.Frac.{Frac, natural, _over_, _⊕_, _⊗_, _≼_, _≈_}
 use Rattle.exact.specs.Rounding.{roundUp, roundDown, IsCeiling, IsFloor, timesUp, timesDown}
-use Rattle.exact.proofs.FracLaws.{≼-trans, ⊗-mono}
+use Rattle.exact.proofs.FracLaws.{≼-refl, ≼-trans, ≈-le, ≈-ge, ⊗-mono}
 
 module _ (x : Frac) where
   roundUp-ge : x .num ≤ roundUp x * x .den
@@ -51,6 +52,21 @@ module _ (x : Frac) where
         omega arith;
   }
 
+-- ---- a greater fraction
+
+pub roundDown-mono : {x y : Frac} → x ≼ y → roundDown x ≤ roundDown y
+roundDown-mono {x} {y} h = roundDown-floor y .greatest (roundDown x) (≼-trans (roundDown-floor x .notAbove) h)
+
+pub roundUp-mono : {x y : Frac} → x ≼ y → roundUp x ≤ roundUp y
+roundUp-mono {x} {y} h = roundUp-ceiling x .least (roundUp y) (≼-trans h (roundUp-ceiling y .notBelow))
+
+module _ {x y : Frac} (same : x ≈ y) where
+  pub roundDown-same : roundDown x ≡ roundDown y
+  roundDown-same = le-antisymm (roundDown-mono (≈-le same)) (roundDown-mono (≈-ge same))
+
+  pub roundUp-same : roundUp x ≡ roundUp y
+  roundUp-same = le-antisymm (roundUp-mono (≈-le same)) (roundUp-mono (≈-ge same))
+
 -- ---- a fraction rounded down and one rounded up
 
 module _ (x y : Frac) where
@@ -65,6 +81,17 @@ module _ (x y : Frac) where
       lt-of-mul-lt-mul-right (x .den * y .den)
       (omega (arith, h .cross, mul-le-mul-right (x .den) (roundUp-lt y), mul-le-mul-right (y .den) (roundDown-gt x), mul-pos (x .positive) (y .positive))) in
       omega arith
+
+-- the same fraction: one more where a rest is left
+module _ (x : Frac) where
+  pub round-whole : roundDown x * x .den ≡ x .num → roundUp x ≡ roundDown x
+  round-whole e =
+      le-antisymm (roundUp-ceiling x .least (roundDown x) (record { cross = omega (arith, e) })) (round-order x x (≼-refl x))
+
+  pub round-rest : roundDown x * x .den < x .num → roundUp x ≡ roundDown x + 1
+  round-rest rest =
+      let less : roundDown x < roundUp x = lt-of-mul-lt-mul-right (x .den) (omega (arith, rest, roundUp-ge x)) in
+      le-antisymm (round-gap x x 0 (record { cross = omega arith })) (omega (arith, less))
 
 -- two numbers over one divisor
 module _ (l u d : ℕ) where
@@ -113,12 +140,40 @@ module _ (n : ℕ) {x : Frac} (below : x ≼ natural 1) where
   pub timesDown-le : timesDown n x ≤ n
   timesDown-le = le-trans (times-order n n x (le-refl n)) timesUp-le
 
--- all of a scale: below one more
-pub timesDown-next : (m : ℕ) (x : Frac) → 0 < m → x ≼ (timesDown m x + 1) over m
-unfolding timesDown
-timesDown-next m x pos =
-    let is : max 1 m ≡ m = omega arith in
-    record { cross = rw is (omega (arith, roundDown-gt (natural m ⊗ x))) }
+-- all of a scale: within it, and within one of it
+module _ (m : ℕ) (x : Frac) where
+  module _ (pos : 0 < m) where
+    is : max 1 m ≡ m
+    is = omega arith
+
+    pub timesDown-under : timesDown m x over m ≼ x
+    unfolding timesDown
+    timesDown-under = record { cross = rw is (omega (arith, roundDown-le (natural m ⊗ x))) }
+
+    pub timesDown-next : x ≼ (timesDown m x + 1) over m
+    unfolding timesDown
+    timesDown-next = record { cross = rw is (omega (arith, roundDown-gt (natural m ⊗ x))) }
+
+    pub timesUp-over : x ≼ timesUp m x over m
+    unfolding timesUp
+    timesUp-over = record { cross = rw is (omega (arith, roundUp-ge (natural m ⊗ x))) }
+
+  pub times-next : timesUp m x ≤ timesDown m x + 1
+  unfolding timesDown timesUp
+  times-next = round-gap (natural m ⊗ x) (natural m ⊗ x) 0 (record { cross = omega arith })
+
+  pub timesUp-most : (n : ℕ) → x ≼ natural n → timesUp m x ≤ m * n
+  unfolding timesUp
+  timesUp-most n h = roundUp-ceiling (natural m ⊗ x) .least (m * n) (record { cross = omega (arith, mul-le-mul-left m (h .cross)) })
+
+module _ (m : ℕ) {x y : Frac} (h : x ≼ y) where
+  pub timesDown-mono : timesDown m x ≤ timesDown m y
+  unfolding timesDown
+  timesDown-mono = roundDown-mono (⊗-mono (≼-refl (natural m)) h)
+
+  pub timesUp-mono : timesUp m x ≤ timesUp m y
+  unfolding timesUp
+  timesUp-mono = roundUp-mono (⊗-mono (≼-refl (natural m)) h)
 
 -- ---- the product of two numbers of scales s and t, in the scale r
 

@@ -1,7 +1,7 @@
 -- The code's numbers: what it computes from the terms of f_VPD, f_SW and f_phen is the opening's pair and the share's, and fits 64 bits.
 use Prim.Native.Nat.{ℕ, _+_, _-_, _*_, _/_, _^_, _≤_, _<_, max}
-use mathlib.Core.Path.{_≡_, sym}
-use native.Mathlib.Nat.{mul-le-mul, mul-le-mul-left, mul-div-cancel, mul-add-div-right, div-eq-of-lt}
+use mathlib.Core.Path.{_≡_, sym, ap, ap₂, _∙_}
+use native.Mathlib.Nat.{mul-le-mul, mul-le-mul-left, mul-div-cancel, div-mul-le-self, mul-add-div-right, div-eq-of-lt}
 use native.Mathlib.Omega.{arith}
 use mir.Syntax.{w64}
 use mir.Val.{Fits}
@@ -16,13 +16,13 @@ use Rattle.trees.proofs.TermLaws.{Small, deficit-small, soilWater-small, phenol
 use Rattle.flux.specs.Steps.{Factor}
 use Rattle.flux_spec.specs.declared.Stand.{Stand}
 use Rattle.flux_spec.specs.Light.{lightLow, lightUp}
-use Rattle.flux_spec.specs.Deficit.{deficitLow, deficitUp}
+use Rattle.flux_spec.specs.Deficit.{vpdOf, deficitLow, deficitUp}
 use Rattle.flux_spec.specs.Conductance.{aboveOf, phenologyIn}
 use Rattle.flux_spec.specs.Pair.{openingLow, openingUp, shareLow, shareUp}
 use Rattle.exact.specs.declared.Fraction.{Fraction}
-use Rattle.exact.specs.Frac.{Frac, Is, natural, _≼_}
+use Rattle.exact.specs.Frac.{Frac, Is, natural, _over_, _≼_}
 use Rattle.exact.specs.Rounding.{roundUp, roundDown, timesUp, timesDown}
-use Rattle.exact.proofs.RoundingLaws.{timesDown-is, timesUp-is, timesDown-le, timesUp-le}
+use Rattle.exact.proofs.RoundingLaws.{round-whole, round-rest, timesDown-is, timesUp-is, timesDown-le, timesUp-le}
 use Rattle.records.specs.declared.Hour.{Hour}
 use Rattle.frames.specs.Layout.{soilNumber}
 
@@ -55,6 +55,21 @@ module _ (n : ℕ) (x : Fraction) (factor : Factor x) where
 pub product-lt : {a b : ℕ} → a ≤ 10 ^ 9 + 1 → b ≤ 10 ^ 9 + 1 → a * b + 10 ^ 11 < 10 ^ 19
 product-lt h k = omega (arith, mul-le-mul h k)
 
+-- ---- n/d, by one division
+module _ (n d : ℕ) (pos : 0 < d) where
+  pub over-down : roundDown (n over d) ≡ n / d
+  unfolding roundDown
+  over-down = let is : max 1 d ≡ d = omega arith in rw is
+
+  times-is : roundDown (n over d) * (n over d) .den ≡ n / d * d
+  times-is = ap₂ (λ q m. q * m) over-down (omega arith)
+
+  pub over-whole : n ≤ n / d * d → roundUp (n over d) ≡ n / d
+  over-whole h = round-whole (n over d) (omega (arith, times-is, div-mul-le-self n d)) ∙ over-down
+
+  pub over-rest : n / d * d < n → roundUp (n over d) ≡ n / d + 1
+  over-rest h = round-rest (n over d) (omega (arith, times-is)) ∙ ap (λ (q : ℕ). q + 1) over-down
+
 -- ---- the factors
 
 factor-is : {r : Fraction} {x : Frac} → Is r x → x ≼ natural 1 → Small x → Factor r
@@ -85,7 +100,7 @@ module _ (n : ℕ) {r : Fraction} {x : Frac} (i : Is r x) where
   up-is = rw (timesUp-is n x, i .num, i .den)
 
 module _ (f : Figures) (h : Hour) {vpd sw : Fraction} where
-  module _ (v : Is vpd (deficitOf f (h .vpd))) (w : Is sw (soilWaterOf f (soilNumber (h .soil)))) where
+  module _ (v : Is vpd (deficitOf f (vpdOf (h .air)))) (w : Is sw (soilWaterOf f (soilNumber (h .soil)))) where
     pub openingLow-is :
         {t : ℕ} → t ≡ temperaturePair f (aboveOf (h .temperature)) .lower →
         max (f .fmin * 10 ^ 7) (t * vpd .num / vpd .den * sw .num / sw .den) ≡ openingLow f h

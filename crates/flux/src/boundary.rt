@@ -1,6 +1,7 @@
 // √(leaf/wind), for Rb (document 01, "Factors").
 ghost use mathlib.Core.Path.{_≡_};
-ghost use Prim.Native.Nat.{_+_, _*_, _≤_, _<_};
+ghost use mathlib.Core.Bool.{true};
+ghost use Prim.Native.Nat.{_≤_, _<_};
 ghost use Rattle.exact.specs.Root.{squareRoot};
 ghost use Rattle.flux_spec.specs.BoundaryLayer.{windRead};
 ghost use Rattle.flux_spec.specs.Pair.{rootLow};
@@ -39,16 +40,17 @@ fn nearer(n: u64, r: u64) -> u64 {
     std::num::wrapping_add_u64(r, n / r) / 2
 }
 
-// r where it is √n, rounded down, and the next is known to be above it.
-fn under(n: u64, r: u64) -> u64
-    requires small { ⌜ (n < 1125899906842624) × (r ≤ 33554431) ⌝ }
-    requires next { ⌜ n < (r + 1) * (r + 1) ⌝ }
-    ensures { λ q. ⌜ q ≡ squareRoot n ⌝ }
+// r is √n, rounded down.
+fn is_root(n: u64, r: u64) -> bool
+    ensures { λ b. ⌜ (b ≡ true → r ≡ squareRoot n) ⌝ }
 {
-    if n < r * r {
-        return halving(n);
+    if 33554431 < r {
+        return false;
     }
-    r
+    if n < r * r {
+        return false;
+    }
+    n < (r + 1) * (r + 1)
 }
 
 // r or the one before it where that is √n, rounded down: Newton's steps come from above.
@@ -56,16 +58,14 @@ fn tested(n: u64, r: u64) -> u64
     requires { ⌜ n < 1125899906842624 ⌝ }
     ensures { λ q. ⌜ q ≡ squareRoot n ⌝ }
 {
-    if 33554431 < r {
-        return halving(n);
+    if is_root(n, r) {
+        return r;
     }
-    if n < r * r {
-        return under(n, r - 1);
+    let before = std::num::wrapping_sub_u64(r, 1);
+    if is_root(n, before) {
+        return before;
     }
-    if (r + 1) * (r + 1) <= n {
-        return halving(n);
-    }
-    r
+    halving(n)
 }
 
 // √n, rounded down: two steps reach it nearly always.

@@ -1,7 +1,9 @@
-// One hour's dose, step by step: f_temp, the opening, the share of the maximal conductance, the pair.
+// One hour's dose, step by step: f_temp, the opening, the share of the maximal conductance, the concentration, the pair. t is the temperature in tenths of
+// a degree above -50.0 °C.
 use crate::boundary;
 use crate::dose;
 use crate::light;
+use crate::ozone;
 use crate::scale;
 use crate::share;
 use exact::Bounds;
@@ -16,19 +18,18 @@ ghost use Rattle.trees.specs.Steps.{Tabled};
 ghost use Rattle.trees.specs.Temperature.{temperaturePair};
 ghost use Rattle.flux_spec.specs.Conductance.{aboveOf};
 ghost use Rattle.flux_spec.specs.Pair.{openingLow, openingUp, shareLow, shareUp, rootLow, quotient, hourPair};
-ghost use Rattle.flux_spec.specs.Enclosure.{Limited};
 ghost use Rattle.records.specs.Answers.{accepted};
 ghost use Rattle.records.specs.Ranges.{checked};
 ghost use Rattle.records.specs.declared.Record.{Record};
 
 // f_temp, in units of 10⁻⁹; an hour that row 10 lets pass has no reading above 60.0 °C.
-fn temperature(f: Figures, h: Hour) -> Bounds
+fn temperature(f: Figures, t: u16) -> Bounds
     requires tabled { ⌜ Tabled f ⌝ }
-    requires highest { ⌜ aboveOf (h .temperature) ≤ 1100 ⌝ }
-    ensures { λ r. ⌜ r ≡ temperaturePair f (aboveOf (h .temperature)) ⌝ }
+    requires highest { ⌜ t ≤ 1100 ⌝ }
+    ensures { λ r. ⌜ r ≡ temperaturePair f t ⌝ }
 {
     let curve = f.curve;
-    let Factored::Pair(pair) = tables::f_temp(curve, scale::above(h.temperature)) else {
+    let Factored::Pair(pair) = tables::f_temp(curve, t) else {
         return Bounds { lower: 0, upper: 0 };
     };
     pair
@@ -41,7 +42,8 @@ fn opening(f: Figures, t: Bounds, h: Hour) -> Bounds
     ensures lower { λ r. ⌜ r .lower ≡ openingLow f h ⌝ }
     ensures upper { λ r. ⌜ r .upper ≡ openingUp f h ⌝ }
 {
-    let vpd = trees::factors::f_vpd(f, h.vpd);
+    let air = h.air;
+    let vpd = trees::factors::f_vpd(f, scale::vpd(air));
     let soil = h.soil;
     let sw = trees::factors::f_sw(f, scale::soil_number(soil));
     Bounds {
@@ -51,8 +53,9 @@ fn opening(f: Figures, t: Bounds, h: Hour) -> Bounds
 }
 
 // f_phen × f_light × the opening, in units of 10⁻⁷.
-fn shares(stand: Stand, o: Bounds, h: Hour) -> Bounds
+fn shares(stand: Stand, o: Bounds, h: Hour, t: u16) -> Bounds
     requires sound { ⌜ Sound (stand .figures) ⌝ }
+    requires temperature { ⌜ t ≡ aboveOf (h .temperature) ⌝ }
     requires bright { ⌜ h .ppfd ≤ 3000 ⌝ }
     requires lower { ⌜ o .lower ≡ openingLow (stand .figures) h ⌝ }
     requires upper { ⌜ o .upper ≡ openingUp (stand .figures) h ⌝ }
@@ -60,13 +63,7 @@ fn shares(stand: Stand, o: Bounds, h: Hour) -> Bounds
     ensures upper { λ r. ⌜ r .upper ≡ shareUp stand h ⌝ }
 {
     let f = stand.figures;
-    let phen = trees::phen::f_phen(
-        f,
-        stand.first,
-        stand.last,
-        h.day,
-        scale::above(h.temperature),
-    );
+    let phen = trees::phen::f_phen(f, stand.first, stand.last, h.day, t);
     let l = light::factor(f.lighta, h.ppfd);
     Bounds {
         lower: share::share_low(l.lower, phen, o.lower),
@@ -81,34 +78,34 @@ fn less(n: u64, m: u64) -> u64
     if m < n { n - m } else { 0 }
 }
 
-// The pair from the share's, in nmol m⁻².
-fn pair(gmax: u16, leaf: u16, s: Bounds, ozone: u16, wind: u16) -> Bounds
+// The pair from the concentration's and the share's, in nmol m⁻².
+fn pair(gmax: u16, leaf: u16, wind: u16, c: Bounds, s: Bounds) -> Bounds
     requires gmax { ⌜ gmax ≤ 500 ⌝ }
     requires leaf { ⌜ leaf ≤ 200 ⌝ }
-    requires ozone { ⌜ ozone ≤ 5000 ⌝ }
-    requires lower { ⌜ s .lower ≤ 10000003 ⌝ }
-    requires upper { ⌜ s .upper ≤ 10000003 ⌝ }
-    ensures lower { λ r. ⌜ r .lower ≡ quotient gmax ozone (s .lower) (rootLow leaf wind + 1) 1 - 3600 ⌝ }
-    ensures upper { λ r. ⌜ r .upper ≡ quotient gmax ozone (s .upper) (rootLow leaf wind) 0 - 3599 ⌝ }
+    requires concentration { ⌜ (c .lower ≤ 533592000) × (c .upper ≤ 533592000) ⌝ }
+    requires share { ⌜ (s .lower ≤ 10000003) × (s .upper ≤ 10000003) ⌝ }
+    ensures lower { λ r. ⌜ r .lower ≡ quotient gmax (c .lower) (s .lower) (rootLow leaf wind + 1) 1 - 3600 ⌝ }
+    ensures upper { λ r. ⌜ r .upper ≡ quotient gmax (c .upper) (s .upper) (rootLow leaf wind) 0 - 3599 ⌝ }
 {
     let g = gmax as u64;
-    let c = ozone as u64;
     let r = boundary::root_low(leaf, wind);
     Bounds {
-        lower: less(dose::quotient(g, c, s.lower, r + 1, 1), 3600),
-        upper: less(dose::quotient(g, c, s.upper, r, 0), 3599),
+        lower: less(dose::quotient(g, c.lower, s.lower, r + 1, 1), 3600),
+        upper: less(dose::quotient(g, c.upper, s.upper, r, 0), 3599),
     }
 }
 
 // The pair of an hour that row 10 lets pass.
 pub(crate) fn dosed(stand: Stand, h: Hour) -> Bounds
-    requires limited { ⌜ Limited (stand .figures) ⌝ }
+    requires sound { ⌜ Sound (stand .figures) ⌝ }
     requires tabled { ⌜ Tabled (stand .figures) ⌝ }
     requires checked { ⌜ checked (Record.Hour h) ≡ accepted tt ⌝ }
     ensures { λ r. ⌜ r ≡ hourPair stand h ⌝ }
 {
     let f = stand.figures;
-    let o = opening(f, temperature(f, h), h);
-    let s = shares(stand, o, h);
-    pair(f.gmax, f.leaf, s, h.ozone, h.wind)
+    let t = scale::above(h.temperature);
+    let o = opening(f, temperature(f, t), h);
+    let s = shares(stand, o, h, t);
+    let c = ozone::concentration(h, t);
+    pair(f.gmax, f.leaf, h.wind, c, s)
 }

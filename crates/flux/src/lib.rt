@@ -4,6 +4,7 @@ mod decay;
 mod dose;
 mod hour;
 mod light;
+mod ozone;
 mod rows;
 mod scale;
 mod share;
@@ -13,7 +14,6 @@ pub use flux_spec::Dosed;
 use flux_spec::Stand;
 use frames::Checked;
 use frames::Hour;
-use frames::Record;
 use frames::Refusal;
 use trees::Choice;
 ghost use mathlib.Core.Path.{_≡_};
@@ -36,14 +36,11 @@ pub fn hour_dose(tree: u8, first: u16, last: u16, h: Hour) -> Dosed
     if rows::days_out(figures, first, last) {
         return Dosed::Refused(Refusal::Period);
     }
-    let answer = frames::check(Record::Hour(h));
-    if let Checked::Refused(refusal) = answer {
-        return Dosed::Refused(refusal);
-    }
     let measure = figures.measure;
     let soil = h.soil;
-    if rows::other_measure(measure, soil) {
-        return Dosed::Refused(Refusal::Range(7));
+    let answer = records::check_hour(h, rows::soil_unfit(measure, soil));
+    if let Checked::Refused(refusal) = answer {
+        return Dosed::Refused(refusal);
     }
     if h.radiation <= 50 {
         return Dosed::Pair(Bounds { lower: 0, upper: 0 });

@@ -3,7 +3,7 @@ use frames::Soil;
 use trees::Figures;
 use trees::Measure;
 ghost use mathlib.Core.Path.{_≡_};
-ghost use Rattle.flux_spec.specs.HourDose.{daysOut, otherMeasure};
+ghost use Rattle.flux_spec.specs.HourDose.{daysOut, otherMeasure, soilUnfit};
 
 // Row 7 where the year is not known: no year has more than 366 days.
 pub(crate) fn days_out(f: Figures, first: u16, last: u16) -> bool
@@ -22,7 +22,7 @@ pub(crate) fn days_out(f: Figures, first: u16, last: u16) -> bool
 }
 
 // The soil is not in the tree's measure.
-pub(crate) fn other_measure(measure: Measure, soil: Soil) -> bool
+fn other_measure(measure: Measure, soil: Soil) -> bool
     ensures { λ r. ⌜ r ≡ otherMeasure measure soil ⌝ }
 {
     match measure {
@@ -35,4 +35,14 @@ pub(crate) fn other_measure(measure: Measure, soil: Soil) -> bool
             Soil::Water(_) => false,
         },
     }
+}
+
+// The soil is out of range, or not in the tree's measure.
+pub(crate) fn soil_unfit(measure: Measure, soil: Soil) -> bool
+    ensures { λ r. ⌜ r ≡ soilUnfit measure soil ⌝ }
+{
+    if records::soil_out(soil) {
+        return true;
+    }
+    other_measure(measure, soil)
 }

@@ -1,10 +1,11 @@
-// Rows of a call: tree (two hexadecimal digits), first and last day (four each), the soil's measure (S suction, W water), with single spaces, and the
-// hour's numbers as they stand in its line after the kind. The answer for each row on a line of its own.
+// Rows of a call: tree (two hexadecimal digits), first and last day (four each), the soil's measure (S suction, W water) and the hour's line, with
+// single spaces. The answer for each row on a line of its own.
 use crate::answers::print_dosed;
 use cases::i16_at;
 use cases::print;
 use cases::u8_at;
 use cases::u16_at;
+use frames::Air;
 use frames::Hour;
 use frames::Soil;
 
@@ -16,24 +17,37 @@ fn soil_of(measure: u8, n: u16) -> Soil {
     }
 }
 
+// What the hour says of the air, by its kind.
+fn air_of(row: &[u8]) -> Air {
+    let deficit = u16_at(row, 39);
+    match u8_at(row, 15) {
+        4 => Air::Pressure {
+            deficit,
+            pressure: u16_at(row, 51),
+        },
+        _ => Air::Deficit(deficit),
+    }
+}
+
 // The hour of a row, unchecked.
 fn hour_of(row: &[u8], measure: u8) -> Hour {
-    let soil = soil_of(measure, u16_at(row, 45));
+    let air = air_of(row);
+    let soil = soil_of(measure, u16_at(row, 47));
     Hour {
-        day: u16_at(row, 15),
-        hour: u8_at(row, 19),
-        ozone: u16_at(row, 21),
-        ppfd: u16_at(row, 25),
-        radiation: u16_at(row, 29),
-        temperature: i16_at(row, 33),
-        vpd: u16_at(row, 37),
-        wind: u16_at(row, 41),
+        day: u16_at(row, 17),
+        hour: u8_at(row, 21),
+        ozone: u16_at(row, 23),
+        ppfd: u16_at(row, 27),
+        radiation: u16_at(row, 31),
+        temperature: i16_at(row, 35),
+        air,
+        wind: u16_at(row, 43),
         soil,
     }
 }
 
 fn print_row(row: &[u8]) {
-    if row.len() != 49 {
+    if row.len() < 51 {
         return;
     }
     let h = hour_of(row, row[13]);

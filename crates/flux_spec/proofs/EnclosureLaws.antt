@@ -1,21 +1,23 @@
--- The hour's pair encloses its dose, for any sound figures of the six trees' limits.
+-- The hour's pair encloses its dose, for any sound figures.
 use Prim.Native.Nat.{ℕ, _+_, _^_, _≤_}
 use mathlib.Core.Path.{_≡_, sym, ap, _∙_}
 use native.Mathlib.Omega.{arith}
 use Rattle.trees.specs.declared.Figures.{Figures}
 use Rattle.trees.specs.declared.Choice.{Choice}
 use Rattle.trees.specs.Figures.{figuresOf}
+use Rattle.trees.specs.Sound.{Sound}
 use Rattle.trees.proofs.SoundLaws.{figures-all, figures-sound}
 use Rattle.flux_spec.specs.declared.Stand.{Stand}
 use Rattle.flux_spec.specs.BoundaryLayer.{windRead}
 use Rattle.flux_spec.specs.Light.{lightAt}
 use Rattle.flux_spec.specs.Conductance.{shareAt}
-use Rattle.flux_spec.specs.Dose.{fluxAt, doseAt}
+use Rattle.flux_spec.specs.Dose.{concentration, fluxAt, doseAt}
 use Rattle.flux_spec.specs.Pair.{lowerOf, upperOf, shareLow, shareUp}
 use Rattle.flux_spec.specs.Enclosure.{Limited, HourEnclosed, Answered, Enclosure}
 use Rattle.flux_spec.specs.HourDose.{standOf, standFor, addedPair, hourDoseOf}
 use Rattle.exact.specs.declared.Bounds.{Bounds}
 use Rattle.exact.specs.Frac.{natural, _over_, _≼_}
+use Rattle.exact.proofs.FracLaws.{≼-refl}
 use Rattle.records.specs.declared.Hour.{Hour}
 use Rattle.records.specs.declared.Record.{Record}
 use Rattle.records.specs.Answers.{accepted}
@@ -27,11 +29,11 @@ use Rattle.flux_spec.proofs.BoundaryLaws.{rootUpAt-anti}
 use Rattle.flux_spec.proofs.FluxLaws.{doseAt-is, dose-mono}
 use Rattle.flux_spec.proofs.ShareLaws.{shareAt-mono, share-low, share-high, share-order, share-gap, shareUp-le}
 use Rattle.flux_spec.proofs.HourDoseLaws.{stand-passed}
-use Rattle.flux_spec.proofs.PairLaws.{lowerOf-under, upperOf-over, lowerOf-le, upperOf-le, upperOf-gap, pair-none}
+use Rattle.flux_spec.proofs.PairLaws.{lowerOf-under, upperOf-over, lowerOf-le, upperOf-le, upperOf-gap, pair-none, ozone-grows}
 
 -- ---- one hour
 
-module _ (stand : Stand) (lim : Limited (stand .figures)) (h : Hour) where
+module _ (stand : Stand) (s : Sound (stand .figures)) (h : Hour) where
   abbrev f : Figures
   f = stand .figures
 
@@ -41,7 +43,7 @@ module _ (stand : Stand) (lim : Limited (stand .figures)) (h : Hour) where
   pub doseAt-mono : (k l : ℕ) → k ≤ l → doseAt k stand h ≼ doseAt l stand h
   doseAt-mono k l j =
       rw (doseAt-is k stand h, doseAt-is l stand h)
-      (dose-mono (f .gmax) (h .ozone) _ _ _ _ (shareAt-mono stand (lim .sound) h light-mono k l j)
+      (dose-mono (f .gmax) (≼-refl (concentration h)) (shareAt-mono stand s h light-mono k l j)
       (rootUpAt-anti (f .leaf) (windRead (h .wind)) (omega arith) j))
 
   module _ (passed : checked (Record.Hour h) ≡ accepted tt) where
@@ -49,39 +51,39 @@ module _ (stand : Stand) (lim : Limited (stand .figures)) (h : Hour) where
     range = checked-passed (Record.Hour h) passed
 
     steep : f .lighta ≤ 200
-    steep = lim .sound .lighta .1
+    steep = s .lighta .1
 
     share-under : shareLow stand h over 10 ^ 7 ≼ shareAt lightTerms stand h
     share-under =
-        share-low stand (lim .sound) h light-mono lightTerms (light-low f (h .ppfd) steep (range .ppfd)) lightTerms (omega arith) (omega arith)
+        share-low stand s h light-mono lightTerms (light-low f (h .ppfd) steep (range .ppfd)) lightTerms (omega arith) (omega arith)
 
     pub lower-under : natural (lowerOf stand h) ≼ doseAt lightTerms stand h
     lower-under = lowerOf-under stand h lightTerms (omega arith) share-under
 
     pub upper-over : (k : ℕ) → doseAt k stand h ≼ natural (upperOf stand h)
-    upper-over k = upperOf-over stand h k (share-high stand (lim .sound) h (light-high f (h .ppfd) steep (range .ppfd)) k)
+    upper-over k = upperOf-over stand h k (share-high stand s h (light-high f (h .ppfd) steep (range .ppfd)) k)
 
     pub shares-order : shareLow stand h ≤ shareUp stand h
-    shares-order = share-order stand (lim .sound) h (light-order f (h .ppfd))
+    shares-order = share-order stand s h (light-order f (h .ppfd))
 
     pub shares-top : shareUp stand h ≤ 10000003
-    shares-top = omega (arith, shareUp-le stand (lim .sound) h (lightUp-le f (h .ppfd)))
+    shares-top = omega (arith, shareUp-le stand s h (lightUp-le f (h .ppfd)))
 
-    near : shareUp stand h ≤ shareLow stand h + 3
-    near = omega (arith, share-gap stand (lim .sound) h (lightUp-le f (h .ppfd)) (light-gap f (h .ppfd)) (light-order f (h .ppfd)))
+    near : shareUp stand h ≤ shareLow stand h + 5
+    near = omega (arith, share-gap stand s h (lightUp-le f (h .ppfd)) (light-gap f (h .ppfd)) (light-order f (h .ppfd)))
 
     no-dose :
         (m : ℕ) → m ≤ 3598 → ((k : ℕ) → fluxAt k stand h ≼ m over 3600) → (lowerOf stand h ≡ 0) × (upperOf stand h ≡ 0)
     no-dose m le few =
-        pair-none stand h (lim .gmax) (range .ozone) shares-top shares-order near m lightTerms le (omega arith) share-under (few lightTerms)
+        pair-none stand h (s .gmax .1) range shares-top shares-order near m lightTerms le (omega arith) share-under (few lightTerms)
 
     pub hour-enclosed : HourEnclosed stand h
     hour-enclosed = record {
       low = record { at = lightTerms; under = lower-under };
       high = record { every = upper-over };
       order = lowerOf-le stand h shares-order;
-      gap = upperOf-gap stand h (lim .gmax) (range .ozone) shares-top shares-order near;
-      most = upperOf-le stand h (lim .gmax) (range .ozone) shares-top;
+      gap = upperOf-gap stand h (s .gmax .1) range shares-top shares-order near;
+      most = upperOf-le stand h (s .gmax .1) range shares-top;
       grows = doseAt-mono;
       none = no-dose _ (omega arith);
     }
@@ -105,8 +107,8 @@ answered tree first last h pair e =
       figures = stand .figures;
       named = p .named;
       is = sym (accepted-same (found .2)) ∙ ap (λ s. addedPair s h) (p .is);
-      enclosed = hour-enclosed (standOf (stand .figures) first last) (tree-limited tree (stand .figures) (p .named)) h (p .checks);
+      enclosed = hour-enclosed (standOf (stand .figures) first last) (figures-sound tree (stand .figures) (p .named)) h (p .checks);
     }
 
 pub enclosure : Enclosure
-enclosure = record { trees = tree-limited; hour = hour-enclosed; answer = answered }
+enclosure = record { trees = tree-limited; hour = hour-enclosed; ozone = ozone-grows; answer = answered }

@@ -1,7 +1,7 @@
 -- What the hour's dose is, by each of the tests before it; and what an hour that none of them refuses has passed.
 use Prim.Native.Nat.{ℕ, _+_, _≤_}
 use mathlib.Core.Path.{_≡_, refl}
-use mathlib.Core.Bool.{true, false, _||_}
+use mathlib.Core.Bool.{Bool, true, false, or-false, _||_}
 use native.Mathlib.Omega.{arith}
 use borrow.Author.Tests.{ltb-false, le-ltb}
 use lib.Dec.{ltb}
@@ -15,13 +15,14 @@ use Rattle.records.specs.declared.Hour.{Hour}
 use Rattle.records.specs.declared.RawHour.{RawHour}
 use Rattle.records.specs.declared.Record.{Record}
 use Rattle.records.specs.Answers.{accepted, refused}
-use Rattle.records.specs.Ranges.{periodOut, checked}
-use Rattle.records.proofs.AnswerLaws.{accepted-same, or-neither, row-passed, onward-passed}
+use Rattle.records.specs.Ranges.{deficitOut, soilOut, periodOut, hourChecked, checked}
+use Rattle.records.specs.Temperature.{temperatureOut}
+use Rattle.records.proofs.AnswerLaws.{accepted-same, refused-not-accepted, or-neither, row-passed, onward-passed}
 use Rattle.frames.specs.Layout.{soilOf, hourOf}
 use Rattle.flux_spec.specs.declared.Stand.{Stand}
 use Rattle.flux_spec.specs.Dose.{isCounted}
 use Rattle.flux_spec.specs.Pair.{hourPair}
-use Rattle.flux_spec.specs.HourDose.{standOf, daysOut, otherMeasure, standFor, hourDoseOf}
+use Rattle.flux_spec.specs.HourDose.{standOf, daysOut, otherMeasure, soilUnfit, standFor, hourDoseOf}
 
 -- ---- refused, by each row
 
@@ -36,30 +37,52 @@ module _ (choice : Choice) (first last : ℕ) (h : Hour) where
     days-out-is out = rw (e, out)
 
     module _ (days : daysOut f first last ≡ false) where
-      pub reading-out-is : (row : ℕ × ℕ) → checked (Record.Hour h) ≡ refused row → refused row ≡ hourDoseOf choice first last h
+      pub reading-out-is : (row : ℕ × ℕ) → hourChecked (soilUnfit (f .measure) (h .soil)) h ≡ refused row → refused row ≡ hourDoseOf choice first last h
       unfolding hourDoseOf standFor
       reading-out-is row out = rw (e, days, out)
 
-      module _ (passed : checked (Record.Hour h) ≡ accepted tt) where
-        pub measure-out-is : otherMeasure (f .measure) (h .soil) ≡ true → refused (10, 7) ≡ hourDoseOf choice first last h
-        unfolding hourDoseOf standFor
-        measure-out-is out = rw (e, days, passed, out)
+      -- ---- accepted
 
-        -- ---- accepted
-
-        pub stand-is : otherMeasure (f .measure) (h .soil) ≡ false → standFor choice first last h ≡ accepted (standOf f first last)
+      module _ (passed : hourChecked (soilUnfit (f .measure) (h .soil)) h ≡ accepted tt) where
+        pub stand-is : standFor choice first last h ≡ accepted (standOf f first last)
         unfolding standFor
-        stand-is own = rw (e, days, passed, own)
+        stand-is = rw (e, days, passed)
 
-        module _ (own : otherMeasure (f .measure) (h .soil) ≡ false) where
-          pub counted-is :
-              isCounted h ≡ true → (pair : Bounds) → pair ≡ hourPair (standOf f first last) h → accepted pair ≡ hourDoseOf choice first last h
-          unfolding hourDoseOf
-          counted-is counted pair p = rw (stand-is own, counted, p)
+        pub counted-is : isCounted h ≡ true → (pair : Bounds) → pair ≡ hourPair (standOf f first last) h → accepted pair ≡ hourDoseOf choice first last h
+        unfolding hourDoseOf
+        counted-is counted pair p = rw (stand-is, counted, p)
 
-          pub uncounted-is : isCounted h ≡ false → accepted (record { lower = 0; upper = 0 }) ≡ hourDoseOf choice first last h
-          unfolding hourDoseOf
-          uncounted-is dark = rw (stand-is own, dark)
+        pub uncounted-is : isCounted h ≡ false → accepted (record { lower = 0; upper = 0 }) ≡ hourDoseOf choice first last h
+        unfolding hourDoseOf
+        uncounted-is dark = rw (stand-is, dark)
+
+-- ---- row 10 with the measure, and without it
+
+-- a soil that is unfit is refused
+unfit-out : (h : Hour) → hourChecked true h ≡ accepted tt → ⊥
+unfit-out h e =
+    let ozone = row-passed (ltb 5000 (h .ozone)) _ _ tt e in
+    let ppfd = row-passed (ltb 3000 (h .ppfd)) _ _ tt (ozone .1) in
+    let radiation = row-passed (ltb 1500 (h .radiation)) _ _ tt (ppfd .1) in
+    let temperature = row-passed (temperatureOut (h .temperature)) _ _ tt (radiation .1) in
+    let deficit = row-passed (deficitOut (h .air)) _ _ tt (temperature .1) in
+    let wind = row-passed (ltb 6000 (h .wind)) _ _ tt (deficit .1) in
+    refused-not-accepted (wind .1)
+
+by-tests : (h : Hour) (out other : Bool) → hourChecked (out || other) h ≡ accepted tt → hourChecked out h ≡ accepted tt
+by-tests h true other e = e
+by-tests h false true e = absurd (unfit-out h e)
+by-tests h false false e = e
+
+-- row 10 lets it pass
+pub fit-checked : (m : Measure) (h : Hour) → hourChecked (soilUnfit m (h .soil)) h ≡ accepted tt → checked (Record.Hour h) ≡ accepted tt
+unfolding checked
+fit-checked m h e = by-tests h (soilOut (h .soil)) (otherMeasure m (h .soil)) e
+
+-- and the other way for a soil in the tree's measure
+checked-fit : (m : Measure) (h : Hour) → otherMeasure m (h .soil) ≡ false → checked (Record.Hour h) ≡ accepted tt → hourChecked (soilUnfit m (h .soil)) h ≡ accepted tt
+unfolding checked
+checked-fit m h own e = rw (own, or-false (soilOut (h .soil))) e
 
 -- ---- what an hour that no row refuses has passed
 
@@ -72,9 +95,8 @@ pub stand-passed : (choice : Choice) (first last : ℕ) (h : Hour) (stand : Stan
 unfolding standFor
 stand-passed (Choice.Tree f) first last h stand e =
     let days = row-passed (daysOut f first last) _ _ stand e in
-    let range = onward-passed (checked (Record.Hour h)) _ stand (days .1) in
-    let own = row-passed (otherMeasure (f .measure) (h .soil)) _ _ stand (range .2) in
-    rw (← accepted-same (own .1)) (record { named = refl; is = refl; checks = range .1 })
+    let range = onward-passed (hourChecked (soilUnfit (f .measure) (h .soil)) h) _ stand (days .1) in
+    rw (← accepted-same (range .2)) (record { named = refl; is = refl; checks = fit-checked (f .measure) h (range .1) })
 stand-passed Choice.Unknown first last h stand e = let z : _≡_ {A = ℕ} 0 1 = cc in absurd (omega arith)
 
 -- ---- an hour frame, read in the tree's measure, of a season whose header row 7 lets pass
@@ -96,4 +118,4 @@ pub frame-stand :
     standFor (figuresOf (header .tree)) (header .first) (header .last) (hourOf raw (f .measure)) ≡ accepted (standOf f (header .first) (header .last))
 unfolding hourOf
 frame-stand header f raw e period most passed =
-    stand-is _ (header .first) (header .last) _ f e (days-in header f period most) passed (own-measure (f .measure) (raw .soil))
+    stand-is _ (header .first) (header .last) _ f e (days-in header f period most) (checked-fit (f .measure) _ (own-measure (f .measure) (raw .soil)) passed)

@@ -1,4 +1,5 @@
 pub mod BoundaryLaws
+pub mod ConcentrationLaws
 pub mod FluxLaws
 pub mod QuotientSizes
 pub mod QuotientLaws

@@ -1,21 +1,35 @@
--- The hour's pair encloses its dose and is at most 2 apart, where the bounds of the share enclose the share and are at most 3 apart.
+-- The hour's pair encloses its dose and is at most 2 apart, where the bounds of the share enclose the share and are at most 5 apart.
+-- It never falls with a higher reading of ozone.
 use Prim.Native.Nat.{ℕ, _+_, _^_, _≤_}
 use mathlib.Core.Path.{_≡_}
 use native.Mathlib.Nat.{le-refl}
 use native.Mathlib.Omega.{arith}
 use Rattle.exact.specs.Frac.{natural, _over_, _≼_}
-use Rattle.exact.proofs.FracLaws.{≼-trans, over-mono}
+use Rattle.exact.proofs.FracLaws.{≼-refl, ≼-trans, over-mono}
 use Rattle.trees.specs.declared.Figures.{Figures}
 use Rattle.records.specs.declared.Hour.{Hour}
+use Rattle.frames.proofs.RangeLaws.{HourIn}
 use Rattle.flux_spec.specs.declared.Stand.{Stand}
 use Rattle.flux_spec.specs.BoundaryLayer.{windRead, rootUpAt}
-use Rattle.flux_spec.specs.Conductance.{shareAt}
-use Rattle.flux_spec.specs.Dose.{fluxAt, doseAt}
-use Rattle.flux_spec.specs.Pair.{shareLow, shareUp, rootLow, lowerOf, upperOf}
+use Rattle.flux_spec.specs.Deficit.{deficitAt, deficitLow, deficitUp}
+use Rattle.flux_spec.specs.Conductance.{phenologyIn, openingAt, shareAt}
+use Rattle.flux_spec.specs.Dose.{fluxAt, doseAt, withOzone}
+use Rattle.flux_spec.specs.Pair.{concentrationLow, concentrationUp, openingLow, openingUp, shareLow, shareUp, rootLow, quotient, lowerOf, upperOf}
+use Rattle.flux_spec.specs.Enclosure.{mostDose, gapDose, OzoneGrows}
 use Rattle.flux_spec.proofs.BoundaryLaws.{rootUpAt-anti, rootLow-le, rootUpAt-le}
-use Rattle.flux_spec.proofs.FluxLaws.{fluxAt-is, doseAt-is}
+use Rattle.flux_spec.proofs.ConcentrationLaws.{
+  concentration-low,
+  concentration-high,
+  concentration-order,
+  concentration-gap,
+  concentrationUp-le,
+  concentration-mono,
+  concentrationLow-mono,
+  concentrationUp-mono,
+}
+use Rattle.flux_spec.proofs.FluxLaws.{fluxAt-is, doseAt-is, dose-mono}
 use Rattle.flux_spec.proofs.QuotientLaws.{quotient-few, quotient-under, quotient-over, lower-le-upper}
-use Rattle.flux_spec.proofs.QuotientSizes.{quotient-near, quotient-gap, upper-le}
+use Rattle.flux_spec.proofs.QuotientSizes.{quotient-mono, quotient-small, quotient-near}
 
 module _ (stand : Stand) (h : Hour) where
   abbrev f : Figures
@@ -31,7 +45,7 @@ module _ (stand : Stand) (h : Hour) where
   unfolding lowerOf
   lowerOf-under k from7 share =
       rw (doseAt-is k stand h)
-      (quotient-under (f .gmax) (h .ozone) (shareLow stand h) _ _ _ share (≼-trans (root-under k from7) (over-mono (10 ^ 7) (omega arith))))
+      (quotient-under (f .gmax) _ (shareLow stand h) _ _ _ _ (≼-trans (over-mono 18000 (omega arith)) (concentration-low h)) share (≼-trans (root-under k from7) (over-mono (10 ^ 7) (omega arith))))
 
   pub upperOf-over :
       (k : ℕ) → shareAt k stand h ≼ shareUp stand h over 10 ^ 7 →
@@ -39,23 +53,29 @@ module _ (stand : Stand) (h : Hour) where
   unfolding upperOf
   upperOf-over k share =
       rw (doseAt-is k stand h)
-      (quotient-over (f .gmax) (h .ozone) (shareUp stand h) _ _ _ share (≼-trans (over-mono (10 ^ 7) (omega arith)) (rootLow-le (f .leaf) (h .wind) k)))
+      (quotient-over (f .gmax) _ (shareUp stand h) _ _ _ _ (≼-trans (concentration-high h) (over-mono 18000 (omega arith))) share (≼-trans (over-mono (10 ^ 7) (omega arith)) (rootLow-le (f .leaf) (h .wind) k)))
 
   pub lowerOf-le : shareLow stand h ≤ shareUp stand h → lowerOf stand h ≤ upperOf stand h
   unfolding lowerOf upperOf
-  lowerOf-le order = lower-le-upper (f .gmax) (h .ozone) order (omega arith)
+  lowerOf-le order = lower-le-upper (f .gmax) (concentration-order h) order (omega arith)
 
-  module _ (gmax-le : f .gmax ≤ 265) (ozone-le : h .ozone ≤ 5000) (share-le : shareUp stand h ≤ 10000003) where
-    pub upperOf-le : upperOf stand h ≤ 600000
+  module _ (gmax-le : f .gmax ≤ 500) (range : HourIn h) (share-le : shareUp stand h ≤ 10000003) where
+    pub upperOf-le : upperOf stand h ≤ mostDose (f .gmax)
     unfolding upperOf
-    upperOf-le = upper-le (f .gmax) (h .ozone) (shareUp stand h) (rootLow (f .leaf) (h .wind)) gmax-le ozone-le share-le
+    upperOf-le =
+        omega (arith, quotient-small (f .gmax) (concentrationUp h) (shareUp stand h) (rootLow (f .leaf) (h .wind)) 0 (concentrationUp-le h range) share-le)
 
-    module _ (order : shareLow stand h ≤ shareUp stand h) (near : shareUp stand h ≤ shareLow stand h + 3) where
-      pub upperOf-gap : upperOf stand h ≤ lowerOf stand h + 2
+    module _ (order : shareLow stand h ≤ shareUp stand h) (near : shareUp stand h ≤ shareLow stand h + 5) where
+      quotients-near :
+          quotient (f .gmax) (concentrationUp h) (shareUp stand h) (rootLow (f .leaf) (h .wind)) 0
+          ≤ quotient (f .gmax) (concentrationLow h) (shareLow stand h) (rootLow (f .leaf) (h .wind) + 1) 1 + 1
+      quotients-near =
+          quotient-near (f .gmax) (concentrationUp h) (shareUp stand h) (rootLow (f .leaf) (h .wind)) gmax-le (concentrationUp-le h range) share-le
+          (concentrationLow h) (shareLow stand h) (rootLow (f .leaf) (h .wind) + 1) (concentration-gap h) (concentration-order h) order near (le-refl _)
+
+      pub upperOf-gap : upperOf stand h ≤ lowerOf stand h + gapDose
       unfolding lowerOf upperOf
-      upperOf-gap =
-          quotient-gap (f .gmax) (h .ozone) (shareUp stand h) (rootLow (f .leaf) (h .wind)) gmax-le ozone-le share-le
-          (shareLow stand h) (rootLow (f .leaf) (h .wind) + 1) order near (le-refl _)
+      upperOf-gap = omega (arith, quotients-near)
 
       -- 3600·F is at most m at some k, so the lower quotient is, and the upper one is at most 1 more
       pub pair-none :
@@ -64,9 +84,30 @@ module _ (stand : Stand) (h : Hour) where
       unfolding lowerOf upperOf
       pair-none m k few-enough from7 share few =
           let low =
-          quotient-few (f .gmax) (h .ozone) (shareLow stand h) (rootLow (f .leaf) (h .wind) + 1) _ _ m share (root-under k from7)
+          quotient-few (f .gmax) (concentrationLow h) (shareLow stand h) (rootLow (f .leaf) (h .wind) + 1) _ _ _ (concentration-low h) share (root-under k from7) m
           (rw (fluxAt-is k stand h) at few) in
-          let up =
-          quotient-near (f .gmax) (h .ozone) (shareUp stand h) (rootLow (f .leaf) (h .wind)) gmax-le ozone-le share-le
-          (shareLow stand h) (rootLow (f .leaf) (h .wind) + 1) order near (le-refl _) in
-          (omega arith, omega arith)
+          (omega arith, omega (arith, quotients-near))
+
+-- ---- with a higher reading of ozone
+
+module _ (stand : Stand) (h : Hour) {m n : ℕ} (more : m ≤ n) where
+  lowerOf-mono : lowerOf stand (withOzone m h) ≤ lowerOf stand (withOzone n h)
+  unfolding lowerOf shareLow openingLow deficitLow phenologyIn
+  lowerOf-mono = omega (arith, quotient-mono (stand .figures .gmax) (shareLow stand h) (rootLow (stand .figures .leaf) (h .wind) + 1) 1 (concentrationLow-mono h more))
+
+  upperOf-mono : upperOf stand (withOzone m h) ≤ upperOf stand (withOzone n h)
+  unfolding upperOf shareUp openingUp deficitUp phenologyIn
+  upperOf-mono = omega (arith, quotient-mono (stand .figures .gmax) (shareUp stand h) (rootLow (stand .figures .leaf) (h .wind)) 0 (concentrationUp-mono h more))
+
+  doseAt-more : (k : ℕ) → doseAt k stand (withOzone m h) ≼ doseAt k stand (withOzone n h)
+  unfolding shareAt openingAt deficitAt phenologyIn
+  doseAt-more k =
+      rw (doseAt-is k stand (withOzone m h), doseAt-is k stand (withOzone n h))
+      (dose-mono (stand .figures .gmax) (concentration-mono h more) (≼-refl _) (≼-refl _))
+
+pub ozone-grows : (stand : Stand) (h : Hour) → OzoneGrows stand h
+ozone-grows stand h = record {
+  lower = λ m n more. lowerOf-mono stand h more;
+  upper = λ m n more. upperOf-mono stand h more;
+  dose = λ m n more. doseAt-more stand h more;
+}

@@ -1,44 +1,51 @@
--- The quotients, less 3600 or 3599, enclose the hour's dose between the bounds of its share and of its root.
+-- The quotients, less 3600 or 3599, enclose the hour's dose between the bounds of its concentration, of its share and of its root.
 use mathlib.Core.Path.{_≡_, refl, ap}
 use Prim.Native.Nat.{ℕ, zero, suc, _+_, _-_, _*_, _^_, _≤_, _<_}
 use native.Mathlib.Nat.{mul-le-mul-left, mul-le-mul-right, le-of-mul-le-mul-left, le-of-mul-le-mul-right}
 use native.Mathlib.Omega.{arith}
 use lib.Dec.{lit<}
 use Rattle.exact.specs.Frac.{Frac, natural, _over_, _≼_}
-use Rattle.exact.proofs.FracLaws.{≼-refl, ≼-trans}
+use Rattle.exact.proofs.FracLaws.{≼-refl, ≼-trans, over-mono}
 use Rattle.flux_spec.specs.Pair.{dividend, resisted, divisor, quotient}
-use Rattle.flux_spec.proofs.FluxLaws.{sharedFlux, sharedDose, flux-num, flux-den, dose-num, dose-den, flux-mono}
+use Rattle.flux_spec.proofs.FluxLaws.{denominator, sharedFlux, sharedDose, flux-num, flux-den, dose-num, dose-den, flux-mono}
 use Rattle.flux_spec.proofs.QuotientSizes.{quotient-le, quotient-lt}
 
--- ---- F at p/10⁷ and s/10⁷
+-- ---- F at c/18000, p/10⁷ and s/10⁷
 
 -- the divisor, not rounded, in units of 1/400000
-abbrev whole : ℕ → ℕ → ℕ → ℕ
+unfoldable whole : ℕ → ℕ → ℕ → ℕ
 whole g p s = 820000000000000000 + resisted g p s
 
-module _ (g o p s : ℕ) where
-  at-num : 9 * sharedFlux g o (p over 10 ^ 7) (s over 10 ^ 7) .num ≡ 20500000000000000000 * (1000 * dividend g o p)
-  unfolding dividend
-  at-num = omega (arith, flux-num g o (p over 10 ^ 7) (s over 10 ^ 7))
+whole-pos : (g p s : ℕ) → 0 < whole g p s
+unfolding whole
+whole-pos g p s = omega arith
 
-  at-den : sharedFlux g o (p over 10 ^ 7) (s over 10 ^ 7) .den ≡ 20500000000000000000 * whole g p s
-  unfolding resisted
-  at-den = omega (arith, flux-den g o (p over 10 ^ 7) (s over 10 ^ 7))
+module _ (g c p s : ℕ) where
+  at-num : sharedFlux g (c over 18000) (p over 10 ^ 7) (s over 10 ^ 7) .num ≡ 41000000000000000000 * (1000 * dividend g c p)
+  unfolding dividend
+  at-num = omega (arith, flux-num g (c over 18000) (p over 10 ^ 7) (s over 10 ^ 7))
+
+  at-whole : denominator g p (10 ^ 7) s (10 ^ 7) ≡ 50000 * whole g p s
+  unfolding denominator whole resisted
+  at-whole = omega arith
+
+  at-den : sharedFlux g (c over 18000) (p over 10 ^ 7) (s over 10 ^ 7) .den ≡ 41000000000000000000 * (9 * whole g p s)
+  at-den = omega (arith, flux-den g (c over 18000) (p over 10 ^ 7) (s over 10 ^ 7), at-whole)
 
 divisor-up : (g p s : ℕ) → whole g p s ≤ 400000 * divisor g p s 1
-unfolding divisor
+unfolding whole divisor
 divisor-up g p s = omega arith
 
 divisor-down : (g p s : ℕ) → 400000 * divisor g p s 0 ≤ whole g p s
-unfolding divisor
+unfolding whole divisor
 divisor-down g p s = omega arith
 
--- n/d is F at p/10⁷ and s/10⁷, or bounds it; w is a common factor of the terms x and y of that F
-cross-le : (w a b n d x y : ℕ) → 0 < w → 9 * x ≡ w * (1000 * a) → y ≡ w * b → x * d ≤ n * y → 1000 * a * d ≤ 9 * n * b
+-- n/d is F at those, or bounds it; w is a common factor of the terms x and y of that F
+cross-le : (w a b n d x y : ℕ) → 0 < w → x ≡ w * (1000 * a) → y ≡ w * (9 * b) → x * d ≤ n * y → 1000 * a * d ≤ 9 * n * b
 cross-le w a b n d x y p e f h =
     le-of-mul-le-mul-left {k = w} (omega (arith, ap (λ (z : ℕ). z * d) e, ap (λ (z : ℕ). n * z) f)) p
 
-cross-ge : (w a b n d x y : ℕ) → 0 < w → 9 * x ≡ w * (1000 * a) → y ≡ w * b → n * y ≤ x * d → 9 * n * b ≤ 1000 * a * d
+cross-ge : (w a b n d x y : ℕ) → 0 < w → x ≡ w * (1000 * a) → y ≡ w * (9 * b) → n * y ≤ x * d → 9 * n * b ≤ 1000 * a * d
 cross-ge w a b n d x y p e f h =
     le-of-mul-le-mul-left {k = w} (omega (arith, ap (λ (z : ℕ). z * d) e, ap (λ (z : ℕ). n * z) f)) p
 
@@ -65,45 +72,45 @@ less-above u q n d e h =
     let l : q + 1 ≤ u + 3600 = omega arith in
     omega (arith, mul-le-mul-right d l)
 
--- ---- the enclosure: each side needs one bound of the share and one of the root
+-- ---- the enclosure: each side needs one bound of the concentration, of the share and of the root
 
-module _ (g o p s : ℕ) (x r : Frac) where
+module _ (g c p s : ℕ) (z x r : Frac) where
   abbrev n : ℕ
-  n = sharedFlux g o x r .num
+  n = sharedFlux g z x r .num
 
   abbrev d : ℕ
-  d = sharedFlux g o x r .den
+  d = sharedFlux g z x r .den
 
-  quotient-below : p over 10 ^ 7 ≼ x → r ≼ s over 10 ^ 7 → quotient g o p s 1 * d ≤ 3600 * n
-  quotient-below h k =
-      let at = flux-mono g o (p over 10 ^ 7) (s over 10 ^ 7) x r h k in
-      let f : 1000 * dividend g o p * d ≤ 9 * n * whole g p s =
-      cross-le 20500000000000000000 (dividend g o p) (whole g p s) n d _ _ (lit< tt) (at-num g o p s) (at-den g o p s) (at .cross) in
-      below (quotient g o p s 1) (dividend g o p) (divisor g p s 1) (whole g p s) n d (omega arith) (quotient-le g o p s 1) (divisor-up g p s) f
+  module _ (thin : c over 18000 ≼ z) (narrow : p over 10 ^ 7 ≼ x) (wide : r ≼ s over 10 ^ 7) where
+    quotient-below : quotient g c p s 1 * d ≤ 3600 * n
+    quotient-below =
+        let f : 1000 * dividend g c p * d ≤ 9 * n * whole g p s =
+        cross-le 41000000000000000000 (dividend g c p) (whole g p s) n d _ _ (lit< tt) (at-num g c p s) (at-den g c p s) (flux-mono g thin narrow wide .cross) in
+        below (quotient g c p s 1) (dividend g c p) (divisor g p s 1) (whole g p s) n d (whole-pos g p s) (quotient-le g c p s 1) (divisor-up g p s) f
 
-  pub quotient-few : (m : ℕ) → p over 10 ^ 7 ≼ x → r ≼ s over 10 ^ 7 → sharedFlux g o x r ≼ m over 3600 → quotient g o p s 1 ≤ m
-  quotient-few m h k few =
-      le-of-mul-le-mul-right {k = d} (omega (arith, quotient-below h k, few .cross)) (sharedFlux g o x r .positive)
+    pub quotient-few : (m : ℕ) → sharedFlux g z x r ≼ m over 3600 → quotient g c p s 1 ≤ m
+    quotient-few m few =
+        le-of-mul-le-mul-right {k = d} (omega (arith, quotient-below, few .cross)) (sharedFlux g z x r .positive)
 
-  pub quotient-under : p over 10 ^ 7 ≼ x → r ≼ s over 10 ^ 7 → natural (quotient g o p s 1 - 3600) ≼ sharedDose g o x r
-  quotient-under h k =
-      let l : quotient g o p s 1 * d ≤ 3600 * n = quotient-below h k in
-      record { cross = rw (dose-num g o x r, dose-den g o x r) (omega (arith, less-below (quotient g o p s 1 - 3600) (quotient g o p s 1) n d refl l)) }
+    pub quotient-under : natural (quotient g c p s 1 - 3600) ≼ sharedDose g z x r
+    quotient-under =
+        let q = quotient g c p s 1 in
+        record { cross = rw (dose-num g z x r, dose-den g z x r) (omega (arith, less-below (q - 3600) q n d refl quotient-below)) }
 
-  pub quotient-over : x ≼ p over 10 ^ 7 → s over 10 ^ 7 ≼ r → sharedDose g o x r ≼ natural (quotient g o p s 0 - 3599)
-  quotient-over h k =
-      let at = flux-mono g o x r (p over 10 ^ 7) (s over 10 ^ 7) h k in
-      let f : 9 * n * whole g p s ≤ 1000 * dividend g o p * d =
-      cross-ge 20500000000000000000 (dividend g o p) (whole g p s) n d _ _ (lit< tt) (at-num g o p s) (at-den g o p s) (at .cross) in
-      let l : 3600 * n ≤ (quotient g o p s 0 + 1) * d =
-      above (quotient g o p s 0) (dividend g o p) (divisor g p s 0) (whole g p s) n d (omega arith) (quotient-lt g o p s 0) (divisor-down g p s) f in
-      record { cross = rw (dose-num g o x r, dose-den g o x r) (omega (arith, less-above (quotient g o p s 0 - 3599) (quotient g o p s 0) n d refl l)) }
+  pub quotient-over : z ≼ c over 18000 → x ≼ p over 10 ^ 7 → s over 10 ^ 7 ≼ r → sharedDose g z x r ≼ natural (quotient g c p s 0 - 3599)
+  quotient-over thick wide narrow =
+      let q = quotient g c p s 0 in
+      let f : 9 * n * whole g p s ≤ 1000 * dividend g c p * d =
+      cross-ge 41000000000000000000 (dividend g c p) (whole g p s) n d _ _ (lit< tt) (at-num g c p s) (at-den g c p s) (flux-mono g thick wide narrow .cross) in
+      let l : 3600 * n ≤ (q + 1) * d =
+      above q (dividend g c p) (divisor g p s 0) (whole g p s) n d (whole-pos g p s) (quotient-lt g c p s 0) (divisor-down g p s) f in
+      record { cross = rw (dose-num g z x r, dose-den g z x r) (omega (arith, less-above (q - 3599) q n d refl l)) }
 
--- both hold at the lower share and the greater root
+-- both hold at the lower concentration and share and the greater root
 pub lower-le-upper :
-    (g o : ℕ) {p q s t : ℕ} → p ≤ q → s ≤ t → quotient g o p t 1 - 3600 ≤ quotient g o q s 0 - 3599
-lower-le-upper g o {p} {q} {s} {t} h k =
+    (g : ℕ) {b c p q s t : ℕ} → b ≤ c → p ≤ q → s ≤ t → quotient g b p t 1 - 3600 ≤ quotient g c q s 0 - 3599
+lower-le-upper g {b} {c} {p} {q} {s} {t} j h k =
     let l =
-    ≼-trans (quotient-under g o p t (p over 10 ^ 7) (t over 10 ^ 7) (≼-refl _) (≼-refl _))
-    (quotient-over g o q s (p over 10 ^ 7) (t over 10 ^ 7) (omega arith) (omega arith)) in
+    ≼-trans (quotient-under g b p t (b over 18000) (p over 10 ^ 7) (t over 10 ^ 7) (≼-refl _) (≼-refl _) (≼-refl _))
+    (quotient-over g c q s (b over 18000) (p over 10 ^ 7) (t over 10 ^ 7) (over-mono 18000 j) (over-mono (10 ^ 7) h) (over-mono (10 ^ 7) k)) in
     omega (arith, l .cross)

@@ -1,6 +1,6 @@
--- How large the quotients are, and how near: a share 3 units further and a root 1 unit less add at most 1.
+-- How large the quotients are, and how near: a concentration 1 unit more, a share 5 units more and a root 1 unit less add at most 1.
 use Prim.Native.Nat.{ℕ, _+_, _-_, _*_, _≤_, _<_}
-use native.Mathlib.Nat.{mul-le-mul, mul-le-mul-left, lt-of-mul-lt-mul-right, div-mul-le-self, lt-div-mul-add}
+use native.Mathlib.Nat.{mul-le-mul, mul-le-mul-left, mul-le-mul-right, lt-of-mul-lt-mul-right, le-of-mul-le-mul-right, div-mul-le-self, lt-div-mul-add}
 use native.Mathlib.Omega.{arith}
 use Rattle.flux_spec.specs.Pair.{dividend, resisted, divisor, quotient}
 
@@ -8,59 +8,71 @@ divisor-ge : (g p s m : ℕ) → 2050000000000 ≤ divisor g p s m
 unfolding divisor
 divisor-ge g p s m = omega arith
 
-module _ (g o p s m : ℕ) where
-  pub quotient-le : quotient g o p s m * divisor g p s m ≤ dividend g o p
+module _ (g c p s m : ℕ) where
+  pub quotient-le : quotient g c p s m * divisor g p s m ≤ dividend g c p
   unfolding quotient
-  quotient-le = omega (arith, div-mul-le-self (dividend g o p) (divisor g p s m))
+  quotient-le = omega (arith, div-mul-le-self (dividend g c p) (divisor g p s m))
 
-  pub quotient-lt : dividend g o p < quotient g o p s m * divisor g p s m + divisor g p s m
+  pub quotient-lt : dividend g c p < quotient g c p s m * divisor g p s m + divisor g p s m
   unfolding quotient
-  quotient-lt = omega (arith, lt-div-mul-add {a = dividend g o p} {b = divisor g p s m} (omega (arith, divisor-ge g p s m)))
+  quotient-lt = omega (arith, lt-div-mul-add {a = dividend g c p} {b = divisor g p s m} (omega (arith, divisor-ge g p s m)))
 
--- ---- for the largest gmax and ozone, and a share of 1 and 3 units at most
+-- ---- a greater concentration
 
-product-le : (g p : ℕ) → g ≤ 265 → p ≤ 10000003 → g * p ≤ 2650000795
+dividend-mono : (g p : ℕ) {b c : ℕ} → b ≤ c → dividend g b p ≤ dividend g c p
+unfolding dividend
+dividend-mono g p h = mul-le-mul-right (g * p) h
+
+pub quotient-mono : (g p s m : ℕ) {b c : ℕ} → b ≤ c → quotient g b p s m ≤ quotient g c p s m
+quotient-mono g p s m {b} {c} h =
+    let less : quotient g b p s m < quotient g c p s m + 1 =
+    lt-of-mul-lt-mul-right (divisor g p s m) (omega (arith, quotient-le g b p s m, quotient-lt g c p s m, dividend-mono g p h)) in
+    omega (arith, less)
+
+-- ---- for a concentration of 29644 nmol m⁻³, a gmax of 500 and a share of 1 and 3 units at most: 533592000 is 18000·29644
+
+dividend-le : (g c p : ℕ) → c ≤ 533592000 → p ≤ 10000003 → dividend g c p ≤ 5336150000000000 * g
+unfolding dividend
+dividend-le g c p k l = omega (arith, mul-le-mul-left g (mul-le-mul k l))
+
+pub quotient-small : (g c p s m : ℕ) → c ≤ 533592000 → p ≤ 10000003 → quotient g c p s m ≤ 2603 * g
+quotient-small g c p s m k l =
+    le-of-mul-le-mul-right {k = 2050000000000}
+    (omega (arith, quotient-le g c p s m, mul-le-mul-left (quotient g c p s m) (divisor-ge g p s m), dividend-le g c p k l)) (omega arith)
+
+product-le : (g p : ℕ) → g ≤ 500 → p ≤ 10000003 → g * p ≤ 5000001500
 product-le g p h k = omega (arith, mul-le-mul h k)
 
-dividend-le : (g o p : ℕ) → g ≤ 265 → o ≤ 5000 → p ≤ 10000003 → dividend g o p ≤ 991206297361800000
+-- 533592000·500·5 for the share and 5000001500 for the concentration
+dividend-gap :
+    (g b c p q : ℕ) → g ≤ 500 → c ≤ 533592000 → c ≤ b + 1 → q ≤ p + 5 → p ≤ 10000003 →
+    dividend g c q ≤ dividend g b p + 1338980001500
 unfolding dividend
-dividend-le g o p h k l = omega (arith, mul-le-mul k (product-le g p h l))
+dividend-gap g b c p q h j k l m =
+    omega (arith, mul-le-mul-left (c * g) l, mul-le-mul-right (g * p) k, mul-le-mul j h, product-le g p h m)
 
-dividend-gap : (g o p q : ℕ) → g ≤ 265 → o ≤ 5000 → q ≤ p + 3 → dividend g o q ≤ dividend g o p + 297361800000
-unfolding dividend
-dividend-gap g o p q h k l = omega (arith, mul-le-mul-left (o * g) l, mul-le-mul k h)
-
-resisted-gap : (g p q s t : ℕ) → g ≤ 265 → p ≤ q → q ≤ 10000003 → t ≤ s + 1 → resisted g p t ≤ resisted g q s + 109746031005
+resisted-gap : (g p q s t : ℕ) → g ≤ 500 → p ≤ q → q ≤ 10000003 → t ≤ s + 1 → resisted g p t ≤ resisted g q s + 201396058500
 unfolding resisted
 resisted-gap g p q s t h k l m = omega (arith, mul-le-mul m (mul-le-mul-left g k), product-le g q h l)
 
-divisor-gap : (g p q s t : ℕ) → g ≤ 265 → p ≤ q → q ≤ 10000003 → t ≤ s + 1 → divisor g p t 1 ≤ divisor g q s 0 + 274367
+divisor-gap : (g p q s t : ℕ) → g ≤ 500 → p ≤ q → q ≤ 10000003 → t ≤ s + 1 → divisor g p t 1 ≤ divisor g q s 0 + 503492
 unfolding divisor
 divisor-gap g p q s t h k l m = omega (arith, resisted-gap g p q s t h k l m)
 
-quotient-small : (g o p s m : ℕ) → g ≤ 265 → o ≤ 5000 → p ≤ 10000003 → quotient g o p s m ≤ 483516
-quotient-small g o p s m h k l =
-    let few : quotient g o p s m * 2050000000000 < 483517 * 2050000000000 =
-    omega (arith, quotient-le g o p s m, mul-le-mul-left (quotient g o p s m) (divisor-ge g p s m), dividend-le g o p h k l) in
-    omega (arith, few)
-
--- the room between the dividends, and between the divisors as often as the quotient has them, is below one divisor
+-- the room between the dividends, and between the divisors as often as the quotient has them, is at most m divisors
 apart :
-    (a b d e q r : ℕ) → q * d ≤ b → a < r * e + e → b ≤ a + 297361800000 → e ≤ d + 274367 → r ≤ 483516 → 2050000000000 ≤ d →
-    q < r + 2
-apart a b d e q r hq hr hb he hs hd = lt-of-mul-lt-mul-right d (omega (arith, mul-le-mul-left (r + 1) he))
+    (a b d e q r x y m : ℕ) → q * d ≤ b → a < r * e + e → b ≤ a + x → e ≤ d + y → x + (r + 1) * y ≤ m * d → q ≤ r + m
+apart a b d e q r x y m hq hr hb he room =
+    let less : q < r + m + 1 = lt-of-mul-lt-mul-right d (omega (arith, mul-le-mul-left (r + 1) he)) in
+    omega (arith, less)
 
-module _ (g o q s : ℕ) (g-le : g ≤ 265) (o-le : o ≤ 5000) (q-le : q ≤ 10000003) where
-  -- no hour's dose is above 600000 (row 13)
-  pub upper-le : quotient g o q s 0 - 3599 ≤ 600000
-  upper-le = omega (arith, quotient-small g o q s 0 g-le o-le q-le)
+module _ (g c q s : ℕ) (g-le : g ≤ 500) (c-le : c ≤ 533592000) (q-le : q ≤ 10000003) where
+  module _ (b p t : ℕ) (thick : c ≤ b + 1) (b-le : b ≤ c) (order : p ≤ q) (near : q ≤ p + 5) (root : t ≤ s + 1) where
+    few : quotient g b p t 1 ≤ 1301500
+    few = omega (arith, quotient-small g b p t 1 (omega arith) (omega arith))
 
-  module _ (p t : ℕ) (order : p ≤ q) (near : q ≤ p + 3) (root : t ≤ s + 1) where
-    pub quotient-near : quotient g o q s 0 < quotient g o p t 1 + 2
+    pub quotient-near : quotient g c q s 0 ≤ quotient g b p t 1 + 1
     quotient-near =
-        apart (dividend g o p) (dividend g o q) (divisor g q s 0) (divisor g p t 1) (quotient g o q s 0) (quotient g o p t 1)
-        (quotient-le g o q s 0) (quotient-lt g o p t 1) (dividend-gap g o p q g-le o-le near) (divisor-gap g p q s t g-le order q-le root)
-        (quotient-small g o p t 1 g-le o-le (omega arith)) (divisor-ge g q s 0)
-
-    pub quotient-gap : quotient g o q s 0 - 3599 ≤ (quotient g o p t 1 - 3600) + 2
-    quotient-gap = omega (arith, quotient-near)
+        apart (dividend g b p) (dividend g c q) (divisor g q s 0) (divisor g p t 1) (quotient g c q s 0) (quotient g b p t 1) 1338980001500 503492 1
+        (quotient-le g c q s 0) (quotient-lt g b p t 1) (dividend-gap g b c p q g-le c-le thick near (omega arith))
+        (divisor-gap g p q s t g-le order q-le root) (omega (arith, divisor-ge g q s 0, few))

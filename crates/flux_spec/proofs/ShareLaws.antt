@@ -4,6 +4,7 @@ use Prim.Native.Nat.{ℕ, _+_, _*_, _^_, _≤_}
 use mathlib.Core.Path.{_≡_, ap}
 use native.Mathlib.Nat.{mul-le-mul}
 use native.Mathlib.Omega.{arith}
+use lib.Dec.{lit≤}
 use Rattle.exact.specs.Frac.{Frac, natural, _over_, _≼_}
 use Rattle.exact.specs.Rounding.{roundUp, roundDown, timesUp, timesDown}
 use Rattle.exact.proofs.FracLaws.{≼-refl, ≼-trans, ≼-antisym, ≈-le, ⊗-mono, ⊗-comm, ⊗-le-one}
@@ -17,6 +18,7 @@ use Rattle.flux_spec.specs.Light.{lightAt, lightLow, lightUp}
 use Rattle.flux_spec.specs.Conductance.{aboveOf, phenologyIn, openingAt, shareAt}
 use Rattle.flux_spec.specs.Pair.{openingLow, openingUp, shareLow, shareUp}
 use Rattle.flux_spec.specs.Facts.{ShareFacts, HourFacts}
+use Rattle.flux_spec.proofs.ConcentrationLaws.{ozone-facts}
 use Rattle.flux_spec.proofs.LightLaws.{light-facts}
 use Rattle.flux_spec.proofs.OpeningLaws.{openingAt-le, openingAt-mono, opening-low, opening-high, opening-gap, opening-order, openingLow-le, openingUp-le}
 
@@ -120,4 +122,9 @@ share-facts stand s h =
     }
 
 pub hour-facts : HourFacts
-hour-facts = record { light = light-facts; share = share-facts }
+hour-facts = record {
+  ozone = ozone-facts;
+  seaLevel = record { above = record { cross = lit≤ tt }; below = record { cross = lit≤ tt } };
+  light = light-facts;
+  share = share-facts;
+}

@@ -1,13 +1,25 @@
--- The facts of f_light and of the share of gmax (document 01, "How far the promises go"), for any sound figures, period and hour.
-use Prim.Native.Nat.{ℕ, _≤_}
+-- The facts of ozone's concentration, of f_light and of the share of gmax (document 01, "How far the promises go"), for any sound figures, period and hour.
+use Prim.Native.Nat.{ℕ, _+_, _*_, _≤_}
 use mathlib.Core.Path.{_≡_}
-use Rattle.exact.specs.Frac.{natural, _≼_, _≈_, Between}
+use lib.IntN.{pos}
+use Rattle.exact.specs.Frac.{natural, _over_, _⊗_, _≼_, _≈_, Between}
 use Rattle.trees.specs.declared.Figures.{Figures}
 use Rattle.trees.specs.Sound.{Sound}
+use Rattle.records.specs.declared.Air.the-variants.{Deficit, Pressure}
 use Rattle.records.specs.declared.Hour.{Hour}
 use Rattle.flux_spec.specs.declared.Stand.{Stand}
 use Rattle.flux_spec.specs.Light.{lightAt}
-use Rattle.flux_spec.specs.Conductance.{shareAt}
+use Rattle.flux_spec.specs.Conductance.{aboveOf, shareAt}
+use Rattle.flux_spec.specs.Dose.{perPpb, concentration}
+use Rattle.flux_spec.specs.Pair.{concentrationLow, concentrationUp}
+
+-- ozone's concentration
+pub record OzoneFacts (h : Hour) : Type 0 where
+  -- without a pressure, kind 02: exact, 74808 = 18000·4.156
+  pub plain : (vpd : ℕ) → h .air ≡ Deficit vpd → (concentrationLow h ≡ 74808 * h .ozone) × (concentrationUp h ≡ 74808 * h .ozone)
+  -- with a pressure, kind 04: in whole numbers, for tenths of a degree above -50.0 °C; 92383 = 831447/9
+  pub pressed : (vpd p : ℕ) → h .air ≡ Pressure vpd p →
+      natural 18000 ⊗ concentration h ≈ (4000000000 * h .ozone * p) over (92383 * (2 * aboveOf (h .temperature) + 4463))
 
 -- f_light
 pub record LightFacts (f : Figures) : Type 0 where
@@ -28,5 +40,8 @@ pub record ShareFacts (stand : Stand) (h : Hour) : Type 0 where
   pub grows : (k l : ℕ) → k ≤ l → shareAt k stand h ≼ shareAt l stand h
 
 pub record HourFacts : Type 0 where
+  pub ozone : (h : Hour) → OzoneFacts h
+  -- at sea level, 1013.2 hPa, and 20.0 °C a ppb is what it is without a pressure, 41.56 nmol m⁻³, to a hundredth
+  pub seaLevel : Between (4156 over 100) (4157 over 100) (perPpb (Pressure 0 10132) (pos 200))
   pub light : (f : Figures) → LightFacts f
   pub share : (stand : Stand) → Sound (stand .figures) → (h : Hour) → ShareFacts stand h

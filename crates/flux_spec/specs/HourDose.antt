@@ -1,16 +1,15 @@
 -- What an hour adds to POD1, as two whole numbers; rows 5, 7 and 10, in that order, for a number that is no tree, days that are no period and readings
 -- out of range.
 use Prim.Native.Nat.{ℕ, _+_}
-use mathlib.Core.Bool.{Bool, true, false, cond}
+use mathlib.Core.Bool.{Bool, true, false, cond, _||_}
 use Rattle.exact.specs.declared.Bounds.{Bounds}
 use Rattle.trees.specs.declared.Measure.{Measure}
 use Rattle.trees.specs.declared.Figures.{Figures}
 use Rattle.trees.specs.declared.Choice.{Choice}
 use Rattle.records.specs.declared.Soil.{Soil}
 use Rattle.records.specs.declared.Hour.{Hour}
-use Rattle.records.specs.declared.Record.{Record}
-use Rattle.records.specs.Answers.{Outcome, accepted, refused, row, field, onward, rowOf}
-use Rattle.records.specs.Ranges.{periodOut, checked}
+use Rattle.records.specs.Answers.{Outcome, accepted, refused, row, onward, rowOf}
+use Rattle.records.specs.Ranges.{periodOut, soilOut, hourChecked}
 use Rattle.flux_spec.specs.declared.Stand.{Stand}
 use Rattle.flux_spec.specs.declared.Dosed.{Dosed}
 use Rattle.flux_spec.specs.Dose.{isCounted}
@@ -31,14 +30,17 @@ otherMeasure Measure.Suction (Soil.Water n) = true
 otherMeasure Measure.Water (Soil.Suction n) = true
 otherMeasure Measure.Water (Soil.Water n) = false
 
+-- out of range, or not in the tree's measure
+abbrev pub soilUnfit : Measure → Soil → Bool
+soilUnfit measure soil = soilOut soil || otherMeasure measure soil
+
 -- what the dose goes by besides the hour, out of what the tree's number names and the first and the last day; row 10 names the first field out of
--- range, and a soil in the other measure is field 7
+-- range, and so is a soil in the other measure
 unfoldable pub standFor : Choice → ℕ → ℕ → Hour → Outcome Stand
 standFor (Choice.Tree f) first last h =
     row 7 (daysOut f first last)
-    (onward (checked (Record.Hour h)) (λ _.
-    field 7 (otherMeasure (f .measure) (h .soil))
-    (accepted (standOf f first last))))
+    (onward (hourChecked (soilUnfit (f .measure) (h .soil)) h) (λ _.
+    accepted (standOf f first last)))
 standFor Choice.Unknown first last h = refused (5, 0)
 
 -- an hour that is not counted adds nothing

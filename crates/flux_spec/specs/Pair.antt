@@ -15,6 +15,14 @@ use Rattle.flux_spec.specs.Light.{lightLow, lightUp}
 use Rattle.flux_spec.specs.Deficit.{deficitLow, deficitUp}
 use Rattle.flux_spec.specs.BoundaryLayer.{windRead}
 use Rattle.flux_spec.specs.Conductance.{aboveOf, phenologyIn}
+use Rattle.flux_spec.specs.Dose.{concentration}
+
+-- ozone's concentration, in units of 1/18000 nmol m⁻³, rounded down and up
+unfoldable pub concentrationLow : Hour → ℕ
+concentrationLow h = timesDown 18000 (concentration h)
+
+unfoldable pub concentrationUp : Hour → ℕ
+concentrationUp h = timesUp 18000 (concentration h)
 
 -- max(f_min, f_temp·f_VPD·f_SW), in units of 10⁻⁹
 unfoldable pub openingLow : Figures → Hour → ℕ
@@ -40,14 +48,14 @@ shareUp stand h =
 unfoldable pub rootLow : ℕ → ℕ → ℕ
 rootLow leaf wind = squareRoot (leaf * 10 ^ 13 / windRead wind)
 
--- ---- 3600·F, rounded down, at the share p/10⁷ and the root s/10⁷
+-- ---- 3600·F, rounded down, at the concentration c/18000, the share p/10⁷ and the root s/10⁷
 
 -- With G = gmax·p the conductance is G/(41000·10⁷) m/s and the resistance 195·s/10⁷ s/m. Above and below the line everything is taken 5·41000·10⁷
 -- times, which makes whole numbers of all but the last.
 
--- ozone·g: 74808 = 5 · 3600 s in an hour · 4.156 nmol m⁻³ in a tenth of ppb
+-- 3600 s · ozone·g: 18000 = 5·3600
 unfoldable pub dividend : ℕ → ℕ → ℕ → ℕ
-dividend gmax ozone p = 74808 * ozone * (gmax * p)
+dividend gmax c p = c * (gmax * p)
 
 -- Rb(g + 0.0004), 400000 times: 39/400000 = 5·195/10⁷, and 164000000 = 0.0004 m/s · 41000·10⁷
 unfoldable pub resisted : ℕ → ℕ → ℕ → ℕ
@@ -58,15 +66,15 @@ unfoldable pub divisor : ℕ → ℕ → ℕ → ℕ → ℕ
 divisor gmax p s more = 2050000000000 + more + resisted gmax p s / 400000
 
 unfoldable pub quotient : ℕ → ℕ → ℕ → ℕ → ℕ → ℕ
-quotient gmax ozone p s more = dividend gmax ozone p / divisor gmax p s more
+quotient gmax c p s more = dividend gmax c p / divisor gmax p s more
 
 -- ---- the pair
 
 unfoldable pub lowerOf : Stand → Hour → ℕ
-lowerOf stand h = quotient (stand .figures .gmax) (h .ozone) (shareLow stand h) (rootLow (stand .figures .leaf) (h .wind) + 1) 1 - 3600
+lowerOf stand h = quotient (stand .figures .gmax) (concentrationLow h) (shareLow stand h) (rootLow (stand .figures .leaf) (h .wind) + 1) 1 - 3600
 
 unfoldable pub upperOf : Stand → Hour → ℕ
-upperOf stand h = quotient (stand .figures .gmax) (h .ozone) (shareUp stand h) (rootLow (stand .figures .leaf) (h .wind)) 0 - 3599
+upperOf stand h = quotient (stand .figures .gmax) (concentrationUp h) (shareUp stand h) (rootLow (stand .figures .leaf) (h .wind)) 0 - 3599
 
 abbrev pub hourPair : Stand → Hour → Bounds
 hourPair stand h = record { lower = lowerOf stand h; upper = upperOf stand h }

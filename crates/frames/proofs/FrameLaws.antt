@@ -2,6 +2,7 @@
 use Prim.Native.Nat.{ℕ, _≤_}
 use mathlib.Core.Path.{_≡_, sym, ap, _∙_}
 use mathlib.Core.Bool.{true, false}
+use mathlib.Core.Logic.{⊎-elim}
 use mathlib.Core.List.{List}
 use native.Mathlib.Nat.{le-of-eq}
 use native.Mathlib.Omega.{arith}
@@ -17,10 +18,11 @@ use Rattle.records.specs.Temperature.{signedOf}
 use Rattle.frames.specs.Digits.{allDigits, byteAt}
 use Rattle.frames.specs.Kinds.{one, kinds, sizeOf, isLength, lengthOf}
 use Rattle.frames.specs.Fields.{fieldsAt}
-use Rattle.frames.specs.Layout.{frameOf, frameAt, soilOf, hourOf}
-use Rattle.frames.specs.Steps.{Sized}
+use Rattle.frames.specs.Layout.{airOf, rawHourOf, frameOf, frameAt, soilOf, hourOf}
+use Rattle.frames.specs.Steps.{IsHour, Sized}
 use Rattle.frames.specs.Frames.{parsedOf, soundOf, recordOf}
 use Rattle.frames.proofs.KindLaws.{length-ge, kind-within}
+use Rattle.records.specs.declared.Air.{Air}
 use Rattle.records.specs.declared.Hour.{Hour}
 use Rattle.records.specs.declared.Raw.{Raw}
 use Rattle.records.specs.declared.RawHour.{RawHour}
@@ -54,6 +56,15 @@ pub frame-is : (l : List ℕ) {kind : ℕ} → byteAt 0 l ≡ kind → frameAt l
 unfolding frameAt
 frame-is l e = rw e
 
+module _ (l : List ℕ) {kind : ℕ} (hour : IsHour kind) where
+  -- its numbers are those of kind 02 and, past them, its own
+  pub hour-same : (air : Air) → rawHourOf air (fieldsAt 2 l) ≡ rawHourOf air (fieldsAt kind l)
+  hour-same air = ⊎-elim (λ (e : kind ≡ 2). rw e) (λ (e : kind ≡ 4). rw e) hour
+
+  pub hour-framed : byteAt 0 l ≡ kind → frameAt l ≡ Raw.Hour (rawHourOf (airOf kind (fieldsAt kind l)) (fieldsAt kind l))
+  unfolding frameOf
+  hour-framed k = frame-is l k ∙ ⊎-elim (λ (e : kind ≡ 2). rw e) (λ (e : kind ≡ 4). rw e) hour
+
 module _ (l : List ℕ) (sized : Sized l) where
   -- its kind's byte is in it
   pub sized-ge : sizeOf one ≤ length l
@@ -77,7 +88,7 @@ module _ (raw : RawHour) (m : Measure) where
         ppfd = raw .ppfd;
         radiation = raw .radiation;
         temperature = temperature;
-        vpd = raw .vpd;
+        air = raw .air;
         wind = raw .wind;
         soil = soil;
       } ≡ hourOf raw m

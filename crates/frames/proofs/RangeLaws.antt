@@ -12,10 +12,12 @@ use Rattle.trees.specs.declared.Choice.{Choice}
 use Rattle.trees.specs.Figures.{figuresOf}
 use Rattle.records.specs.Answers.{accepted}
 use Rattle.records.specs.Temperature.{temperatureOut}
-use Rattle.frames.specs.Layout.{soilNumber}
-use Rattle.records.specs.Ranges.{isOutside, soilOut, periodOut, checked}
+use Rattle.frames.specs.Layout.{vapourNumber, soilNumber}
+use Rattle.records.specs.Ranges.{isOutside, deficitOut, soilOut, pressureOut, periodOut, checked}
 use Rattle.records.specs.Period.{periodHours}
 use Rattle.records.specs.declared.Header.{Header}
+use Rattle.records.specs.declared.Air.{Air}
+use Rattle.records.specs.declared.Air.the-variants.{Deficit, Pressure}
 use Rattle.records.specs.declared.Soil.{Soil}
 use Rattle.records.specs.declared.Soil.the-variants.{Suction, Water}
 use Rattle.records.specs.declared.Hour.{Hour}
@@ -39,19 +41,32 @@ pub record HeaderIn (h : Header) : Type 0 where
   pub last : h .last ≤ h .days
   pub level : Inside 1 10000 (h .level)
 
+abbrev pub PressureIn : Air → Type 0
+PressureIn (Deficit n) = Unit
+PressureIn (Pressure n p) = Inside 5000 11000 p
+
 pub record HourIn (h : Hour) : Type 0 where
   pub ozone : h .ozone ≤ 5000
   pub ppfd : h .ppfd ≤ 3000
   pub radiation : h .radiation ≤ 1500
   pub temperature : temperatureOut (h .temperature) ≡ false
-  pub vpd : h .vpd ≤ 10000
+  pub vapour : vapourNumber (h .air) ≤ 10000
   pub wind : h .wind ≤ 6000
   pub soil : soilNumber (h .soil) ≤ 10000
+  pub pressure : PressureIn (h .air)
 
 abbrev pub InRange : Record → Type 0
 InRange (Record.Header h) = HeaderIn h
 InRange (Record.Hour h) = HourIn h
 InRange (Record.End e) = Unit
+
+vapour-le : (a : Air) → deficitOut a ≡ false → vapourNumber a ≤ 10000
+vapour-le (Deficit n) e = ltb-false 10000 n e
+vapour-le (Pressure n p) e = ltb-false 10000 n e
+
+pressure-in : (a : Air) → pressureOut a ≡ false → PressureIn a
+pressure-in (Deficit n) e = tt
+pressure-in (Pressure n p) e = inside-is 5000 11000 p e
 
 soil-le : (s : Soil) → soilOut s ≡ false → soilNumber s ≤ 10000
 soil-le (Suction n) e = ltb-false 10000 n e
@@ -105,17 +120,19 @@ hour-passed h e =
     let ppfd = row-passed (ltb 3000 (h .ppfd)) _ _ tt (ozone .1) in
     let radiation = row-passed (ltb 1500 (h .radiation)) _ _ tt (ppfd .1) in
     let temperature = row-passed (temperatureOut (h .temperature)) _ _ tt (radiation .1) in
-    let vpd = row-passed (ltb 10000 (h .vpd)) _ _ tt (temperature .1) in
-    let wind = row-passed (ltb 6000 (h .wind)) _ _ tt (vpd .1) in
+    let vapour = row-passed (deficitOut (h .air)) _ _ tt (temperature .1) in
+    let wind = row-passed (ltb 6000 (h .wind)) _ _ tt (vapour .1) in
     let soil = row-passed (soilOut (h .soil)) _ _ tt (wind .1) in
+    let pressure = row-passed (pressureOut (h .air)) _ _ tt (soil .1) in
     record {
       ozone = ltb-false 5000 (h .ozone) (ozone .0);
       ppfd = ltb-false 3000 (h .ppfd) (ppfd .0);
       radiation = ltb-false 1500 (h .radiation) (radiation .0);
       temperature = temperature .0;
-      vpd = ltb-false 10000 (h .vpd) (vpd .0);
+      vapour = vapour-le (h .air) (vapour .0);
       wind = ltb-false 6000 (h .wind) (wind .0);
       soil = soil-le (h .soil) (soil .0);
+      pressure = pressure-in (h .air) (pressure .0);
     }
 
 -- a period has the hours of a year at most

@@ -13,7 +13,7 @@ use Rattle.records.specs.Answers.{Outcome, accepted, refused, onward}
 use Rattle.frames.specs.Digits.{within, allDigits, byteAt}
 use Rattle.frames.specs.Kinds.{among, isLength, lengthOf}
 use Rattle.records.specs.Temperature.{temperatureOut}
-use Rattle.records.specs.Ranges.{isOutside, onTree, periodOut, soilOut, checked}
+use Rattle.records.specs.Ranges.{isOutside, onTree, periodOut, deficitOut, soilOut, pressureOut, checked}
 use Rattle.frames.specs.Frames.{parsedOf, soundOf, recordOf, readFrameOf}
 use Rattle.frames.specs.Rows.{oneOf, readerRows, ReaderRows}
 use Rattle.records.specs.declared.Raw.{Raw}
@@ -53,10 +53,10 @@ only-wider {rows = rows} {more = more} all o = record {
       ⊎-elim
       (λ s. let both = and-both (among rows n) (eqb f 0) s in rw (among-passes (among more) rows n all (both .0), both .1) refl)
       (λ s. rw s (or-true (among more n && eqb f 0)))
-      (or-either (among rows n && eqb f 0) (eqb n 10 && within 1 7 f) (o .only n f e));
+      (or-either (among rows n && eqb f 0) (eqb n 10 && within 1 8 f) (o .only n f e));
 }
 
-field-in : (rows : List ℕ) (f : ℕ) → within 1 7 f ≡ true → oneOf rows 10 f ≡ true
+field-in : (rows : List ℕ) (f : ℕ) → within 1 8 f ≡ true → oneOf rows 10 f ≡ true
 field-in rows f e = rw e (or-true (among rows 10 && eqb f 0))
 
 -- rows 5 to 8 are in the list
@@ -79,10 +79,11 @@ checked-only {rows} a (Record.Hour h) =
     (row-only (ltb 3000 (h .ppfd)) _ _ _ (field-in rows 2 refl)
     (row-only (ltb 1500 (h .radiation)) _ _ _ (field-in rows 3 refl)
     (row-only (temperatureOut (h .temperature)) _ _ _ (field-in rows 4 refl)
-    (row-only (ltb 10000 (h .vpd)) _ _ _ (field-in rows 5 refl)
+    (row-only (deficitOut (h .air)) _ _ _ (field-in rows 5 refl)
     (row-only (ltb 6000 (h .wind)) _ _ _ (field-in rows 6 refl)
     (row-only (soilOut (h .soil)) _ _ _ (field-in rows 7 refl)
-    (accepted-only _)))))))
+    (row-only (pressureOut (h .air)) _ _ _ (field-in rows 8 refl)
+    (accepted-only _))))))))
 checked-only a (Record.End e) = accepted-only _
 
 -- ---- the reader

@@ -1,7 +1,7 @@
 -- The kinds of frame: one table of the widths of their fields, and by it the digits of their lines (document 01, "Frames", rows 1 and 3).
 use Prim.Native.Nat.{ℕ, _+_, max}
 use mathlib.Core.Bool.{Bool, false, _||_}
-use mathlib.Core.List.{List, [], _∷_, map, foldr}
+use mathlib.Core.List.{List, [], _∷_, _++_, map, foldr}
 use lib.ListN.{getD}
 use lib.Dec.{eqb}
 
@@ -21,9 +21,13 @@ hourWidths = two ∷ one ∷ two ∷ two ∷ two ∷ two ∷ two ∷ two ∷ two
 abbrev endWidths : List Width
 endWidths = two ∷ []
 
+-- 04: those of 02, then pressure (W-204)
+abbrev pressureWidths : List Width
+pressureWidths = hourWidths ++ two ∷ []
+
 -- the table, from kind 01 on: the widths of the fields that follow the kind's byte
 abbrev pub kinds : List (List Width)
-kinds = headerWidths ∷ hourWidths ∷ endWidths ∷ []
+kinds = headerWidths ∷ hourWidths ∷ endWidths ∷ pressureWidths ∷ []
 
 -- the widths of a kind's fields, none where there is no such kind
 abbrev pub widthsOf : ℕ → List Width

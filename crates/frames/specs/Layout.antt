@@ -10,6 +10,8 @@ use Rattle.frames.specs.Kinds.{one, widthsOf}
 use Rattle.frames.specs.Fields.{digitsOf, fieldsAt}
 use Rattle.records.specs.Temperature.{signedOf, complementOf}
 use Rattle.records.specs.declared.Header.{Header}
+use Rattle.records.specs.declared.Air.{Air}
+use Rattle.records.specs.declared.Air.the-variants.{Deficit, Pressure}
 use Rattle.records.specs.declared.Soil.{Soil}
 use Rattle.records.specs.declared.Soil.the-variants.{Suction, Water}
 use Rattle.records.specs.declared.Hour.{Hour}
@@ -30,18 +32,31 @@ abbrev pub soilNumber : Soil → ℕ
 soilNumber (Suction n) = n
 soilNumber (Water n) = n
 
-abbrev pub hourNumbers : Hour → List ℕ
-hourNumbers h = h .day ∷ h .hour ∷ h .ozone ∷ h .ppfd ∷ h .radiation ∷ complementOf (h .temperature) ∷ h .vpd ∷ h .wind ∷ soilNumber (h .soil) ∷ []
+-- what the air says in VPD's place, and past soil
+abbrev pub vapourNumber : Air → ℕ
+vapourNumber (Deficit n) = n
+vapourNumber (Pressure n p) = n
 
-abbrev pub rawHourOf : List ℕ → RawHour
-rawHourOf ns = record {
+abbrev pub pastSoil : Air → List ℕ
+pastSoil (Deficit n) = []
+pastSoil (Pressure n p) = p ∷ []
+
+abbrev pub hourNumbers : Hour → List ℕ
+hourNumbers h = h .day ∷ h .hour ∷ h .ozone ∷ h .ppfd ∷ h .radiation ∷ complementOf (h .temperature) ∷ vapourNumber (h .air) ∷ h .wind ∷ soilNumber (h .soil) ∷ pastSoil (h .air)
+
+-- the air of an hour frame's numbers, by its kind, 02 or 04
+abbrev pub airOf : ℕ → List ℕ → Air
+airOf kind ns = cond (eqb kind 4) (Pressure (getD ns 6 0) (getD ns 9 0)) (Deficit (getD ns 6 0))
+
+abbrev pub rawHourOf : Air → List ℕ → RawHour
+rawHourOf air ns = record {
   day = getD ns 0 0;
   hour = getD ns 1 0;
   ozone = getD ns 2 0;
   ppfd = getD ns 3 0;
   radiation = getD ns 4 0;
   temperature = getD ns 5 0;
-  vpd = getD ns 6 0;
+  air = air;
   wind = getD ns 7 0;
   soil = getD ns 8 0;
 }
@@ -62,27 +77,31 @@ hourOf raw m = record {
   ppfd = raw .ppfd;
   radiation = raw .radiation;
   temperature = signedOf (raw .temperature);
-  vpd = raw .vpd;
+  air = raw .air;
   wind = raw .wind;
   soil = soilOf m (raw .soil);
 }
 
 -- ---- a kind's frame and its line: a case for each kind
 
--- the frame of a kind with these numbers
+-- the frame of a kind with these numbers: a header, an end, else an hour
 unfoldable pub frameOf : ℕ → List ℕ → Raw
 frameOf kind ns =
     cond (eqb kind 1) (Raw.Header (headerOf ns))
-    (cond (eqb kind 2) (Raw.Hour (rawHourOf ns))
-    (Raw.End (endOf ns)))
+    (cond (eqb kind 3) (Raw.End (endOf ns))
+    (Raw.Hour (rawHourOf (airOf kind ns) ns)))
 
 unfoldable pub frameAt : List ℕ → Raw
 frameAt l = frameOf (byteAt 0 l) (fieldsAt (byteAt 0 l) l)
 
--- a record's kind and its numbers
+-- a record's kind, an hour's by its air, and its numbers
+abbrev pub airKind : Air → ℕ
+airKind (Deficit n) = 2
+airKind (Pressure n p) = 4
+
 abbrev pub kindOf : Record → ℕ
 kindOf (Record.Header h) = 1
-kindOf (Record.Hour h) = 2
+kindOf (Record.Hour h) = airKind (h .air)
 kindOf (Record.End e) = 3
 
 abbrev pub numbersOf : Record → List ℕ

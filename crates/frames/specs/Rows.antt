@@ -9,9 +9,9 @@ use Rattle.frames.specs.Digits.{within}
 use Rattle.frames.specs.Kinds.{among}
 use Rattle.frames.specs.Frames.{readFrameOf}
 
--- a row of the list, with no field; or row 10 with field 1 to 7
+-- a row of the list, with no field; or row 10 with field 1 to 8
 abbrev pub oneOf : List ℕ → ℕ → ℕ → Bool
-oneOf rows n f = among rows n && eqb f 0 || eqb n 10 && within 1 7 f
+oneOf rows n f = among rows n && eqb f 0 || eqb n 10 && within 1 8 f
 
 -- the rows that refuse a line read alone, row 10 besides
 abbrev pub readerRows : List ℕ

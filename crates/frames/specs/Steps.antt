@@ -3,6 +3,7 @@
 use Prim.Native.Nat.{ℕ, _+_, _*_, _/_, _%_, _≤_, _<_}
 use mathlib.Core.Path.{_≡_}
 use mathlib.Core.Bool.{true}
+use mathlib.Core.Logic.{_⊎_}
 use mathlib.Core.List.{List}
 use lib.ListN.{length, getD}
 use Rattle.frames.specs.Digits.{valueOf, byteAt}
@@ -29,6 +30,10 @@ Finds vs n r f = (l : List ℕ) → Says vs l → n ≤ length l → r ≡ f l
 -- r is what f makes of a kind's fields in each such line of the kind's length
 abbrev pub Makes : {A : Type 0} → List ℕ → ℕ → A → (List ℕ → A) → Type 0
 Makes vs kind r f = Finds vs (lengthOf kind) r (λ l. f (fieldsAt kind l))
+
+-- the kinds of an hour's frame
+abbrev pub IsHour : ℕ → Type 0
+IsHour kind = (kind ≡ 2) ⊎ (kind ≡ 4)
 
 -- rows 1 and 3 let the line pass: some kind has its length, and so has its own
 pub record Sized (l : List ℕ) : Type 0 where

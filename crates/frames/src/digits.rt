@@ -9,14 +9,11 @@ ghost use Rattle.frames.specs.Digits.{isDigit, allDigits, byteAt, number
 ghost use Rattle.frames.specs.Kinds.{one, two, sizeOf, longest};
 ghost use Rattle.frames.specs.Steps.{bitsOf, Values, Says, Finds};
 
+// `&` and `|`, not `&&` and `||`: no branch.
 pub(crate) fn is_digit(c: u8) -> bool
     ensures { λ r. ⌜ r ≡ isDigit c ⌝ }
 {
-    match c {
-        48..=57 => true,
-        65..=70 => true,
-        _ => false,
-    }
+    (48 <= c) & (c <= 57) | (65 <= c) & (c <= 70)
 }
 
 // 0 is the byte 48 and A the byte 65: a digit's value is its low four bits, and 9 more for a letter.
@@ -32,7 +29,7 @@ pub(crate) struct Line {
     pub values: [u8; LONGEST],
 }
 
-// No way out at a byte that is no digit, and `&`, not `&&`: with no branch the bytes are read many at a time.
+// No way out at a byte that is no digit: with no branch the bytes are read many at a time.
 pub(crate) fn line_of(s: &[u8]) -> Line
     requires { ⌜ length (now s) ≤ longest ⌝ }
     ensures digits { λ r. ⌜ r .digits ≡ allDigits (now (s .entry)) ⌝ }

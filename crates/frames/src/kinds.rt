@@ -3,6 +3,7 @@ use crate::widths::EndLine;
 use crate::widths::HeaderLine;
 use crate::widths::HourLine;
 use crate::widths::KINDS;
+use crate::widths::PressureLine;
 ghost use mathlib.Core.Path.{_≡_};
 ghost use Rattle.frames.specs.Kinds.{isLength, lengthOf};
 
@@ -14,6 +15,7 @@ pub(crate) fn length_of(kind: u8) -> usize
         1 => HeaderLine::DIGITS,
         2 => HourLine::DIGITS,
         3 => EndLine::DIGITS,
+        4 => PressureLine::DIGITS,
         _ => 0,
     }
 }

@@ -1,4 +1,5 @@
 // The fields of a line, by their places, and the hour that an hour frame's numbers say.
+use crate::Air;
 use crate::End;
 use crate::Header;
 use crate::Hour;
@@ -12,12 +13,13 @@ use crate::widths::EndLine;
 use crate::widths::HeaderLine;
 use crate::widths::HourLine;
 use crate::widths::KIND;
+use crate::widths::PressureLine;
 use trees::Measure;
 ghost use mathlib.Core.Path.{_≡_};
 ghost use mathlib.Core.List.{List};
 ghost use Prim.Native.Nat.{ℕ};
-ghost use Rattle.frames.specs.Steps.{Values, Says, Makes, Sized};
-ghost use Rattle.frames.specs.Layout.{soilNumber, headerOf, rawHourOf, endOf, frameAt, soilOf, hourOf};
+ghost use Rattle.frames.specs.Steps.{Values, Says, IsHour, Makes, Sized};
+ghost use Rattle.frames.specs.Layout.{vapourNumber, soilNumber, headerOf, airOf, rawHourOf, endOf, frameAt, soilOf, hourOf};
 
 fn header_at(values: &[u8]) -> Header
     requires { ⌜ Values (now values) ⌝ }
@@ -32,9 +34,25 @@ fn header_at(values: &[u8]) -> Header
     }
 }
 
-fn hour_at(values: &[u8]) -> RawHour
+// An hour's air, by the kind of its frame. The pressure's place is read whatever the kind: no branch before it.
+fn air_at(kind: u8, values: &[u8]) -> Air
     requires { ⌜ Values (now values) ⌝ }
-    ensures { λ r. ⌜ Makes (now (values .entry)) 2 r rawHourOf ⌝ }
+    ensures { λ r. ⌜ (IsHour kind → Makes (now (values .entry)) kind r (airOf kind)) ⌝ }
+{
+    let vapour = number_at(values, HourLine::VPD);
+    let pressure = number_at(values, PressureLine::PRESSURE);
+    match kind {
+        4 => Air::Pressure {
+            deficit: vapour,
+            pressure: pressure,
+        },
+        _ => Air::Deficit(vapour),
+    }
+}
+
+fn hour_at(kind: u8, values: &[u8]) -> RawHour
+    requires { ⌜ Values (now values) ⌝ }
+    ensures { λ r. ⌜ (IsHour kind → Makes (now (values .entry)) kind r (λ ns. rawHourOf (airOf kind ns) ns)) ⌝ }
 {
     RawHour {
         day: number_at(values, HourLine::DAY),
@@ -43,7 +61,7 @@ fn hour_at(values: &[u8]) -> RawHour
         ppfd: number_at(values, HourLine::PPFD),
         radiation: number_at(values, HourLine::RADIATION),
         temperature: number_at(values, HourLine::TEMPERATURE),
-        vpd: number_at(values, HourLine::VPD),
+        air: air_at(kind, values),
         wind: number_at(values, HourLine::WIND),
         soil: number_at(values, HourLine::SOIL),
     }
@@ -58,7 +76,7 @@ fn end_at(values: &[u8]) -> End
     }
 }
 
-// The frame of a line that rows 1 to 3 let pass, by its kind.
+// The frame of a line that rows 1 to 3 let pass, by its kind. One call of `hour_at` for every kind of hour: called once it costs no call.
 pub(crate) fn frame_at(values: &[u8]) -> Raw
     requires { ⌜ Values (now values) ⌝ }
     ensures { λ r. ⌜ ((l : List ℕ) → Says (now (values .entry)) l → Sized l → r ≡ frameAt l) ⌝ }
@@ -66,8 +84,8 @@ pub(crate) fn frame_at(values: &[u8]) -> Raw
     let kind = byte_at(values, KIND);
     match kind {
         1 => Raw::Header(header_at(values)),
-        2 => Raw::Hour(hour_at(values)),
-        _ => Raw::End(end_at(values)),
+        3 => Raw::End(end_at(values)),
+        _ => Raw::Hour(hour_at(kind, values)),
     }
 }
 
@@ -78,6 +96,19 @@ fn soil_of(measure: Measure, n: u16) -> Soil
     match measure {
         Measure::Suction => Soil::Suction(n),
         Measure::Water => Soil::Water(n),
+    }
+}
+
+// The number in VPD's place.
+pub fn vapour_number(air: Air) -> u16
+    ensures { λ r. ⌜ r ≡ vapourNumber air ⌝ }
+{
+    match air {
+        Air::Deficit(n) => n,
+        Air::Pressure {
+            deficit: n,
+            pressure: _,
+        } => n,
     }
 }
 
@@ -95,6 +126,7 @@ pub fn soil_number(soil: Soil) -> u16
 pub(crate) fn hour_of(raw: RawHour, measure: Measure) -> Hour
     ensures { λ r. ⌜ r ≡ hourOf raw measure ⌝ }
 {
+    let air = raw.air;
     let soil = soil_of(measure, raw.soil);
     Hour {
         day: raw.day,
@@ -103,7 +135,7 @@ pub(crate) fn hour_of(raw: RawHour, measure: Measure) -> Hour
         ppfd: raw.ppfd,
         radiation: raw.radiation,
         temperature: temperature::signed(raw.temperature),
-        vpd: raw.vpd,
+        air: air,
         wind: raw.wind,
         soil: soil,
     }

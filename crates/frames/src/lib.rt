@@ -7,6 +7,8 @@ mod temperature;
 pub mod widths;
 
 pub use layout::soil_number;
+pub use layout::vapour_number;
+pub use records::Air;
 pub use records::Checked;
 pub use records::Decoded;
 pub use records::End;
@@ -24,9 +26,9 @@ pub use records::row_of;
 pub use temperature::signed;
 use trees::Choice;
 ghost use mathlib.Core.Path.{_≡_};
-ghost use Rattle.records.specs.Answers.{parsedAs, decodedAs};
+ghost use Rattle.records.specs.Answers.{accepted, onward, parsedAs, checkedAs, decodedAs};
 ghost use Rattle.frames.specs.Digits.{isDigit};
-ghost use Rattle.frames.specs.Frames.{parsedOf, soundOf, recordOf, readFrameOf};
+ghost use Rattle.frames.specs.Frames.{parsedOf, recordOf, readFrameOf};
 ghost use Rattle.frames.specs.Rows.{ReaderRows};
 
 // A capital hexadecimal digit.
@@ -54,10 +56,10 @@ pub fn parse(line: &[u8]) -> Parsed
     Parsed::Frame(layout::frame_at(&values))
 }
 
-fn sound(record: Record) -> Decoded
-    ensures { λ r. ⌜ decodedAs r ≡ soundOf «record» ⌝ }
+// A record by the answer of its rows. They are asked for by kind: `check` of a record is not written out by the compiler.
+fn answered(record: Record, answer: Checked) -> Decoded
+    ensures { λ r. ⌜ decodedAs r ≡ onward (checkedAs answer) (λ _. accepted «record») ⌝ }
 {
-    let answer = check(record);
     match answer {
         Checked::Sound => Decoded::Read(record),
         Checked::Refused(refusal) => Decoded::Refused(refusal),
@@ -72,7 +74,12 @@ fn hour_record(tree: u8, raw: RawHour) -> Decoded
         return Decoded::Refused(Refusal::Tree);
     };
     let measure = f.measure;
-    sound(Record::Hour(layout::hour_of(raw, measure)))
+    let h = layout::hour_of(raw, measure);
+    let soil = h.soil;
+    answered(
+        Record::Hour(h),
+        records::check_hour(h, records::soil_out(soil)),
+    )
 }
 
 // A frame to a record; the given tree matters for an hour only.
@@ -80,9 +87,9 @@ pub fn record_of(tree: u8, frame: Raw) -> Decoded
     ensures { λ r. ⌜ decodedAs r ≡ recordOf tree frame ⌝ }
 {
     match frame {
-        Raw::Header(h) => sound(Record::Header(h)),
+        Raw::Header(h) => answered(Record::Header(h), records::check_header(h)),
         Raw::Hour(h) => hour_record(tree, h),
-        Raw::End(e) => sound(Record::End(e)),
+        Raw::End(e) => Decoded::Read(Record::End(e)),
     }
 }
 

@@ -62,7 +62,16 @@ impl EndLine {
     pub const DIGITS: usize = EndLine::HOURS + NUMBER;
 }
 
-// The number of kinds, and the digits of the longest lines.
-pub const KINDS: u8 = 3;
+// 04 | the fields of 02 | pressure 2
+pub struct PressureLine;
 
-pub const LONGEST: usize = HourLine::DIGITS;
+impl PressureLine {
+    pub const PRESSURE: usize = HourLine::DIGITS;
+
+    pub const DIGITS: usize = PressureLine::PRESSURE + NUMBER;
+}
+
+// The number of kinds, and the digits of the longest lines.
+pub const KINDS: u8 = 4;
+
+pub const LONGEST: usize = PressureLine::DIGITS;

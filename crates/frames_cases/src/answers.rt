@@ -2,6 +2,7 @@
 use crate::text::print_next;
 use crate::text::print_signed;
 use cases::print;
+use frames::Air;
 use frames::Decoded;
 use frames::Hour;
 use frames::Record;
@@ -30,17 +31,38 @@ fn print_soil(soil: Soil) {
     }
 }
 
-fn print_hour(h: Hour) {
+// The fields of kind 02, which an hour of every kind has.
+fn print_fields(h: Hour) {
     print_next(h.day);
     print_next(h.hour as u16);
     print_next(h.ozone);
     print_next(h.ppfd);
     print_next(h.radiation);
     print_signed(h.temperature);
-    print_next(h.vpd);
+    let air = h.air;
+    print_next(frames::vapour_number(air));
     print_next(h.wind);
     let soil = h.soil;
     print_soil(soil);
+}
+
+// The kind, the fields of kind 02, and those that the kind adds.
+fn print_hour(h: Hour) {
+    let air = h.air;
+    match air {
+        Air::Deficit(_) => {
+            print_next(2);
+            print_fields(h);
+        },
+        Air::Pressure {
+            deficit: _,
+            pressure: n,
+        } => {
+            print_next(4);
+            print_fields(h);
+            print_next(n);
+        },
+    }
 }
 
 // A record's kind and its fields.
@@ -54,10 +76,7 @@ pub(crate) fn print_record(record: Record) {
             print_next(h.last);
             print_next(h.level);
         },
-        Record::Hour(h) => {
-            print_next(2);
-            print_hour(h);
-        },
+        Record::Hour(h) => print_hour(h),
         Record::End(e) => {
             print_next(3);
             print_next(e.hours);
@@ -74,7 +93,7 @@ pub(crate) fn print_reading(tree: u8, line: &[u8]) {
     }
 }
 
-// `.` for a line that is read, else `1` to `8` for the row, `a` to `g` for row 10 with field 1 to 7.
+// `.` for a line that is read, else `1` to `8` for the row, `a` to `h` for row 10 with field 1 to 8.
 pub(crate) fn mark(decoded: Decoded) -> u8 {
     match decoded {
         Decoded::Read(_) => b'.',

@@ -1,6 +1,7 @@
 // Every change of one character of a line.
 use crate::answers::mark;
 use cases::print;
+use frames::widths::LONGEST;
 
 // The mark of the line with the byte b at a place, by way of a buffer; `?` past the line's end, and for a line that the buffer does not hold.
 fn mark_in(tree: u8, line: &[u8], place: usize, b: u8, buf: &mut [u8]) -> u8 {
@@ -17,7 +18,7 @@ fn mark_in(tree: u8, line: &[u8], place: usize, b: u8, buf: &mut [u8]) -> u8 {
 }
 
 fn print_mark(tree: u8, line: &[u8], place: usize, b: u8) {
-    let mut buf = [0; 36];
+    let mut buf = [0; LONGEST];
     let one = [mark_in(tree, line, place, b, &mut buf)];
     print(&one);
 }

@@ -15,6 +15,7 @@ fn soil_of(tree: u8, n: u16) -> Soil {
 }
 
 fn hour_of(tree: u8, raw: RawHour) -> Hour {
+    let air = raw.air;
     Hour {
         day: raw.day,
         hour: raw.hour,
@@ -22,7 +23,7 @@ fn hour_of(tree: u8, raw: RawHour) -> Hour {
         ppfd: raw.ppfd,
         radiation: raw.radiation,
         temperature: frames::signed(raw.temperature),
-        vpd: raw.vpd,
+        air: air,
         wind: raw.wind,
         soil: soil_of(tree, raw.soil),
     }

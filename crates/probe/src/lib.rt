@@ -2,6 +2,7 @@
 use account::Account;
 use account::Fed;
 use flux::Dosed;
+use frames::Air;
 use frames::Hour;
 use frames::Soil;
 ghost use Prim.Native.Nat.{_<_};
@@ -55,9 +56,11 @@ fn one_hour(a: Account) -> Account {
     sums.hours = 1;
     let phase = a.phase;
     let season = a.season;
+    let kind = a.kind;
     Account {
         phase,
         season,
+        kind,
         sums,
     }
 }
@@ -87,9 +90,19 @@ fn soil_of(tree: u8, n: u16) -> Soil {
     }
 }
 
-fn hour_of(tree: u8, row: &[u16], temperature: i16) -> Hour
-    requires { ⌜ 7 < length (now row) ⌝ }
+// What an hour of a kind says of the air.
+fn air_of(kind: u8, deficit: u16, pressure: u16) -> Air {
+    match kind {
+        4 => Air::Pressure { deficit, pressure },
+        _ => Air::Deficit(deficit),
+    }
+}
+
+// Day, hour, ozone, PPFD, radiation, deficit, wind, soil, pressure.
+fn hour_of(tree: u8, kind: u8, row: &[u16], temperature: i16) -> Hour
+    requires { ⌜ 8 < length (now row) ⌝ }
 {
+    let air = air_of(kind, row[5], row[8]);
     Hour {
         day: row[0],
         hour: 0,
@@ -97,7 +110,7 @@ fn hour_of(tree: u8, row: &[u16], temperature: i16) -> Hour
         ppfd: row[3],
         radiation: row[4],
         temperature,
-        vpd: row[5],
+        air,
         wind: row[6],
         soil: soil_of(tree, row[7]),
     }
@@ -114,6 +127,7 @@ fn both(dosed: Dosed) -> u64 {
 #[no_mangle]
 pub extern "C" fn pairs(
     tree: u8,
+    kind: u8,
     first: u16,
     last: u16,
     fields: &[u16],
@@ -122,10 +136,10 @@ pub extern "C" fn pairs(
     let mut sum: u64 = 0;
     let mut i: usize = 0;
     while i < temperatures.len() {
-        if fields.len() / 8 <= i {
+        if fields.len() / 9 <= i {
             return sum;
         }
-        let h = hour_of(tree, &fields[8 * i..], temperatures[i]);
+        let h = hour_of(tree, kind, &fields[9 * i..], temperatures[i]);
         sum = std::num::wrapping_add_u64(sum, both(flux::hour_dose(tree, first, last, h)));
         i += 1;
     }

@@ -1,6 +1,6 @@
 -- The rows that a record meets by itself (document 01, "Turned-back lines"): 5 to 8 for a header, 10 for an hour.
 use Prim.Native.Nat.{ℕ, _-_}
-use mathlib.Core.Bool.{Bool, _||_}
+use mathlib.Core.Bool.{Bool, false, _||_}
 use lib.Dec.{ltb}
 use Rattle.trees.specs.declared.Figures.{Figures}
 use Rattle.trees.specs.declared.Choice.{Choice}
@@ -8,6 +8,8 @@ use Rattle.trees.specs.Figures.{figuresOf, rampDays}
 use Rattle.records.specs.Answers.{Outcome, accepted, refused, row, field}
 use Rattle.records.specs.Temperature.{temperatureOut}
 use Rattle.records.specs.declared.Header.{Header}
+use Rattle.records.specs.declared.Air.{Air}
+use Rattle.records.specs.declared.Air.the-variants.{Deficit, Pressure}
 use Rattle.records.specs.declared.Soil.{Soil}
 use Rattle.records.specs.declared.Soil.the-variants.{Suction, Water}
 use Rattle.records.specs.declared.Hour.{Hour}
@@ -22,6 +24,16 @@ abbrev pub onTree : {A : Type 0} → Choice → (Figures → Outcome A) → Outc
 onTree (Choice.Tree f) next = next f
 onTree Choice.Unknown next = refused (5, 0)
 
+-- VPD 0 to 10000 Pa
+abbrev pub deficitOut : Air → Bool
+deficitOut (Deficit n) = ltb 10000 n
+deficitOut (Pressure n p) = ltb 10000 n
+
+-- pressure 5000 to 11000 tenths of hPa, where the frame has one (W-204)
+abbrev pub pressureOut : Air → Bool
+pressureOut (Deficit n) = false
+pressureOut (Pressure n p) = isOutside 5000 11000 p
+
 -- suction 0 to 10000 kPa, available water 0 to 1000 tenths of a percent
 abbrev pub soilOut : Soil → Bool
 soilOut (Suction n) = ltb 10000 n
@@ -31,6 +43,19 @@ soilOut (Water n) = ltb 1000 n
 abbrev pub periodOut : Header → ℕ → Bool
 periodOut h ramps = ltb (h .first) 1 || ltb (h .last) (h .first) || ltb (h .days) (h .last) || ltb (h .last - h .first) ramps
 
+-- row 10: the first reading out of range, given whether the soil is unfit
+abbrev pub hourChecked : Bool → Hour → Outcome Unit
+hourChecked unfit h =
+    field 1 (ltb 5000 (h .ozone))
+    (field 2 (ltb 3000 (h .ppfd))
+    (field 3 (ltb 1500 (h .radiation))
+    (field 4 (temperatureOut (h .temperature))
+    (field 5 (deficitOut (h .air))
+    (field 6 (ltb 6000 (h .wind))
+    (field 7 unfit
+    (field 8 (pressureOut (h .air))
+    (accepted tt))))))))
+
 unfoldable pub checked : Record → Outcome Unit
 checked (Record.Header h) =
     onTree (figuresOf (h .tree)) (λ f.
@@ -38,13 +63,5 @@ checked (Record.Header h) =
     (row 7 (periodOut h (rampDays f))
     (row 8 (isOutside 1 10000 (h .level))
     (accepted tt))))
-checked (Record.Hour h) =
-    field 1 (ltb 5000 (h .ozone))
-    (field 2 (ltb 3000 (h .ppfd))
-    (field 3 (ltb 1500 (h .radiation))
-    (field 4 (temperatureOut (h .temperature))
-    (field 5 (ltb 10000 (h .vpd))
-    (field 6 (ltb 6000 (h .wind))
-    (field 7 (soilOut (h .soil))
-    (accepted tt)))))))
+checked (Record.Hour h) = hourChecked (soilOut (h .soil)) h
 checked (Record.End e) = accepted tt

@@ -1,4 +1,4 @@
-// Records (document 01, "Frames"): what the three kinds of line say, why a call is refused, the rows that a record meets by itself, the hours
+// Records (document 01, "Frames"): what a line says by its kind, why a call is refused, the rows that a record meets by itself, the hours
 // of a header's period, and what is written into a lent buffer.
 // The crate `frames` reads a line to a record, the crate `writer` has the way back.
 mod period;
@@ -6,7 +6,10 @@ mod ranges;
 
 pub use period::all_given;
 pub use period::period_hours;
+pub use ranges::check_header;
+pub use ranges::check_hour;
 pub use ranges::outside;
+pub use ranges::soil_out;
 ghost use mathlib.Core.Path.{_≡_};
 ghost use Rattle.records.specs.Answers.{rowOf, checkedAs};
 ghost use Rattle.records.specs.Ranges.{checked};
@@ -26,8 +29,15 @@ pub enum Soil {
     Water(u16),
 }
 
+// What an hour says of the air besides its ozone and temperature, by the kind of its frame: vapour pressure deficit in Pa (02);
+// deficit, and pressure in tenths of hPa (04).
+pub enum Air {
+    Deficit(u16),
+    Pressure { deficit: u16, pressure: u16 },
+}
+
 // An hour's readings: ozone in tenths of ppb, PPFD in µmol m⁻² s⁻¹, global radiation in W m⁻², temperature in tenths of °C,
-// vapour pressure deficit in Pa, wind in cm/s, soil in its measure's unit.
+// the air's, wind in cm/s, soil in its measure's unit.
 pub struct Hour {
     pub day: u16,
     pub hour: u8,
@@ -35,7 +45,7 @@ pub struct Hour {
     pub ppfd: u16,
     pub radiation: u16,
     pub temperature: i16,
-    pub vpd: u16,
+    pub air: Air,
     pub wind: u16,
     pub soil: Soil,
 }
@@ -60,7 +70,7 @@ pub struct RawHour {
     pub ppfd: u16,
     pub radiation: u16,
     pub temperature: u16,
-    pub vpd: u16,
+    pub air: Air,
     pub wind: u16,
     pub soil: u16,
 }
@@ -72,7 +82,7 @@ pub enum Raw {
     End(End),
 }
 
-// Why a call is refused: a case for each of document 01's rows, 1 to 13 and W-202's 14, in that order. Range names the field, 1 to 7.
+// Why a call is refused: a case for each row, document 01's 1 to 13 and the requests' from 14 on, in that order. Range names the field, 1 to 8.
 // `rowOf` (specs/Answers.antt) gives each case's number.
 pub enum Refusal {
     Length,
@@ -89,6 +99,7 @@ pub enum Refusal {
     Buffer,
     Account,
     Place,
+    Mixed,
 }
 
 // The answer to a line by rows 1 to 3: its frame, or the row that refuses it.
@@ -115,7 +126,7 @@ pub enum Written {
     Refused(Refusal),
 }
 
-// A refusal's row, 1 to 14.
+// A refusal's row, 1 to 15.
 pub fn row_of(refusal: Refusal) -> u8
     ensures { λ r. ⌜ r ≡ rowOf «refusal» .0 ⌝ }
 {
@@ -134,6 +145,7 @@ pub fn row_of(refusal: Refusal) -> u8
         Refusal::Buffer => 12,
         Refusal::Account => 13,
         Refusal::Place => 14,
+        Refusal::Mixed => 15,
     }
 }
 
@@ -142,8 +154,11 @@ pub fn check(record: Record) -> Checked
     ensures { λ r. ⌜ checkedAs r ≡ checked «record» ⌝ }
 {
     match record {
-        Record::Header(h) => ranges::check_header(h),
-        Record::Hour(h) => ranges::check_hour(h),
+        Record::Header(h) => check_header(h),
+        Record::Hour(h) => {
+            let soil = h.soil;
+            check_hour(h, soil_out(soil))
+        },
         Record::End(_) => Checked::Sound,
     }
 }

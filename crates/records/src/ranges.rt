@@ -1,4 +1,5 @@
 // The rows that a record meets by itself: 5 to 8 for a header, 10 with its first field out of range for an hour.
+use crate::Air;
 use crate::Checked;
 use crate::Header;
 use crate::Hour;
@@ -7,7 +8,7 @@ use crate::Soil;
 use trees::Choice;
 ghost use mathlib.Core.Path.{_≡_};
 ghost use Rattle.records.specs.Answers.{checkedAs};
-ghost use Rattle.records.specs.Ranges.{isOutside, periodOut, soilOut, checked};
+ghost use Rattle.records.specs.Ranges.{isOutside, periodOut, deficitOut, soilOut, pressureOut, hourChecked, checked};
 ghost use Rattle.records.specs.Temperature.{temperatureOut};
 ghost use Rattle.records.specs.declared.Record.{Record};
 
@@ -34,7 +35,8 @@ fn period_out(h: Header, ramps: u32) -> bool
     ((h.last - h.first) as u32) < ramps
 }
 
-pub(crate) fn check_header(h: Header) -> Checked
+// Rows 5 to 8.
+pub fn check_header(h: Header) -> Checked
     ensures { λ r. ⌜ checkedAs r ≡ checked (Record.Header h) ⌝ }
 {
     let Choice::Tree(f) = trees::figures_of(h.tree) else {
@@ -64,7 +66,34 @@ fn temperature_out(t: i16) -> bool
     false
 }
 
-fn soil_out(soil: Soil) -> bool
+// Field 5.
+fn deficit_out(air: Air) -> bool
+    ensures { λ r. ⌜ r ≡ deficitOut air ⌝ }
+{
+    match air {
+        Air::Deficit(n) => 10000 < n,
+        Air::Pressure {
+            deficit: n,
+            pressure: _,
+        } => 10000 < n,
+    }
+}
+
+// Field 8.
+fn pressure_out(air: Air) -> bool
+    ensures { λ r. ⌜ r ≡ pressureOut air ⌝ }
+{
+    match air {
+        Air::Deficit(_) => false,
+        Air::Pressure {
+            deficit: _,
+            pressure: n,
+        } => outside(5000, 11000, n),
+    }
+}
+
+// Field 7.
+pub fn soil_out(soil: Soil) -> bool
     ensures { λ r. ⌜ r ≡ soilOut soil ⌝ }
 {
     match soil {
@@ -73,8 +102,9 @@ fn soil_out(soil: Soil) -> bool
     }
 }
 
-pub(crate) fn check_hour(h: Hour) -> Checked
-    ensures { λ r. ⌜ checkedAs r ≡ checked (Record.Hour h) ⌝ }
+// Row 10, given whether the soil is unfit: out of range or, for a caller that knows the tree, in the other measure.
+pub fn check_hour(h: Hour, unfit: bool) -> Checked
+    ensures { λ r. ⌜ checkedAs r ≡ hourChecked unfit h ⌝ }
 {
     if 5000 < h.ozone {
         return Checked::Refused(Refusal::Range(1));
@@ -88,15 +118,18 @@ pub(crate) fn check_hour(h: Hour) -> Checked
     if temperature_out(h.temperature) {
         return Checked::Refused(Refusal::Range(4));
     }
-    if 10000 < h.vpd {
+    let air = h.air;
+    if deficit_out(air) {
         return Checked::Refused(Refusal::Range(5));
     }
     if 6000 < h.wind {
         return Checked::Refused(Refusal::Range(6));
     }
-    let soil = h.soil;
-    if soil_out(soil) {
+    if unfit {
         return Checked::Refused(Refusal::Range(7));
+    }
+    if pressure_out(air) {
+        return Checked::Refused(Refusal::Range(8));
     }
     Checked::Sound
 }

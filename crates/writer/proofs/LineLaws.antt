@@ -2,17 +2,20 @@
 use Prim.Native.Nat.{ℕ}
 use mathlib.Core.Path.{_≡_, refl, ap, _∙_}
 use mathlib.Core.Bool.{true}
-use mathlib.Core.List.{List, _∷_}
+use mathlib.Core.List.{List, [], _∷_, _++_}
 use native.Mathlib.Omega.{arith}
 use borrow.Author.Tests.{eq-eqb}
 use lib.ListN.{length, getD, drop}
 use Rattle.records.specs.Answers.{accepted}
-use Rattle.frames.specs.Digits.{allDigits, byteAt}
+use Rattle.frames.specs.Digits.{allDigits, byteAt, number}
 use Rattle.frames.specs.Kinds.{one, widthsOf, among, isLength, lengthOf}
-use Rattle.frames.specs.Fields.{numbersAt, fieldsAt}
-use Rattle.frames.specs.Layout.{frameOf, frameAt, kindOf, numbersOf, frameLine}
+use Rattle.frames.specs.Fields.{numbersAt, digitsOf, fieldsAt}
+use Rattle.frames.specs.Layout.{hourNumbers, frameOf, frameAt, airKind, kindOf, numbersOf, frameLine}
 use Rattle.frames.specs.Steps.{Sized}
 use Rattle.frames.specs.Frames.{parsedOf}
+use Rattle.records.specs.declared.Air.{Air}
+use Rattle.records.specs.declared.Air.the-variants.{Deficit, Pressure}
+use Rattle.records.specs.declared.Hour.{Hour}
 use Rattle.records.specs.declared.Record.{Record}
 use Rattle.frames.proofs.KindLaws.{length-is}
 use Rattle.frames.proofs.FrameLaws.{frame-is, sized-within}
@@ -21,11 +24,25 @@ use Rattle.writer.proofs.WidthLaws.{FitsLine}
 
 -- ---- the line of a record
 
+module _ (h : Hour) where
+  pub deficit-line : {n : ℕ} → h .air ≡ Deficit n → frameLine (Record.Hour h) ≡ digitsOf (one ∷ widthsOf 2) (2 ∷ hourNumbers h)
+  unfolding frameLine
+  deficit-line e = rw e
+
+  pub pressure-line : {n p : ℕ} → h .air ≡ Pressure n p → frameLine (Record.Hour h) ≡ digitsOf (one ∷ widthsOf 2) (4 ∷ hourNumbers h) ++ number p []
+  unfolding frameLine
+  pressure-line e = rw e
+
+  hour-length : (a : Air) → h .air ≡ a → (isLength (length (frameLine (Record.Hour h))) ≡ true) × (lengthOf (airKind (h .air)) ≡ length (frameLine (Record.Hour h)))
+  unfolding frameLine among lengthOf
+  hour-length (Deficit n) e = rw e (refl, refl)
+  hour-length (Pressure n p) e = rw e (refl, refl)
+
 -- its length is its kind's, by the table
 line-length : (r : Record) → (isLength (length (frameLine r)) ≡ true) × (lengthOf (kindOf r) ≡ length (frameLine r))
 unfolding frameLine among lengthOf
 line-length (Record.Header h) = (refl, refl)
-line-length (Record.Hour h) = (refl, refl)
+line-length (Record.Hour h) = hour-length h (h .air) refl
 line-length (Record.End e) = (refl, refl)
 
 module _ (r : Record) (fits : FitsLine r) where

@@ -14,15 +14,19 @@ use Rattle.records.specs.Answers.{accepted}
 use Rattle.frames.specs.Digits.{byteAt}
 use Rattle.records.specs.Temperature.{temperatureOut}
 use Rattle.frames.specs.Fields.{fieldsAt}
-use Rattle.frames.specs.Layout.{soilNumber, hourNumbers, headerOf, rawHourOf, endOf, soilOf, hourOf, frameOf, frameAt, kindOf, numbersOf, frameLine}
+use Rattle.frames.specs.Layout.{soilNumber, hourNumbers, headerOf, airOf, rawHourOf, endOf, soilOf, hourOf, frameOf, frameAt, airKind, kindOf, numbersOf, frameLine}
 use Rattle.records.specs.Ranges.{onTree, checked}
 use Rattle.frames.specs.Frames.{parsedOf, soundOf, recordOf, readFrameOf}
 use Rattle.records.specs.Buffer.{putOf, bufferAfter}
 use Rattle.writer.specs.Writer.{textOf, writeOf}
 use Rattle.writer.specs.RoundTrip.{InWidth, measureIn, HasMeasure, OfMeasure, RoundTrip}
+use Rattle.records.specs.declared.Air.{Air}
+use Rattle.records.specs.declared.Air.the-variants.{Deficit, Pressure}
 use Rattle.records.specs.declared.Soil.{Soil}
 use Rattle.records.specs.declared.Soil.the-variants.{Suction, Water}
 use Rattle.records.specs.declared.Hour.{Hour}
+use Rattle.records.specs.declared.Raw.{Raw}
+use Rattle.records.specs.declared.RawHour.{RawHour}
 use Rattle.records.specs.declared.Record.{Record}
 use Rattle.writer.proofs.DigitLaws.{number-lt}
 use Rattle.records.proofs.AnswerLaws.{accepted-same, row-passed, onward-passed}
@@ -32,7 +36,7 @@ use Rattle.frames.proofs.ReadLaws.{parsed-passed, SoundRead, sound-read, hour-r
 use Rattle.writer.proofs.WidthLaws.{range-fits}
 use Rattle.frames.proofs.FrameLaws.{frame-is, sized-within}
 use Rattle.writer.proofs.LineLaws.{line-parsed, line-frame, line-written}
-use Rattle.frames.proofs.KindLaws.{KindCase, header, hour, end, kind-cases}
+use Rattle.frames.proofs.KindLaws.{KindCase, header, hour, end, withPressure, kind-cases}
 use Rattle.writer.proofs.RowLaws.{write-only}
 
 -- ---- written, then read
@@ -42,19 +46,24 @@ soil-back (Suction n) = refl
 soil-back (Water n) = refl
 
 hour-back : (h : Hour) (m : Measure) → m ≡ measureIn (h .soil) → temperatureOut (h .temperature) ≡ false
-    → hourOf (rawHourOf (hourNumbers h)) m ≡ h
+    → hourOf (rawHourOf (h .air) (hourNumbers h)) m ≡ h
 unfolding hourOf
 hour-back h m e t = rw (e, signed-complement (h .temperature) t, soil-back (h .soil))
 
 hour-measured : (choice : Choice) (h : Hour) → HasMeasure choice (measureIn (h .soil)) → temperatureOut (h .temperature) ≡ false
-    → onTree choice (λ f. soundOf (Record.Hour (hourOf (rawHourOf (hourNumbers h)) (f .measure)))) ≡ soundOf (Record.Hour h)
+    → onTree choice (λ f. soundOf (Record.Hour (hourOf (rawHourOf (h .air) (hourNumbers h)) (f .measure)))) ≡ soundOf (Record.Hour h)
 hour-measured (Choice.Tree f) h m t = rw (hour-back h (f .measure) m t)
 hour-measured Choice.Unknown h m t = absurd m
+
+hour-frame : (h : Hour) (a : Air) → h .air ≡ a → frameOf (airKind (h .air)) (hourNumbers h) ≡ Raw.Hour (rawHourOf (h .air) (hourNumbers h))
+unfolding frameOf
+hour-frame h (Deficit n) e = rw e
+hour-frame h (Pressure n p) e = rw e
 
 record-back : (tree : ℕ) (r : Record) → OfMeasure tree r → InRange r → recordOf tree (frameOf (kindOf r) (numbersOf r)) ≡ soundOf r
 unfolding recordOf frameOf
 record-back tree (Record.Header h) m i = refl
-record-back tree (Record.Hour h) m i = hour-measured (figuresOf tree) h m (i .temperature)
+record-back tree (Record.Hour h) m i = ap (recordOf tree) (hour-frame h (h .air) refl) ∙ hour-measured (figuresOf tree) h m (i .temperature)
 record-back tree (Record.End e) m i = refl
 
 read-line : (tree : ℕ) (r : Record) → InWidth r → OfMeasure tree r → checked r ≡ accepted tt → readFrameOf tree (frameLine r) ≡ accepted r
@@ -88,9 +97,17 @@ soil-number : (m : Measure) (n : ℕ) → soilNumber (soilOf m n) ≡ n
 soil-number Measure.Suction n = refl
 soil-number Measure.Water n = refl
 
-hour-numbers : (l : List ℕ) (m : Measure) → hourNumbers (hourOf (rawHourOf (fieldsAt 2 l)) m) ≡ fieldsAt 2 l
-unfolding hourOf
-hour-numbers l m = simp (complement-signed (rawHourOf (fieldsAt 2 l) .temperature) (number-lt _ l), soil-number m)
+module _ (l : List ℕ) where
+  abbrev hourIn : ℕ → RawHour
+  hourIn kind = rawHourOf (airOf kind (fieldsAt kind l)) (fieldsAt kind l)
+
+  deficit-numbers : (m : Measure) → hourNumbers (hourOf (hourIn 2) m) ≡ fieldsAt 2 l
+  unfolding hourOf
+  deficit-numbers m = simp (complement-signed (hourIn 2 .temperature) (number-lt _ l), soil-number m)
+
+  pressure-numbers : (m : Measure) → hourNumbers (hourOf (hourIn 4) m) ≡ fieldsAt 4 l
+  unfolding hourOf
+  pressure-numbers m = simp (complement-signed (hourIn 4 .temperature) (number-lt _ l), soil-number m)
 
 -- a record that passes, with the kind and the numbers of the line
 record ReadFrom (l : List ℕ) (r : Record) : Type 0 where
@@ -106,12 +123,15 @@ module _ (tree : ℕ) (l : List ℕ) (r : Record) (e : recordOf tree (frameAt l)
   by-kind k = ap (recordOf tree) (sym (frame-is l k)) ∙ e
 
   line-from : KindCase (byteAt 0 l) → ReadFrom l r
-  unfolding recordOf frameOf
+  unfolding recordOf frameOf hourOf
   line-from (header k) = read-from l (Record.Header (headerOf (fieldsAt 1 l))) r k refl (sound-read _ r (by-kind k))
   line-from (hour k) =
-      let h = hour-read tree (rawHourOf (fieldsAt 2 l)) r (by-kind k) in
-      read-from l (Record.Hour (hourOf (rawHourOf (fieldsAt 2 l)) (h .figures .measure))) r k (hour-numbers l (h .figures .measure)) (h .is)
+      let h = hour-read tree (hourIn l 2) r (by-kind k) in
+      read-from l (Record.Hour (hourOf (hourIn l 2) (h .figures .measure))) r k (deficit-numbers l (h .figures .measure)) (h .is)
   line-from (end k) = read-from l (Record.End (endOf (fieldsAt 3 l))) r k refl (sound-read _ r (by-kind k))
+  line-from (withPressure k) =
+      let h = hour-read tree (hourIn l 4) r (by-kind k) in
+      read-from l (Record.Hour (hourOf (hourIn l 4) (h .figures .measure))) r k (pressure-numbers l (h .figures .measure)) (h .is)
 
 line-read : (tree : ℕ) (l : List ℕ) (r : Record) → readFrameOf tree l ≡ accepted r → (checked r ≡ accepted tt) × (frameLine r ≡ l)
 unfolding readFrameOf

@@ -1,10 +1,14 @@
 -- A record that its own rows let pass fits the widths of its line.
+use mathlib.Core.Path.{_≡_, refl}
 use mathlib.Core.List.{_∷_}
 use native.Mathlib.Omega.{arith}
 use Rattle.frames.specs.Kinds.{one, widthsOf}
 use Rattle.frames.specs.Layout.{kindOf, numbersOf}
+use Rattle.records.specs.declared.Air.{Air}
+use Rattle.records.specs.declared.Air.the-variants.{Deficit, Pressure}
+use Rattle.records.specs.declared.Hour.{Hour}
 use Rattle.records.specs.declared.Record.{Record}
-use Rattle.frames.proofs.RangeLaws.{InRange}
+use Rattle.frames.proofs.RangeLaws.{HourIn, InRange}
 use Rattle.writer.specs.RoundTrip.{InWidth}
 use Rattle.writer.proofs.FieldLaws.{FitsWidths}
 use Rattle.writer.proofs.TemperatureLaws.{complement-lt}
@@ -13,7 +17,18 @@ use Rattle.writer.proofs.TemperatureLaws.{complement-lt}
 abbrev pub FitsLine : Record → Type 0
 FitsLine r = FitsWidths (one ∷ widthsOf (kindOf r)) (kindOf r ∷ numbersOf r)
 
+hour-fits : (h : Hour) → HourIn h → InWidth (Record.Hour h) → (a : Air) → h .air ≡ a → FitsLine (Record.Hour h)
+hour-fits h i w (Deficit n) e =
+    let t = complement-lt (h .temperature) (i .temperature) in
+    let v = rw e at (i .vapour) in
+    rw e (omega arith)
+hour-fits h i w (Pressure n p) e =
+    let t = complement-lt (h .temperature) (i .temperature) in
+    let v = rw e at (i .vapour) in
+    let q = rw e at (i .pressure) in
+    rw e (omega arith)
+
 pub range-fits : (r : Record) → InRange r → InWidth r → FitsLine r
 range-fits (Record.Header h) i w = omega arith
-range-fits (Record.Hour h) i w = let t = complement-lt (h .temperature) (i .temperature) in omega arith
+range-fits (Record.Hour h) i w = hour-fits h i w (h .air) refl
 range-fits (Record.End e) i w = omega arith

@@ -4,6 +4,7 @@ use crate::digits::put_four;
 use crate::digits::put_number;
 use crate::digits::put_two;
 use crate::temperature;
+use frames::Air;
 use frames::End;
 use frames::Header;
 use frames::Hour;
@@ -14,11 +15,13 @@ use frames::widths::EndLine;
 use frames::widths::HeaderLine;
 use frames::widths::HourLine;
 use frames::widths::KIND;
+use frames::widths::PressureLine;
 ghost use mathlib.Core.Path.{_≡_};
-ghost use mathlib.Core.List.{_∷_};
+ghost use mathlib.Core.List.{[], _∷_, _++_};
 ghost use Prim.Native.Nat.{_≤_};
 ghost use lib.ListN.{length};
 ghost use lib.Seq.{sets};
+ghost use Rattle.frames.specs.Digits.{number};
 ghost use Rattle.frames.specs.Kinds.{one, widthsOf, digitsIn};
 ghost use Rattle.frames.specs.Fields.{digitsOf};
 ghost use Rattle.frames.specs.Layout.{hourNumbers, frameLine};
@@ -44,24 +47,52 @@ fn put_hour_fields(kind: u8, h: Hour, buf: &mut [u8])
     ensures { λ _. ⌜ now (buf .exit) ≡ sets (now (buf .entry)) 0 (digitsOf (one ∷ widthsOf 2) (kind ∷ hourNumbers h)) ⌝ }
 {
     let t = temperature::complement(h.temperature);
+    let air = h.air;
+    let vapour = frames::vapour_number(air);
     let soil = h.soil;
     let n = frames::soil_number(soil);
     put_byte(buf, KIND, kind);
     put_number(buf, HourLine::DAY, h.day);
     put_byte(buf, HourLine::HOUR, h.hour);
     put_four(buf, HourLine::OZONE, h.ozone, h.ppfd, h.radiation, t);
-    put_two(buf, HourLine::VPD, h.vpd, h.wind);
+    put_two(buf, HourLine::VPD, vapour, h.wind);
     put_number(buf, HourLine::SOIL, n);
+}
+
+// An hour of a kind with those numbers only.
+fn put_hour_line(kind: u8, h: Hour, buf: &mut [u8]) -> Written
+    ensures { λ r. ⌜ Prints (accepted (digitsOf (one ∷ widthsOf 2) (kind ∷ hourNumbers h))) (now (buf .entry)) r (now (buf .exit)) ⌝ }
+{
+    if buf.len() < HourLine::DIGITS {
+        return Written::Refused(Refusal::Buffer);
+    }
+    put_hour_fields(kind, h, buf);
+    Written::Bytes(HourLine::DIGITS)
+}
+
+// An hour of kind 04, its pressure given.
+fn put_pressure_line(h: Hour, pressure: u16, buf: &mut [u8]) -> Written
+    ensures { λ r. ⌜ Prints (accepted (digitsOf (one ∷ widthsOf 2) (4 ∷ hourNumbers h) ++ number pressure [])) (now (buf .entry)) r (now (buf .exit)) ⌝ }
+{
+    if buf.len() < PressureLine::DIGITS {
+        return Written::Refused(Refusal::Buffer);
+    }
+    put_hour_fields(4, h, buf);
+    put_number(buf, PressureLine::PRESSURE, pressure);
+    Written::Bytes(PressureLine::DIGITS)
 }
 
 fn put_hour(h: Hour, buf: &mut [u8]) -> Written
     ensures { λ r. ⌜ Prints (accepted (frameLine (Record.Hour h))) (now (buf .entry)) r (now (buf .exit)) ⌝ }
 {
-    if buf.len() < HourLine::DIGITS {
-        return Written::Refused(Refusal::Buffer);
+    let air = h.air;
+    match air {
+        Air::Deficit(_) => put_hour_line(2, h, buf),
+        Air::Pressure {
+            deficit: _,
+            pressure: n,
+        } => put_pressure_line(h, n, buf),
     }
-    put_hour_fields(2, h, buf);
-    Written::Bytes(HourLine::DIGITS)
 }
 
 fn put_end(e: End, buf: &mut [u8]) -> Written

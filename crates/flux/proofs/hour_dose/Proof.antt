@@ -6,14 +6,16 @@ use borrow.Author.Needs.{needs}
 use borrow.Author.Tests.{lt-ltb, le-ltb}
 use Rattle.trees.specs.Figures.{figuresOf}
 use Rattle.trees.specs.declared.Choice.{Choice}
+use Rattle.trees.specs.declared.Measure.{Measure}
 use Rattle.trees.proofs.CurveLaws.{figures-tabled}
-use Rattle.records.specs.Ranges.{checked}
+use Rattle.trees.proofs.SoundLaws.{figures-sound}
+use Rattle.records.specs.Ranges.{hourChecked}
 use Rattle.records.specs.Answers.{accepted, checkedAs}
-use Rattle.records.specs.declared.Record.{Record}
-use Rattle.flux_spec.specs.HourDose.{daysOut, otherMeasure}
+use Rattle.records.specs.declared.Hour.{Hour}
+use Rattle.flux_spec.specs.HourDose.{daysOut, soilUnfit}
 use Rattle.flux_spec.proofs.BenchCases.{bench-cases}
 use Rattle.flux_spec.proofs.EnclosureLaws.{enclosure}
-use Rattle.flux_spec.proofs.HourDoseLaws.{unknown-is, days-out-is, reading-out-is, measure-out-is, counted-is, uncounted-is}
+use Rattle.flux_spec.proofs.HourDoseLaws.{unknown-is, days-out-is, reading-out-is, counted-is, uncounted-is, fit-checked}
 use Rattle.flux_spec.proofs.ShareLaws.{hour-facts}
 use Rattle.flux.proofs.hour_dose.Statement.{statement}
 use Rattle.flux.proofs.hour_dose.Tie as tie
@@ -31,15 +33,22 @@ module _ (c : tie.Else1) where
   days : daysOut (named .figures .given .0 .0) (start .args .first) (start .args .last) ≡ false
   days = sym (c .before .days-out .ensures) ∙ c .if1 .left
 
-module _ (c : tie.After-enum-told2) where
+-- row 10 with the tree's measure
+module _ (c : tie.After-check-hour) where
   abbrev within : tie.Else1
-  within = c .before .before .before
+  within = c .before .before
 
-  passed : checked (Record.Hour (start within .args .h)) ≡ accepted tt
-  passed = sym (c .before .before .check .ensures) ∙ ap checkedAs (c .enum-told2 .given .1)
+  abbrev hour : Hour
+  hour = start within .args .h
 
-own : (c : tie.Else2) → otherMeasure (named (within (c .before .before)) .figures .given .0 .0 .measure) (start (within (c .before .before)) .args .h .soil) ≡ false
-own c = sym (c .before .other-measure .ensures) ∙ c .if2 .left
+  abbrev measure : Measure
+  measure = named within .figures .given .0 .0 .measure
+
+  range : checkedAs (c .check-hour .result) ≡ hourChecked (soilUnfit measure (hour .soil)) hour
+  range = rw (c .before .soil-unfit .ensures) at (c .check-hour .ensures)
+
+passed : (c : tie.After-enum-told2) → let r = c .before .before in hourChecked (soilUnfit (measure r) (hour r .soil)) (hour r) ≡ accepted tt
+passed c = sym (range (c .before .before)) ∙ ap checkedAs (c .enum-told2 .given .1)
 
 returns : tie.Need-returns
 returns c = (unknown-is _ _ _ _ (sym (c .before .before .figures-of .ensures .0) ∙ c .enum-told .given .1), (enclosure, (hour-facts, bench-cases)))
@@ -49,32 +58,28 @@ returns-2 c = (days-out-is _ _ _ _ _ (chosen (c .before .before .before)) (sym (
 
 returns-3 : tie.Need-returns-3
 returns-3 c =
-    let at = c .before .before .before .before in
-    (reading-out-is _ _ _ _ _ (chosen (named at)) (days at) _ (sym (c .before .before .before .check .ensures) ∙ ap checkedAs (c .before .answer .given .1)), (enclosure, (hour-facts, bench-cases)))
+    let read = c .before .before .before in
+    let at = within read in
+    (reading-out-is _ _ _ _ _ (chosen (named at)) (days at) _ (sym (range read) ∙ ap checkedAs (c .before .answer .given .1)), (enclosure, (hour-facts, bench-cases)))
 
 returns-4 : tie.Need-returns-4
 returns-4 c =
     let told = c .before .before in
-    let at = within told in
-    (measure-out-is _ _ _ _ _ (chosen (named at)) (days at) (passed told) (sym (c .before .other-measure .ensures) ∙ c .if2 .taken), (enclosure, (hour-facts, bench-cases)))
-
-returns-5 : tie.Need-returns-5
-returns-5 c =
-    let told = c .before .before .before .before in
-    let at = within told in
-    (uncounted-is _ _ _ _ _ (chosen (named at)) (days at) (passed told) (own (c .before .before)) (le-ltb 50 (start at .args .h .radiation) (omega (arith, c .if3 .taken))), (enclosure, (hour-facts, bench-cases)))
+    let at = within (told .before .before) in
+    (uncounted-is _ _ _ _ _ (chosen (named at)) (days at) (passed told) (le-ltb 50 (start at .args .h .radiation) (omega (arith, c .if2 .taken))), (enclosure, (hour-facts, bench-cases)))
 
 dosed-requires : tie.Need-dosed-requires
 dosed-requires c κs =
-    let told = c .before .before .before .before in
-    let e = chosen (named (within told)) in
-    (enclosure .trees _ _ e, (figures-tabled _ _ e, passed told))
+    let told = c .before .before in
+    let read = told .before .before in
+    let e = chosen (named (within read)) in
+    (figures-sound _ _ e, (figures-tabled _ _ e, fit-checked (measure read) (hour read) (passed told)))
 
-returns-6 : tie.Need-returns-6
-returns-6 c =
-    let told = c .before .before .before .before .before in
-    let at = within told in
-    (counted-is _ _ _ _ _ (chosen (named at)) (days at) (passed told) (own (c .before .before .before)) (lt-ltb 50 (start at .args .h .radiation) (omega (arith, c .before .if3 .left))) _ (c .dosed .ensures), (enclosure, (hour-facts, bench-cases)))
+returns-5 : tie.Need-returns-5
+returns-5 c =
+    let told = c .before .before .before in
+    let at = within (told .before .before) in
+    (counted-is _ _ _ _ _ (chosen (named at)) (days at) (passed told) (lt-ltb 50 (start at .args .h .radiation) (omega (arith, c .before .if2 .left))) _ (c .dosed .ensures), (enclosure, (hour-facts, bench-cases)))
 
 pub hour-dose-spec : {M : Type 1} → statement M
 hour-dose-spec =
@@ -87,11 +92,10 @@ hour-dose-spec =
     (λ c κs. search needs)
     returns-2
     (λ c κs. search needs)
+    (λ c κs. search needs)
     (λ c. search needs)
     returns-3
     (λ c. search needs)
-    (λ c κs. search needs)
     returns-4
-    returns-5
     dosed-requires
-    returns-6)
+    returns-5)

@@ -1,14 +1,18 @@
 -- `frames::record_of` meets its contract.
 use borrow.Author.Needs.{needs}
-use Rattle.frames.specs.Frames.{recordOf}
+use Rattle.records.specs.Ranges.{checked}
+use Rattle.frames.specs.Frames.{soundOf, recordOf}
 use Rattle.frames.proofs.record_of.Statement.{statement}
 use Rattle.frames.proofs.record_of.Tie as tie
 
 enum-known-frame : tie.Need-enum-known-frame
 enum-known-frame c = search needs
 
-sound-requires : tie.Need-sound-requires
-sound-requires c κs = search needs
+check-header-requires : tie.Need-check-header-requires
+check-header-requires c κs = search needs
+
+answered-requires : tie.Need-answered-requires
+answered-requires c κs = search needs
 
 enum-known-frame-2 : tie.Need-enum-known-frame-2
 enum-known-frame-2 c = search needs
@@ -19,30 +23,27 @@ hour-record-requires c κs = search needs
 enum-known-frame-3 : tie.Need-enum-known-frame-3
 enum-known-frame-3 c = search needs
 
-sound-requires-2 : tie.Need-sound-requires-2
-sound-requires-2 c κs = search needs
-
 returns : tie.Need-returns
-unfolding recordOf
-returns c = rw (c .before .before .frame .given .1) (c .sound .ensures)
+unfolding recordOf soundOf
+returns c = rw (c .before .before .before .frame .given .1) (rw (c .before .check-header .ensures) at (c .answered .ensures))
 
 returns-2 : tie.Need-returns-2
 returns-2 c = rw (c .before .before .frame2 .given .1) (c .hour-record .ensures)
 
 returns-3 : tie.Need-returns-3
-unfolding recordOf
-returns-3 c = rw (c .before .before .frame3 .given .1) (c .sound2 .ensures)
+unfolding recordOf soundOf checked
+returns-3 c = rw (c .before .frame3 .given .1)
 
 pub record-of-spec : {M : Type 1} → statement M
 record-of-spec =
     tie.close
     (tie.spec
     enum-known-frame
-    sound-requires
+    check-header-requires
+    answered-requires
     enum-known-frame-2
     hour-record-requires
     enum-known-frame-3
-    sound-requires-2
     returns
     returns-2
     returns-3)

@@ -1,15 +1,16 @@
 -- `probe::pairs` meets its contract.
 use Prim.Native.Nat.{_≤_, _-_}
+use native.Mathlib.Omega.{arith}
 use borrow.Author.Needs.{needs}
 use lib.ListN.{length}
 use Rattle.probe.proofs.pairs.Statement.{statement}
 use Rattle.probe.proofs.pairs.Tie as tie
 
 abbrev Inv-loop : tie.InvT-loop
-Inv-loop tree first last fields temperatures sum₀ i₀ sum i = i ≤ length temperatures
+Inv-loop tree kind first last fields temperatures sum₀ i₀ sum i = i ≤ length temperatures
 
 abbrev μ-loop : tie.MeasureT-loop
-μ-loop tree first last fields temperatures sum₀ i₀ sum i = length temperatures - i
+μ-loop tree kind first last fields temperatures sum₀ i₀ sum i = length temperatures - i
 
 loop-holds : tie.Need-loop-holds Inv-loop μ-loop
 loop-holds c = search needs
@@ -51,7 +52,7 @@ wrapping-add-u64-requires : tie.Need-wrapping-add-u64-requires Inv-loop μ-loop
 wrapping-add-u64-requires c κs = search needs
 
 add-i : tie.Need-add-i Inv-loop μ-loop
-add-i c = search needs
+add-i c = omega (arith, c .before .before .before .before .before .before .before .before .before .before .good .1 .1 .1 .1 .1 .0 .1)
 
 loop-less : tie.Need-loop-less Inv-loop μ-loop
 loop-less c = search needs

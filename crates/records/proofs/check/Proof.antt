@@ -13,6 +13,9 @@ check-header-requires c κs = search needs
 enum-known-record-2 : tie.Need-enum-known-record-2
 enum-known-record-2 c = search needs
 
+soil-out-requires : tie.Need-soil-out-requires
+soil-out-requires c κs = search needs
+
 check-hour-requires : tie.Need-check-hour-requires
 check-hour-requires c κs = search needs
 
@@ -23,7 +26,8 @@ returns : tie.Need-returns
 returns c = rw (c .before .before .«record» .given .1) (c .check-header .ensures)
 
 returns-2 : tie.Need-returns-2
-returns-2 c = rw (c .before .before .record2 .given .1) (c .check-hour .ensures)
+unfolding checked
+returns-2 c = rw (c .before .before .before .record2 .given .1) (rw (c .before .soil-out .ensures) at (c .check-hour .ensures))
 
 returns-3 : tie.Need-returns-3
 unfolding checked
@@ -36,6 +40,7 @@ check-spec =
     enum-known-record
     check-header-requires
     enum-known-record-2
+    soil-out-requires
     check-hour-requires
     enum-told
     returns

@@ -5,8 +5,8 @@ use Rattle.records.specs.Answers.{checkedAs}
 use Rattle.account_read.proofs.possible.broken.Statement.{statement}
 use Rattle.account_read.proofs.possible.broken.Tie as tie
 
-check-requires : tie.Need-check-requires
-check-requires c κs = search needs
+check-header-requires : tie.Need-check-header-requires
+check-header-requires c κs = search needs
 
 enum-told : tie.Need-enum-told
 enum-told c = search needs
@@ -15,10 +15,10 @@ enum-told-2 : tie.Need-enum-told-2
 enum-told-2 c = search needs
 
 returns : tie.Need-returns
-returns c = rw (sym (c .before .before .check .ensures) ∙ ap checkedAs (c .enum-told .given .1))
+returns c = rw (sym (c .before .before .check-header .ensures) ∙ ap checkedAs (c .enum-told .given .1))
 
 returns-2 : tie.Need-returns-2
-returns-2 c = rw (sym (c .before .before .check .ensures) ∙ ap checkedAs (c .enum-told2 .given .1))
+returns-2 c = rw (sym (c .before .before .check-header .ensures) ∙ ap checkedAs (c .enum-told2 .given .1))
 
 pub broken-spec : {M : Type 1} → statement M
-broken-spec = tie.close (tie.spec check-requires enum-told enum-told-2 returns returns-2)
+broken-spec = tie.close (tie.spec check-header-requires enum-told enum-told-2 returns returns-2)

@@ -13,14 +13,14 @@ product-le g p h k = omega (arith, mul-le-mul h k)
 mul-g : tie.Need-mul-g
 mul-g c = omega (arith, product-le _ _ (c .pre .0) (c .pre .2))
 
-mul-result-2 : tie.Need-mul-result-2
-mul-result-2 c = omega (arith, mul-le-mul (c .pre .1) (product-le _ _ (c .pre .0) (c .pre .2)))
+mul-result : tie.Need-mul-result
+mul-result c = omega (arith, mul-le-mul (c .pre .1) (product-le _ _ (c .pre .0) (c .pre .2)))
 
 add-result-2 : tie.Need-add-result-2
 add-result-2 c = omega (arith, product-le _ _ (c .pre .0) (c .pre .2))
 
-mul-result-4 : tie.Need-mul-result-4
-mul-result-4 c = omega (arith, mul-le-mul (c .pre .3) (product-le _ _ (c .pre .0) (c .pre .2)))
+mul-result-3 : tie.Need-mul-result-3
+mul-result-3 c = omega (arith, mul-le-mul (c .pre .3) (product-le _ _ (c .pre .0) (c .pre .2)))
 
 add-result-3 : tie.Need-add-result-3
 add-result-3 c = omega (arith, mul-le-mul (c .pre .3) (product-le _ _ (c .pre .0) (c .pre .2)))
@@ -34,12 +34,11 @@ quotient-spec =
     tie.close
     (tie.spec
     mul-g
-    (λ c. search needs)
-    mul-result-2
+    mul-result
     (λ c. search needs)
     (λ c. search needs)
     add-result-2
-    mul-result-4
+    mul-result-3
     add-result-3
     (λ c. search needs)
     returns)

@@ -1,57 +1,85 @@
 -- `flux::hour::dosed` meets its contract.
 use Prim.Native.Nat.{_+_, _-_}
-use mathlib.Core.Path.{ap, ap₂, _∙_}
+use mathlib.Core.Path.{_≡_, ap₂, _∙_}
 use native.Mathlib.Omega.{arith}
+use borrow.Author.Needs.{needs}
+use Rattle.flux_spec.specs.Conductance.{aboveOf}
 use Rattle.flux_spec.specs.Pair.{lowerOf, upperOf, quotient, rootLow}
 use Rattle.records.specs.declared.Record.{Record}
+use Rattle.records.proofs.SignedLaws.{at-plain}
 use Rattle.frames.proofs.RangeLaws.{checked-passed}
+use Rattle.flux_spec.proofs.ConcentrationLaws.{concentration-order, concentrationUp-le}
 use Rattle.flux_spec.proofs.EnclosureLaws.{shares-order, shares-top}
 use Rattle.flux.proofs.ScaleLaws.{above-highest}
 use Rattle.flux.proofs.hour.dosed.Statement.{statement}
 use Rattle.flux.proofs.hour.dosed.Tie as tie
 
+-- t is the hour's temperature
+tenths : (c : tie.After-above) → c .above .result ≡ aboveOf (c .before .before .before .args .h .temperature)
+tenths c = at-plain (c .before .before .before .args .h .temperature) (search needs) aboveOf (c .above .ensures)
+
 temperature-requires : tie.Need-temperature-requires
 temperature-requires c κs =
-    let start = c .before in
+    let start = c .before .before .before in
     let range = checked-passed (Record.Hour (start .args .h)) (start .pre .1 .1) in
-    (start .pre .1 .0, above-highest _ (range .temperature))
+    (start .pre .1 .0, rw (tenths c) (above-highest _ (range .temperature)))
 
 opening-requires : tie.Need-opening-requires
-opening-requires c κs = (c .before .before .pre .0 .sound, c .temperature .ensures)
+opening-requires c κs =
+    let start = c .before .before .before .before in
+    (start .pre .0, rw (← tenths (c .before)) (c .temperature .ensures))
 
 shares-requires : tie.Need-shares-requires
 shares-requires c κs =
-    let start = c .before .before .before in
+    let start = c .before .before .before .before .before in
     let range = checked-passed (Record.Hour (start .args .h)) (start .pre .1 .1) in
-    (start .pre .0 .sound, (range .ppfd, (c .opening .ensures .0, c .opening .ensures .1)))
+    (start .pre .0, (tenths (c .before .before), (range .ppfd, (c .opening .ensures .0, c .opening .ensures .1))))
+
+concentration-requires : tie.Need-concentration-requires
+concentration-requires c κs = tenths (c .before .before .before)
 
 pair-requires : tie.Need-pair-requires
 pair-requires c κs =
-    let start = c .before .before .before .before in
+    let start = c .before .before .before .before .before .before .before in
     let stand = start .args .stand in
     let h = start .args .h in
-    let lim = start .pre .0 in
+    let s = start .pre .0 in
     let passed = start .pre .1 .1 in
-    let range = checked-passed (Record.Hour h) passed in
-    let most = shares-top stand lim h passed in (
-      omega (arith, lim .gmax),
+    let thick = concentrationUp-le h (checked-passed (Record.Hour h) passed) in
+    let most = shares-top stand s h passed in
+    let conc = c .concentration .ensures in
+    let share = c .before .shares .ensures in (
+      s .gmax .1,
       (
-        omega (arith, lim .sound .leaf .1),
-        (range .ozone, (omega (arith, c .shares .ensures .0, shares-order stand lim h passed, most), omega (arith, c .shares .ensures .1, most))),
+        s .leaf .1,
+        (
+          (omega (arith, conc .0, concentration-order h, thick), omega (arith, conc .1, thick)),
+          (omega (arith, share .0, shares-order stand s h passed, most), omega (arith, share .1, most)),
+        ),
       ),
     )
 
 returns : tie.Need-returns
 unfolding lowerOf upperOf
 returns c =
-    let a = c .before .before .before .before .before .args in
+    let a = c .before .before .before .before .before .before .before .before .args in
     let f = a .stand .figures in
     let h = a .h in
     let root = rootLow (f .leaf) (h .wind) in
-    let share = c .before .shares .ensures in
+    let conc = c .before .concentration .ensures in
+    let share = c .before .before .shares .ensures in
     ap₂ (λ l u. record { lower = l; upper = u })
-    (c .pair .ensures .0 ∙ ap (λ p. quotient (f .gmax) (h .ozone) p (root + 1) 1 - 3600) (share .0))
-    (c .pair .ensures .1 ∙ ap (λ p. quotient (f .gmax) (h .ozone) p root 0 - 3599) (share .1))
+    (c .pair .ensures .0 ∙ ap₂ (λ n p. quotient (f .gmax) n p (root + 1) 1 - 3600) (conc .0) (share .0))
+    (c .pair .ensures .1 ∙ ap₂ (λ n p. quotient (f .gmax) n p root 0 - 3599) (conc .1) (share .1))
 
 pub dosed-spec : {M : Type 1} → statement M
-dosed-spec = tie.close (tie.spec temperature-requires opening-requires shares-requires pair-requires returns)
+dosed-spec =
+    tie.close
+    (tie.spec
+    (λ c κs. search needs)
+    temperature-requires
+    opening-requires
+    shares-requires
+    concentration-requires
+    pair-requires
+    returns)

@@ -12,17 +12,21 @@ add-quotient : tie.Need-add-quotient
 add-quotient c = omega (arith, c .root-low .ensures, rootLow-200 (c .before .args .leaf) (c .before .args .wind) (c .before .pre .1 .0))
 
 quotient-requires : tie.Need-quotient-requires
-quotient-requires c κs = (omega arith, omega arith, omega arith, omega (arith, c .root-low .ensures, rootLow-200 (c .before .args .leaf) (c .before .args .wind) (c .before .pre .1 .0)), omega arith)
+quotient-requires c κs =
+    let start = c .before in
+    (omega arith, start .pre .1 .1 .0 .0, start .pre .1 .1 .1 .0, omega (arith, c .root-low .ensures, rootLow-200 (start .args .leaf) (start .args .wind) (start .pre .1 .0)), omega arith)
 
 quotient-requires-2 : tie.Need-quotient-requires-2
-quotient-requires-2 c κs = (omega arith, omega arith, omega arith, omega (arith, c .before .before .root-low .ensures, rootLow-200 (c .before .before .before .args .leaf) (c .before .before .before .args .wind) (c .before .before .before .pre .1 .0)), omega arith)
+quotient-requires-2 c κs =
+    let start = c .before .before .before in
+    (omega arith, start .pre .1 .1 .0 .1, start .pre .1 .1 .1 .1, omega (arith, c .before .before .root-low .ensures, rootLow-200 (start .args .leaf) (start .args .wind) (start .pre .1 .0)), omega arith)
 
 returns : tie.Need-returns
 returns c =
     let a = c .before .before .before .before .before .args in
     let root = c .before .before .before .before .root-low .ensures in (
-      c .before .before .less .ensures ∙ ap (λ q. q - 3600) (c .before .before .before .quotient .ensures ∙ ap (λ r. quotient (a .gmax) (a .ozone) (a .s .lower) (r + 1) 1) root),
-      c .less2 .ensures ∙ ap (λ q. q - 3599) (c .before .quotient2 .ensures ∙ ap (λ r. quotient (a .gmax) (a .ozone) (a .s .upper) r 0) root),
+      c .before .before .less .ensures ∙ ap (λ q. q - 3600) (c .before .before .before .quotient .ensures ∙ ap (λ r. quotient (a .gmax) (a .c .lower) (a .s .lower) (r + 1) 1) root),
+      c .less2 .ensures ∙ ap (λ q. q - 3599) (c .before .quotient2 .ensures ∙ ap (λ r. quotient (a .gmax) (a .c .upper) (a .s .upper) r 0) root),
     )
 
 pub pair-spec : {M : Type 1} → statement M

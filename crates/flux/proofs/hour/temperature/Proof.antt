@@ -6,21 +6,13 @@ use borrow.Author.Needs.{needs}
 use Rattle.trees.specs.Temperature.{temperaturePair}
 use Rattle.records.specs.Answers.{accepted}
 use Rattle.records.proofs.AnswerLaws.{accepted-same}
-use Rattle.records.proofs.SignedLaws.{at-plain}
-use Rattle.tables.specs.Answers.{factoredAs, temperatureOf}
+use Rattle.tables.specs.Answers.{factoredAs}
 use Rattle.tables.proofs.AnswerLaws.{tabled-pair}
-use Rattle.flux_spec.specs.Conductance.{aboveOf}
 use Rattle.flux.proofs.hour.temperature.Statement.{statement}
 use Rattle.flux.proofs.hour.temperature.Tie as tie
 
-answer :
-    (c : tie.After-f-temp) →
-    factoredAs (c .f-temp .result) ≡ accepted (temperaturePair (c .before .before .before .args .f) (aboveOf (c .before .before .before .args .h .temperature)))
-answer c =
-    let start = c .before .before .before in
-    let a = start .args in
-    let tenths = at-plain (a .h .temperature) (search needs) aboveOf (c .before .above .ensures) in
-    c .f-temp .ensures .0 ∙ ap (temperatureOf (a .f .curve)) tenths ∙ tabled-pair (start .pre .0) (start .pre .1)
+answer : (c : tie.After-f-temp) → factoredAs (c .f-temp .result) ≡ accepted (temperaturePair (c .before .args .f) (c .before .args .t))
+answer c = c .f-temp .ensures .0 ∙ tabled-pair (c .before .pre .0) (c .before .pre .1)
 
 returns : tie.Need-returns
 returns c =
@@ -32,5 +24,4 @@ returns-2 : tie.Need-returns-2
 returns-2 c = accepted-same (sym (ap factoredAs (c .before .pair .given .1)) ∙ answer (c .before .before .before))
 
 pub temperature-spec : {M : Type 1} → statement M
-temperature-spec =
-    tie.close (tie.spec (λ c κs. search needs) (λ c κs. search needs) (λ c. search needs) (λ c. search needs) returns returns-2)
+temperature-spec = tie.close (tie.spec (λ c κs. search needs) (λ c. search needs) (λ c. search needs) returns returns-2)

@@ -19,7 +19,11 @@ unfolding lengthOf
 returns-3 c = rw (c .match .keys3) refl
 
 returns-4 : tie.Need-returns-4
-returns-4 c = kind-none _ (λ h. omega arith)
+unfolding lengthOf
+returns-4 c = rw (c .match .keys4) refl
+
+returns-5 : tie.Need-returns-5
+returns-5 c = kind-none _ (λ h. omega arith)
 
 pub length-of-spec : {M : Type 1} → statement M
-length-of-spec = tie.close (tie.spec returns returns-2 returns-3 returns-4)
+length-of-spec = tie.close (tie.spec returns returns-2 returns-3 returns-4 returns-5)

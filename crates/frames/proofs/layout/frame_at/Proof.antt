@@ -1,11 +1,12 @@
 -- `frames::layout::frame_at` meets its contract: a line's kind tells the length that its fields need.
-use mathlib.Core.Path.{_≡_, sym, ap, _∙_}
+use mathlib.Core.Path.{refl, sym, ap, _∙_}
 use native.Mathlib.Omega.{arith}
 use borrow.Author.Needs.{needs}
 use Rattle.frames.specs.Digits.{byteAt}
 use Rattle.frames.specs.Layout.{frameOf}
 use Rattle.records.specs.declared.Raw.{Raw}
-use Rattle.frames.proofs.FrameLaws.{frame-is, sized-ge, sized-within, sized-le}
+use Rattle.frames.proofs.KindLaws.{kind-cases, hour-left}
+use Rattle.frames.proofs.FrameLaws.{frame-is, hour-framed, sized-ge, sized-within, sized-le}
 use Rattle.frames.proofs.layout.frame_at.Statement.{statement}
 use Rattle.frames.proofs.layout.frame_at.Tie as tie
 
@@ -15,11 +16,11 @@ byte-at-requires c κs = search needs
 header-at-requires : tie.Need-header-at-requires
 header-at-requires c κs = search needs
 
-hour-at-requires : tie.Need-hour-at-requires
-hour-at-requires c κs = search needs
-
 end-at-requires : tie.Need-end-at-requires
 end-at-requires c κs = search needs
+
+hour-at-requires : tie.Need-hour-at-requires
+hour-at-requires c κs = search needs
 
 returns : tie.Need-returns
 unfolding frameOf
@@ -31,14 +32,14 @@ returns-2 : tie.Need-returns-2
 unfolding frameOf
 returns-2 c = λ l says sized.
     let kind = sym (c .before .before .byte-at .ensures l says (sized-ge l sized)) ∙ c .before .match .keys2 in
-    ap Raw.Hour (c .hour-at .ensures l says (sized-le l sized kind)) ∙ sym (frame-is l kind)
-
--- the last kind: no other is left
-returns-3 : tie.Need-returns-3
-unfolding frameOf
-returns-3 c = λ l says sized.
-    let kind : byteAt 0 l ≡ 3 = omega (arith, c .before .before .byte-at .ensures l says (sized-ge l sized), sized-within l sized) in
     ap Raw.End (c .end-at .ensures l says (sized-le l sized kind)) ∙ sym (frame-is l kind)
+
+-- the other kinds are those of hours
+returns-3 : tie.Need-returns-3
+returns-3 c = λ l says sized.
+    let kind = c .before .before .byte-at .ensures l says (sized-ge l sized) in
+    let hour = hour-left _ (kind-cases (byteAt 0 l) (sized-within l sized)) (λ e. omega arith) (λ e. omega arith) in
+    ap Raw.Hour ((rw kind at (c .hour-at .ensures)) hour l says (sized-le l sized refl)) ∙ sym (hour-framed l hour refl)
 
 pub frame-at-spec : {M : Type 1} → statement M
 frame-at-spec =
@@ -46,8 +47,8 @@ frame-at-spec =
     (tie.spec
     byte-at-requires
     header-at-requires
-    hour-at-requires
     end-at-requires
+    hour-at-requires
     returns
     returns-2
     returns-3)

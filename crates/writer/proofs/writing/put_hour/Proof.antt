@@ -1,27 +1,42 @@
 -- `writer::writing::put_hour` meets its contract.
-use mathlib.Core.Path.{refl}
-use native.Mathlib.Omega.{arith}
 use borrow.Author.Needs.{needs}
-use Rattle.frames.specs.Layout.{frameLine}
-use Rattle.records.proofs.BufferLaws.{prints-short}
-use Rattle.writer.proofs.WriterLaws.{prints-set}
+use Rattle.writer.proofs.LineLaws.{deficit-line, pressure-line}
 use Rattle.writer.proofs.writing.put_hour.Statement.{statement}
 use Rattle.writer.proofs.writing.put_hour.Tie as tie
 
-returns : tie.Need-returns
-unfolding frameLine
-returns c = prints-short _ _ (omega arith)
+enum-told : tie.Need-enum-told
+enum-told c = search needs
 
-put-hour-fields-requires : tie.Need-put-hour-fields-requires
-put-hour-fields-requires c κs = search needs
+put-hour-line-requires : tie.Need-put-hour-line-requires
+put-hour-line-requires c κs = search needs
+
+enum-known-air : tie.Need-enum-known-air
+enum-known-air c = search needs
+
+put-pressure-line-requires : tie.Need-put-pressure-line-requires
+put-pressure-line-requires c κs = search needs
 
 same-length : tie.Need-same-length
 same-length c = search needs
 
+returns : tie.Need-returns
+returns c = rw (deficit-line (c .before .before .before .before .before .before .before .args .h) (c .before .before .before .before .enum-told .given .1)) (c .before .before .put-hour-line .ensures)
+
+same-length-2 : tie.Need-same-length-2
+same-length-2 c = search needs
+
 returns-2 : tie.Need-returns-2
-unfolding frameLine
-returns-2 c = prints-set _ _ _ _ refl (omega arith) (c .before .before .put-hour-fields .ensures)
+returns-2 c = rw (pressure-line (c .before .before .before .before .before .before .before .before .args .h) (c .before .before .before .before .before .air .given .1)) (c .before .before .put-pressure-line .ensures)
 
 pub put-hour-spec : {M : Type 1} → statement M
 put-hour-spec =
-    tie.close (tie.spec returns put-hour-fields-requires same-length returns-2)
+    tie.close
+    (tie.spec
+    enum-told
+    put-hour-line-requires
+    enum-known-air
+    put-pressure-line-requires
+    same-length
+    returns
+    same-length-2
+    returns-2)

@@ -8,6 +8,9 @@ use Rattle.writer.proofs.writing.put_hour_fields.Tie as tie
 complement-requires : tie.Need-complement-requires
 complement-requires c κs = search needs
 
+vapour-number-requires : tie.Need-vapour-number-requires
+vapour-number-requires c κs = search needs
+
 soil-number-requires : tie.Need-soil-number-requires
 soil-number-requires c κs = search needs
 
@@ -34,8 +37,8 @@ same-length c = search needs
 
 returns : tie.Need-returns
 returns c =
-    let start = c .before .before .before .before .before .before .before .before .before .before .before .before .before .before .before .before .before .before .before .before .before .before .before .before .before .before .before .before in
-    let temperature = at-plain (start .args .h .temperature) (search (needs, start .good)) complementOf (c .before .before .before .before .before .before .before .before .before .before .before .before .before .before .before .before .before .before .before .before .before .before .before .before .before .complement .ensures) in
+    let start = c .before .before .before .before .before .before .before .before .before .before .before .before .before .before .before .before .before .before .before .before .before .before .before .before .before .before .before .before .before in
+    let temperature = at-plain (start .args .h .temperature) (search (needs, start .good)) complementOf (c .before .before .before .before .before .before .before .before .before .before .before .before .before .before .before .before .before .before .before .before .before .before .before .before .before .before .complement .ensures) in
     rw (
       c .before .before .put-number2 .ensures,
       c .before .before .before .before .before .before .put-two .ensures,
@@ -45,6 +48,7 @@ returns c =
       c .before .before .before .before .before .before .before .before .before .before .before .before .before .before .before .before .before .before .before .before .before .before .put-byte .ensures,
       temperature,
       c .before .before .before .before .before .before .before .before .before .before .before .before .before .before .before .before .before .before .before .before .before .before .before .before .soil-number .ensures,
+      c .before .before .before .before .before .before .before .before .before .before .before .before .before .before .before .before .before .before .before .before .before .before .before .before .before .vapour-number .ensures,
     )
 
 pub put-hour-fields-spec : {M : Type 1} → statement M
@@ -52,6 +56,7 @@ put-hour-fields-spec =
     tie.close
     (tie.spec
     complement-requires
+    vapour-number-requires
     soil-number-requires
     put-byte-requires
     put-number-requires

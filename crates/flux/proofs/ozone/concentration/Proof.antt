@@ -1,0 +1,53 @@
+-- `flux::ozone::concentration` meets its contract; no product passes 64 bits, whatever the readings.
+use Prim.Native.Nat.{ℕ, _+_, _*_}
+use mathlib.Core.Path.{sym, ap, _∙_}
+use native.Mathlib.Nat.{mul-le-mul}
+use native.Mathlib.Omega.{arith}
+use borrow.Author.Needs.{needs}
+use mir.Syntax.{w16, w64}
+use mir.Val.{Fits}
+use Rattle.exact.specs.Frac.{Frac, _over_}
+use Rattle.exact.specs.Rounding.{roundUp, roundDown}
+use Rattle.flux_spec.proofs.ConcentrationLaws.{ozone-facts, pressed-down, pressed-up}
+use Rattle.flux.proofs.ozone.concentration.Statement.{statement}
+use Rattle.flux.proofs.ozone.concentration.Tie as tie
+
+product-fits : {o p : ℕ} → Fits w16 o → Fits w16 p → Fits w64 (4000000000 * o * p)
+product-fits f g = record { fits = omega (arith, mul-le-mul (f .fits) (g .fits)) }
+
+mul-rounded-2 : tie.Need-mul-rounded-2
+mul-rounded-2 c = product-fits (search needs) (search needs)
+
+returns : tie.Need-returns
+returns c =
+    let is = ozone-facts (c .before .before .before .args .h) .plain _ (c .enum-told .given .1) in
+    (sym (is .0), sym (is .1))
+
+returns-2 : tie.Need-returns-2
+returns-2 c =
+    let start = c .before .before .before .before .before in
+    let h = start .args .h in
+    let air = c .before .before .air .given in
+    let of : ℕ → Frac = λ t. (4000000000 * h .ozone * air .0 .1 .0) over (92383 * (2 * t + 4463)) in (
+      c .rounded .ensures .0 ∙ ap (λ t. roundDown (of t)) (start .pre) ∙ sym (pressed-down h _ _ (air .1)),
+      c .rounded .ensures .1 ∙ ap (λ t. roundUp (of t)) (start .pre) ∙ sym (pressed-up h _ _ (air .1)),
+    )
+
+pub concentration-spec : {M : Type 1} → statement M
+concentration-spec =
+    tie.close
+    (tie.spec
+    (λ c. search needs)
+    (λ c. search needs)
+    (λ c. search needs)
+    (λ c. search needs)
+    (λ c. search needs)
+    (λ c. search needs)
+    (λ c. search needs)
+    mul-rounded-2
+    (λ c. search needs)
+    (λ c. search needs)
+    (λ c. search needs)
+    (λ c κs. search needs)
+    returns
+    returns-2)

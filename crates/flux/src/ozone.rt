@@ -1,0 +1,55 @@
+// Ozone's concentration (document 01, "Factors"; W-204), in units of 1/18000 nmol m⁻³, rounded down and up.
+use exact::Bounds;
+use frames::Air;
+use frames::Hour;
+ghost use mathlib.Core.Path.{_≡_};
+ghost use Prim.Native.Nat.{_<_};
+ghost use Rattle.exact.specs.Frac.{_over_};
+ghost use Rattle.exact.specs.Rounding.{roundUp, roundDown};
+ghost use Rattle.flux_spec.specs.Conductance.{aboveOf};
+ghost use Rattle.flux_spec.specs.Pair.{concentrationLow, concentrationUp};
+
+// A tenth of ppb where no pressure is read: 18000·4.156.
+const TENTH: u64 = 74808;
+
+// For tenths of ppb, tenths of hPa and twentieths of a kelvin: 18000·20/8.31447 is 4000000000/92383.
+const PRESSURE: u64 = 4000000000;
+
+const GAS: u64 = 92383;
+
+// -50.0 °C, which is 223.15 K, in twentieths of a kelvin.
+const COLDEST: u64 = 4463;
+
+// n/d, rounded down and up.
+fn rounded(n: u64, d: u64) -> Bounds
+    requires { ⌜ 0 < d ⌝ }
+    ensures lower { λ r. ⌜ r .lower ≡ roundDown (n over d) ⌝ }
+    ensures upper { λ r. ⌜ r .upper ≡ roundUp (n over d) ⌝ }
+{
+    let lower = n / d;
+    let upper = if lower * d < n { lower + 1 } else { lower };
+    Bounds { lower, upper }
+}
+
+// That of an hour, t tenths of a degree above -50.0 °C.
+pub(crate) fn concentration(h: Hour, t: u16) -> Bounds
+    requires { ⌜ t ≡ aboveOf (h .temperature) ⌝ }
+    ensures lower { λ r. ⌜ r .lower ≡ concentrationLow h ⌝ }
+    ensures upper { λ r. ⌜ r .upper ≡ concentrationUp h ⌝ }
+{
+    let ozone = h.ozone as u64;
+    let air = h.air;
+    match air {
+        Air::Deficit(_) => Bounds {
+            lower: TENTH * ozone,
+            upper: TENTH * ozone,
+        },
+        Air::Pressure {
+            deficit: _,
+            pressure: p,
+        } => rounded(
+            PRESSURE * ozone * (p as u64),
+            GAS * (2 * (t as u64) + COLDEST),
+        ),
+    }
+}

@@ -1,0 +1,110 @@
+-- Ozone's concentration: in whole numbers for each kind of hour, at most 29644 nmol m⁻³ in range, growing with the reading; its two numbers enclose it
+-- and are at most 1 apart.
+use Prim.Native.Nat.{ℕ, _+_, _*_, _≤_, _<_, max}
+use mathlib.Core.Path.{_≡_, ap}
+use native.Mathlib.Nat.{mul-le-mul, mul-le-mul-left, mul-le-mul-right}
+use native.Mathlib.Omega.{arith}
+use lib.Dec.{lit<}
+use lib.IntN.{ℤ}
+use Rattle.exact.specs.Frac.{Frac, natural, _over_, _⊗_, _≼_, _≈_}
+use Rattle.exact.specs.Rounding.{roundUp, roundDown, timesUp, timesDown}
+use Rattle.exact.proofs.FracLaws.{≼-refl, ≼-trans, ⊗-mono, over-mono}
+use Rattle.exact.proofs.RoundingLaws.{roundDown-same, roundUp-same, timesDown-under, timesUp-over, times-order, times-next, timesUp-most, timesDown-mono, timesUp-mono}
+use Rattle.records.specs.declared.Air.{Air}
+use Rattle.records.specs.declared.Air.the-variants.{Deficit, Pressure}
+use Rattle.records.specs.declared.Hour.{Hour}
+use Rattle.frames.proofs.RangeLaws.{PressureIn, HourIn}
+use Rattle.flux_spec.specs.Conductance.{aboveOf}
+use Rattle.flux_spec.specs.Dose.{kelvin, perPpb, concentration, withOzone}
+use Rattle.flux_spec.specs.Pair.{concentrationLow, concentrationUp}
+use Rattle.flux_spec.specs.Facts.{OzoneFacts}
+
+-- ---- in whole numbers
+
+-- 8.31447 × (T + 273.15), 10⁸ times; it is not 0
+gas-is : (t : ℤ) → (831447 over 100000 ⊗ kelvin t) .num ≡ 450 * (92383 * (2 * aboveOf t + 4463))
+gas-is t = omega arith
+
+module _ (h : Hour) where
+  abbrev x : ℕ
+  x = aboveOf (h .temperature)
+
+  module _ (vpd : ℕ) (e : h .air ≡ Deficit vpd) where
+    plain-down : concentrationLow h ≡ 74808 * h .ozone
+    unfolding concentrationLow concentration timesDown roundDown
+    plain-down = rw e (omega arith)
+
+    plain-up : concentrationUp h ≡ 74808 * h .ozone
+    unfolding concentrationUp concentration timesUp roundUp
+    plain-up = rw e (omega arith)
+
+  module _ (vpd p : ℕ) (e : h .air ≡ Pressure vpd p) where
+    abbrev pressed : Frac
+    pressed = (4000000000 * h .ozone * p) over (92383 * (2 * x + 4463))
+
+    pressed-is : natural 18000 ⊗ concentration h ≈ pressed
+    unfolding concentration
+    pressed-is =
+        let gas : max 1 ((831447 over 100000 ⊗ kelvin (h .temperature)) .num) ≡ 450 * (92383 * (2 * x + 4463)) = omega (arith, gas-is (h .temperature)) in
+        let below : max 1 (92383 * (2 * x + 4463)) ≡ 92383 * (2 * x + 4463) = omega arith in
+        rw e (record { cross = omega (arith, ap (λ (m : ℕ). h .ozone * p * m) gas, ap (λ (m : ℕ). h .ozone * p * m) below) })
+
+    pub pressed-down : concentrationLow h ≡ roundDown pressed
+    unfolding concentrationLow timesDown
+    pressed-down = roundDown-same pressed-is
+
+    pub pressed-up : concentrationUp h ≡ roundUp pressed
+    unfolding concentrationUp timesUp
+    pressed-up = roundUp-same pressed-is
+
+pub ozone-facts : (h : Hour) → OzoneFacts h
+ozone-facts h = record { plain = λ vpd e. (plain-down h vpd e, plain-up h vpd e); pressed = pressed-is h }
+
+-- ---- between its two numbers
+
+module _ (h : Hour) where
+  pub concentration-low : concentrationLow h over 18000 ≼ concentration h
+  unfolding concentrationLow
+  concentration-low = timesDown-under 18000 (concentration h) (lit< tt)
+
+  pub concentration-high : concentration h ≼ concentrationUp h over 18000
+  unfolding concentrationUp
+  concentration-high = timesUp-over 18000 (concentration h) (lit< tt)
+
+  pub concentration-order : concentrationLow h ≤ concentrationUp h
+  unfolding concentrationLow concentrationUp
+  concentration-order = times-order 18000 18000 (concentration h) (omega arith)
+
+  pub concentration-gap : concentrationUp h ≤ concentrationLow h + 1
+  unfolding concentrationLow concentrationUp
+  concentration-gap = times-next 18000 (concentration h)
+
+-- ---- in range: 500 ppb, 1100.0 hPa and -50.0 °C have the most
+
+perPpb-le : (a : Air) (t : ℤ) → PressureIn a → perPpb a t ≼ 29644 over 500
+perPpb-le (Deficit vpd) t i = omega arith
+perPpb-le (Pressure vpd p) t i = record { cross = omega (arith, gas-is t, i .below) }
+
+concentration-le : (h : Hour) → HourIn h → concentration h ≼ natural 29644
+unfolding concentration
+concentration-le h range =
+    ≼-trans (⊗-mono (over-mono 10 (range .ozone)) (perPpb-le (h .air) (h .temperature) (range .pressure))) (omega arith)
+
+pub concentrationUp-le : (h : Hour) → HourIn h → concentrationUp h ≤ 533592000
+unfolding concentrationUp
+concentrationUp-le h range = timesUp-most 18000 (concentration h) 29644 (concentration-le h range)
+
+-- ---- with a higher reading of ozone
+
+module _ (h : Hour) {m n : ℕ} (more : m ≤ n) where
+  pub concentration-mono : concentration (withOzone m h) ≼ concentration (withOzone n h)
+  unfolding concentration
+  concentration-mono = ⊗-mono (over-mono 10 more) (≼-refl (perPpb (h .air) (h .temperature)))
+
+  pub concentrationLow-mono : concentrationLow (withOzone m h) ≤ concentrationLow (withOzone n h)
+  unfolding concentrationLow
+  concentrationLow-mono = timesDown-mono 18000 concentration-mono
+
+  pub concentrationUp-mono : concentrationUp (withOzone m h) ≤ concentrationUp (withOzone n h)
+  unfolding concentrationUp
+  concentrationUp-mono = timesUp-mono 18000 concentration-mono
