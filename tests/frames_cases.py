@@ -1,5 +1,5 @@
 #!/usr/bin/env python3
-"""The commands for crates/frames_cases and what it must print, reckoned from document 01 ("Frames", "Tree table", "Turned-back lines") and document 02 (W-204) alone.
+"""The commands for crates/frames_cases and what it must print, reckoned from document 01 ("Frames", "Tree table", "Turned-back lines") and document 02 (W-204, W-205) alone.
 
     python3 tests/frames_cases.py
 
@@ -15,14 +15,15 @@ BUFFER = 2097152  # bytes that the program reads
 DIGITS = b"0123456789ABCDEF"
 RAMPS = {1: 20 + 30, 2: 20 + 30, 3: 0, 4: 20 + 20, 5: 15 + 20, 6: 0}  # f1 + f4 of each tree, in days
 WATER, SUCTION = (1, 2), (3, 4, 5, 6)  # trees by their soil measure
-LENGTHS = {1: 20, 2: 36, 3: 6, 4: 40}  # digits of a line of each kind
-WIDTHS = {1: (1, 2, 2, 2, 2), 2: (2, 1, 2, 2, 2, 2, 2, 2, 2), 3: (2,), 4: (2, 1, 2, 2, 2, 2, 2, 2, 2, 2)}  # bytes of the fields after the kind
+LENGTHS = {1: 20, 2: 36, 3: 6, 4: 40, 5: 36}  # digits of a line of each kind
+HOUR_WIDTHS = (2, 1, 2, 2, 2, 2, 2, 2, 2)
+WIDTHS = {1: (1, 2, 2, 2, 2), 2: HOUR_WIDTHS, 3: (2,), 4: (*HOUR_WIDTHS, 2), 5: HOUR_WIDTHS}  # bytes of the fields after the kind
 
 # A record is a tuple: (1, tree, days, first, last, level), (3, hours), (2, day, hour, ozone, ppfd, radiation, temperature, vpd, wind, measure, soil),
-# or (4, the same fields, pressure).
+# (4, the same fields, pressure), or (5, the fields of 2 with humidity where vpd stands).
 # An answer is a record, a number of bytes, or a refusal: ("row", N) or ("row", 10, "field", F).
-HEADER_KIND, HOUR_KIND, END_KIND, PRESSURE_KIND = 1, 2, 3, 4
-HOUR_KINDS = (HOUR_KIND, PRESSURE_KIND)
+HEADER_KIND, HOUR_KIND, END_KIND, PRESSURE_KIND, HUMIDITY_KIND = 1, 2, 3, 4, 5
+HOUR_KINDS = (HOUR_KIND, PRESSURE_KIND, HUMIDITY_KIND)
 
 
 def row(n):
@@ -42,8 +43,9 @@ def refusal_of(record):
         if not 1 <= level <= 10000:
             return row(8)
     if record[0] in HOUR_KINDS:
+        vapour = 1000 if record[0] == HUMIDITY_KIND else 10000
         most = 10000 if record[9] == "suction" else 1000
-        limits = ((0, 5000), (0, 3000), (0, 1500), (-500, 600), (0, 10000), (0, 6000), (0, most), (5000, 11000))
+        limits = ((0, 5000), (0, 3000), (0, 1500), (-500, 600), (0, vapour), (0, 6000), (0, most), (5000, 11000))
         readings = record[3:9] + record[10:]  # the last limit is for kind 04, which has one reading more
         for field, (reading, (low, high)) in enumerate(zip(readings, limits), start=1):
             if not low <= reading <= high:
@@ -71,10 +73,10 @@ def record_of(tree, kind, *numbers):
     """The record that a frame's numbers say, its soil in the tree's measure."""
     if kind not in HOUR_KINDS:
         return (kind, *numbers)
-    day, hour, ozone, ppfd, radiation, temperature, vpd, wind, soil, *pressure = numbers
+    day, hour, ozone, ppfd, radiation, temperature, vapour, wind, soil, *pressure = numbers
     signed = temperature - 65536 if temperature >= 32768 else temperature
     measure = "water" if tree in WATER else "suction"
-    return (kind, day, hour, ozone, ppfd, radiation, signed, vpd, wind, measure, soil, *pressure)
+    return (kind, day, hour, ozone, ppfd, radiation, signed, vapour, wind, measure, soil, *pressure)
 
 
 def read(tree, line):
@@ -169,6 +171,7 @@ HOUR = b"0200010001F40000000000E603E8012C03E8"
 NOON = b"0200010C01F401F4019000E603E8012C03E8"
 END = b"030018"
 MOUNTAIN = b"0400010C01F401F4019000E603E8012C03E81B58"  # 700.0 hPa
+HUMID = b"0500010C01F401F4019000E60258012C03E8"  # 60.0 %
 EXAMPLES = (
     b"0104",
     b"03001g",
@@ -204,6 +207,18 @@ EXAMPLES = (
     b"0400010C01F401F40190025903E8012C03E81B58",
     b"0400010C01F401F4019000E603E8012C03E8FFFF",
     b"04FFFFFF01F401F4019000E603E8012C03E81B58",
+    HUMID,
+    b"0500010C01F401F4019000E60000012C03E8",
+    b"0500010C01F401F4019000E603E8012C03E8",
+    b"0500010C01F401F4019000E603E9012C03E8",
+    b"0200010C01F401F4019000E603E9012C03E8",
+    b"0500010C01F401F4019000E62710012C03E8",
+    b"0500010C01F401F4019000E6FFFF012C03E8",
+    b"0500010C01F401F40190FE0C0258012C03E8",
+    b"0500010C01F401F40190FE0B0258012C03E8",
+    b"0500010C01F401F4019002580258012C03E8",
+    b"0500010C01F401F4019002590258012C03E8",
+    b"05FFFFFF01F401F4019000E60258012C03E8",
 )
 
 
@@ -220,6 +235,11 @@ def mountain(pressure, *readings, **when):
     return (PRESSURE_KIND, *hour(*readings, **when)[1:], pressure)
 
 
+def humid(*readings, **when):
+    """An hour of kind 05."""
+    return (HUMIDITY_KIND, *hour(*readings, **when)[1:])
+
+
 def end(hours):
     return (END_KIND, hours)
 
@@ -233,37 +253,56 @@ def examples():
     yield reading(2, b"0200010001F40000000000E603E8012C03E9")
     yield reading(3, b"0200010001F40000000000E603E8012C03E9")
     yield writing_of(end(24), 5)
-    yield from (reading(tree, MOUNTAIN) for tree in (*range(9), 255))
+    yield from (reading(tree, line) for line in (MOUNTAIN, HUMID) for tree in (*range(9), 255))
 
 
 def confused():
     """Lines with the length of another kind, or with another kind's number."""
-    for line in (EVERGREEN, HOUR, END, MOUNTAIN):
+    for line in (EVERGREEN, HOUR, END, MOUNTAIN, HUMID):
         for kind in range(10):
             yield reading(6, b"%02X" % kind + line[2:])
             yield writing(6, b"%02X" % kind + line[2:])
-    for line in (MOUNTAIN[:36], b"02" + MOUNTAIN[2:], HOUR + b"1B58", b"04" + HOUR[2:], b"04" + HOUR[2:] + b"1B58"):
+    for line in (
+        MOUNTAIN[:36],
+        b"02" + MOUNTAIN[2:],
+        b"05" + MOUNTAIN[2:],
+        b"05" + MOUNTAIN[2:36],
+        HOUR + b"1B58",
+        HUMID + b"1B58",
+        b"04" + HOUR[2:],
+        b"04" + HUMID[2:],
+        b"04" + HOUR[2:] + b"1B58",
+        b"04" + HUMID[2:] + b"1B58",
+    ):
         yield from (reading(tree, line) for tree in (0, 1, 6))
         yield writing(6, line)
     # row 2 before row 3
     yield reading(6, b"02" + MOUNTAIN[2:39] + b"g")
     yield reading(6, b"04" + HOUR[2:35] + b"g")
+    yield reading(6, b"05" + MOUNTAIN[2:39] + b"g")
+    # 02 or 05 by the kind alone: VPD past 1000 Pa is no humidity
+    for vapour in (0, 1, 999, 1000, 1001, 1002, 10000, 10001, 65535):
+        for kind in (HOUR_KIND, HUMIDITY_KIND):
+            line = b"%02X%s%04X%s" % (kind, HUMID[2:24], vapour, HUMID[28:])
+            yield from (reading(tree, line) for tree in (1, 6))
+            yield writing(6, line)
 
 
 def frames():
     """Rows 1 to 3, and numbers that no row has tested."""
-    for line in (*EXAMPLES, b"", b"01FF000000000000FFFF", b"02" + b"F" * 34, b"04" + b"F" * 38):
+    for line in (*EXAMPLES, b"", b"01FF000000000000FFFF", b"02" + b"F" * 34, b"04" + b"F" * 38, b"05" + b"F" * 34):
         yield writing(6, line)
 
 
 def lengths():
-    for line in (EVERGREEN, HOUR, END, MOUNTAIN):
+    for line in (EVERGREEN, HOUR, END, MOUNTAIN, HUMID):
         text = (line + b"0123456789ABCDEF" * 5)[:80]
         yield from (reading(6, text[:n]) for n in range(81))
 
 
 def changes():
-    for tree, line in ((6, BEECH), (6, HOUR), (1, HOUR), (0, HOUR), (7, HOUR), (255, HOUR), (6, END), (6, MOUNTAIN), (1, MOUNTAIN), (7, MOUNTAIN)):
+    some = [(tree, HOUR) for tree in (6, 1, 0, 7, 255)] + [(tree, line) for line in (MOUNTAIN, HUMID) for tree in (6, 1, 7)]
+    for tree, line in ((6, BEECH), *some, (6, END)):
         yield from (change(tree, place, line) for place in range(len(line)))
 
 
@@ -275,6 +314,8 @@ def buffers():
         end(4632),
         mountain(7000, 500, 1200, 600, -205, 1100, 250, "suction", 300),
         mountain(7000, 500, 1200, 600, -205, 1100, 250, "water", 300),
+        humid(500, 1200, 600, -205, 600, 250, "suction", 300),
+        humid(500, 1200, 600, -205, 600, 250, "water", 300),
     ):
         yield from (writing_of(record, room) for room in range(ROOM + 1))
 
@@ -340,8 +381,18 @@ def pressure_edges():
     yield mountain(7000, 500, 1200, 600, 205, 1100, 250, "suction", 10001)
 
 
+def humidity_edges():
+    # every edge of kind 02 again, with its VPD, with a humidity in range and with one that is out
+    for record in hour_edges():
+        for vapour in (record[7], 1000, 1001):
+            yield humid(*record[3:7], vapour, *record[8:], day=record[1], clock=record[2])
+    for measure in ("suction", "water"):
+        for humidity in (0, 1, 999, 1000, 1001, 10000, 32768, 65535):
+            yield humid(500, 1200, 600, 205, humidity, 250, measure, 300)
+
+
 def edges():
-    for record in (*header_edges(), *hour_edges(), *pressure_edges()):
+    for record in (*header_edges(), *hour_edges(), *pressure_edges(), *humidity_edges()):
         yield writing_of(record, 0)
         yield writing_of(record)
 
@@ -366,6 +417,14 @@ def pressure_trips(measure, most):
     yield mountain(11000, 5000, 3000, 1500, 600, 10000, 6000, measure, most, day=65535, clock=255)
 
 
+def humidity_trips(measure, most):
+    for record in hour_trips(measure, most):
+        yield humid(*record[3:7], min(record[7], 1000), *record[8:], day=record[1], clock=record[2])
+    for t in (-500, -1, 0, 1, 205, 600):
+        for humidity in (0, 1, 255, 256, 500, 999, 1000):
+            yield humid(500, 1200, 600, t, humidity, 250, measure, 300)
+
+
 def trip(record, tree):
     """Written into the bytes of its line and read back the same."""
     line = line_of(record)
@@ -387,7 +446,7 @@ def trips():
         end(65535),
     ):
         yield from (trip(record, tree) for tree in range(8))
-    for trips_of in (hour_trips, pressure_trips):
+    for trips_of in (hour_trips, pressure_trips, humidity_trips):
         yield from (trip(record, tree) for record in trips_of("suction", 10000) for tree in SUCTION)
         yield from (trip(record, tree) for record in trips_of("water", 1000) for tree in WATER)
 

@@ -35,7 +35,7 @@ static unsigned number(const char *line, int at, int width) {
     return (unsigned)strtoul(digits, 0, 16);
 }
 
-// day 2 | hour 1 | ozone 2 | ppfd 2 | radiation 2 | temperature 2 | vpd 2 | wind 2 | soil 2 | pressure 2 (kind 04), after the kind
+// day 2 | hour 1 | ozone 2 | ppfd 2 | radiation 2 | temperature 2 | vpd 2 (kind 05: humidity) | wind 2 | soil 2 | pressure 2 (kind 04), after the kind
 static void add_hour(const char *line) {
     static const int places[FIELDS] = {2, 6, 8, 12, 16, 24, 28, 32, 36};
     uint16_t *h = hours.fields + FIELDS * hours.n;

@@ -24,7 +24,7 @@ from vectors import REPOSITORY
 PROGRAM = REPOSITORY / "target" / "bin" / "pod1"
 SCRIPT = REPOSITORY / "pod1"
 TIME = Path("/usr/bin/time")
-LEAP_YEAR = {2: 325036, 4: 360172}  # bytes of a leap year's text, by the kind of its hours; no accepted text exceeds the greatest
+LEAP_YEAR = {2: 325036, 4: 360172, 5: 325036}  # bytes of a leap year's text, by the kind of its hours; no accepted text exceeds the greatest
 TAKEN = 360448  # bytes that the program reads; the first 360,267 decide any report
 MOST_MEMORY = 4096  # KiB
 SECONDS = 30  # for a run to end
@@ -107,7 +107,7 @@ def padded(text, line, size):
 
 def border_texts(year):
     """Sizes around what the program takes, and around the longest season."""
-    lines = (b"\n", b"A\n", b"A", end_line(8784) + b"\n", hour_line() + b"\n", hour_line(kind=4) + b"\n", header_line() + b"\n")
+    lines = (b"\n", b"A\n", b"A", end_line(8784) + b"\n", *(hour_line(kind=kind) + b"\n" for kind in HOUR_KINDS), header_line() + b"\n")
     for size in (TAKEN - 1, TAKEN, TAKEN + 1):
         for line in lines:
             yield f"leap year and {line!r} to {size} bytes", padded(year, line, size)
@@ -255,7 +255,8 @@ def main():
             try_text(name, text)
     for text in report_cases.written_by_hand():
         try_text(repr(text[:60]), text)
-    for text in (*map(report_cases.text_of, report_cases.month_seasons()), *report_cases.mountain_seasons()):
+    seasons = *map(report_cases.text_of, report_cases.month_seasons()), *report_cases.mountain_seasons(), *report_cases.humid_seasons()
+    for text in seasons:
         try_text(f"season {text[:20].decode()}", text)
     try_pieces_of(day, year)
     try_folder(PROGRAM, b"", 0)

@@ -5,8 +5,8 @@ from pathlib import Path
 from typing import NamedTuple
 
 REPOSITORY = Path(__file__).resolve().parent.parent
-REQUESTS = ("W-204",)
-LONG = 45000  # bytes; a request's texts from here on are not stored in a crate
+REQUESTS = ("W-204", "W-205")
+LONG = 13000  # bytes; of a request's texts from here on few are stored in a crate
 
 
 class Figures(NamedTuple):
@@ -33,11 +33,6 @@ def texts(folder):
         yield from sorted(place.glob("*.txt"))
 
 
-def stored_texts(folder):
-    """Those that the case crates store."""
-    return [path for path in texts(folder) if path.parent == folder or path.stat().st_size < LONG]
-
-
 def figures_of(counted, missing, low, high, least, most):
     assert missing == "0" and low == high and least == most
     return Figures(int(counted), Fraction(low), int(least))
@@ -59,3 +54,15 @@ def answer(path):
 def encloses(lower, upper, figures):
     """The pair encloses the exact dose, at most 4 nmol m⁻² apart for each counted hour."""
     return lower <= figures.dose <= upper <= lower + 4 * figures.counted
+
+
+def stored_texts(folder):
+    """Those that the case crates store: document 01's; of a request the short ones, and of its long ones each tree's first season."""
+    trees = set()
+    for path in texts(folder):
+        tree = path.parent, path.read_bytes()[:4]
+        if path.parent == folder or path.stat().st_size < LONG:
+            yield path
+        elif tree not in trees and isinstance(answer(path), Season):
+            trees.add(tree)
+            yield path

@@ -54,6 +54,7 @@ fn kind_of(air: Air) -> HourKind
             deficit: _,
             pressure: _,
         } => HourKind::Pressure,
+        Air::Humidity(_) => HourKind::Humidity,
     }
 }
 

@@ -9,7 +9,7 @@ use frames::RawHour;
 use frames::Refusal;
 ghost use mathlib.Core.Path.{_≡_};
 ghost use Rattle.records.specs.Answers.{decodedAs};
-ghost use Rattle.account_spec.specs.HourKinds.{isMixed};
+ghost use Rattle.account_spec.specs.HourKinds.{kindNumber, isMixed};
 ghost use Rattle.account_spec.specs.Rules.{outOfTurn, isDue, countWrong, dueOf, turnOf};
 ghost use Rattle.account_spec.specs.Steps.{refusalIn};
 
@@ -33,27 +33,27 @@ fn out_of_turn(s: State, frame: Raw) -> bool
     }
 }
 
+// The kind of the season's hour frames, 0 before the first.
+fn kind_number(kind: HourKind) -> u8
+    ensures { λ r. ⌜ r ≡ kindNumber kind ⌝ }
+{
+    match kind {
+        HourKind::None => 0,
+        HourKind::Deficit => 2,
+        HourKind::Pressure => 4,
+        HourKind::Humidity => 5,
+    }
+}
+
 // Row 15: a kind other than the season's first.
 fn mixed(kind: HourKind, air: Air) -> bool
     ensures { λ r. ⌜ r ≡ isMixed kind air ⌝ }
 {
-    match kind {
-        HourKind::None => false,
-        HourKind::Deficit => match air {
-            Air::Deficit(_) => false,
-            Air::Pressure {
-                deficit: _,
-                pressure: _,
-            } => true,
-        },
-        HourKind::Pressure => match air {
-            Air::Deficit(_) => true,
-            Air::Pressure {
-                deficit: _,
-                pressure: _,
-            } => false,
-        },
+    let first = kind_number(kind);
+    if first == 0 {
+        return false;
     }
+    first != frames::air_kind(air)
 }
 
 // The next hour due.

@@ -24,6 +24,7 @@ fn kind_of(c: u8) -> HourKind {
     match c {
         b'2' => HourKind::Deficit,
         b'4' => HourKind::Pressure,
+        b'5' => HourKind::Humidity,
         _ => HourKind::None,
     }
 }

@@ -110,6 +110,7 @@ fn kind_out(kind: HourKind, hours: u16) -> bool
         HourKind::None => 0 < hours,
         HourKind::Deficit => hours == 0,
         HourKind::Pressure => hours == 0,
+        HourKind::Humidity => hours == 0,
     }
 }
 

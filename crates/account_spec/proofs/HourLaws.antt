@@ -17,7 +17,8 @@ use Rattle.records.proofs.AnswerLaws.{accepted-same, onTree-passed}
 use Rattle.flux_spec.specs.declared.Stand.{Stand}
 use Rattle.flux_spec.specs.Dose.{isCounted, excess, doseAt, NotAbove, NotBelow}
 use Rattle.flux_spec.specs.Pair.{hourPair}
-use Rattle.flux_spec.specs.Enclosure.{mostDose, Limited}
+use Rattle.flux_spec.specs.Enclosure.{mostDose, gapMost, Limited}
+use Rattle.flux_spec.proofs.BudgetLaws.{gapDose-most}
 use Rattle.flux_spec.proofs.HourDoseLaws.{stand-passed}
 use Rattle.flux_spec.proofs.EnclosureLaws.{enclosure}
 use Rattle.account_spec.specs.declared.Season.{Season}
@@ -39,8 +40,8 @@ notBelow-le {pod = pod} h high = record { every = λ k. record { cross = omega (
 -- ---- one hour, by any stand
 
 -- nothing encloses nothing, whatever the number of hours
-pub none-encloses : (each : ℕ) (s : Sums) → s .lower ≡ 0 → s .upper ≡ 0 → Encloses each s (λ k. natural 0)
-none-encloses each s l u = record {
+pub none-encloses : (apart each : ℕ) (s : Sums) → s .lower ≡ 0 → s .upper ≡ 0 → Encloses apart each s (λ k. natural 0)
+none-encloses apart each s l u = record {
   low = record { at = 0; under = rw l (≼-refl (natural 0)) };
   high = record { every = λ k. rw u (≼-refl (natural 0)) };
   order = omega arith;
@@ -50,31 +51,34 @@ none-encloses each s l u = record {
 }
 
 cond-encloses :
-    (each : ℕ) (b : Bool) (s : Sums) (dose : ℕ → Frac) → Encloses each s dose →
-    Encloses each (cond b s uncountedSums) (λ k. cond b (dose k) (natural 0))
-cond-encloses each true s dose e = e
-cond-encloses each false s dose e = none-encloses each uncountedSums refl refl
+    (apart each : ℕ) (b : Bool) (s : Sums) (dose : ℕ → Frac) → Encloses apart each s dose →
+    Encloses apart each (cond b s uncountedSums) (λ k. cond b (dose k) (natural 0))
+cond-encloses apart each true s dose e = e
+cond-encloses apart each false s dose e = none-encloses apart each uncountedSums refl refl
 
 module _ (stand : Stand) (sound : Sound (stand .figures)) (c : Carried) (h : Hour) (passed : checked (Record.Hour h) ≡ accepted tt) where
+  abbrev apart : ℕ
+  apart = gapMost (stand .figures)
+
   abbrev each : ℕ
   each = mostDose (stand .figures .gmax)
 
   -- a counted hour adds its pair
-  counted-encloses : Encloses each (countedSums (hourPair stand h) (excess h)) (λ k. doseAt k stand h)
+  counted-encloses : Encloses apart each (countedSums (hourPair stand h) (excess h)) (λ k. doseAt k stand h)
   counted-encloses =
       let one = enclosure .hour stand sound h passed in
       record {
         low = notAbove-le (omega (arith, one .order)) (one .low);
         high = notBelow-le (omega (arith, one .most)) (one .high);
         order = omega (arith, one .order);
-        gap = omega (arith, one .gap);
+        gap = omega (arith, one .gap, gapDose-most (stand .figures) (h .air));
         most = omega (arith, one .most);
         grows = one .grows;
       }
 
-  pub hour-encloses : Encloses each (hourSums (accepted stand) c h) (hourPod (accepted stand) c h)
+  pub hour-encloses : Encloses apart each (hourSums (accepted stand) c h) (hourPod (accepted stand) c h)
   unfolding hourSums hourPod pairOf
-  hour-encloses = cond-encloses each (isCounted h) _ _ counted-encloses
+  hour-encloses = cond-encloses apart each (isCounted h) _ _ counted-encloses
 
 -- ---- one hour of a season
 

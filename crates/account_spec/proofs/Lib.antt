@@ -3,6 +3,7 @@ pub mod PossibleLaws
 pub mod RuleLaws
 pub mod HourLaws
 pub mod EnclosedLaws
+pub mod KindLaws
 pub mod BookLaws
 pub mod TurnLaws
 pub mod RowLaws

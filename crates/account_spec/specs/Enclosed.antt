@@ -9,7 +9,6 @@ use Rattle.records.specs.Answers.{Outcome, accepted}
 use Rattle.records.specs.Ranges.{checked}
 use Rattle.flux_spec.specs.declared.Stand.{Stand}
 use Rattle.flux_spec.specs.Dose.{NotAbove, NotBelow}
-use Rattle.flux_spec.specs.Enclosure.{gapDose}
 use Rattle.account_spec.specs.declared.Season.{Season}
 use Rattle.account_spec.specs.declared.Sums.{Sums}
 use Rattle.account_spec.specs.Hours.{standIn, Carried, sumsOf, podOf}
@@ -27,16 +26,20 @@ abbrev pub AllDosed : Season → List Hour → Type 0
 AllDosed season [] = Unit
 AllDosed season (h ∷ hs) = HasDose season h × AllDosed season hs
 
--- lower is not above the exact dose and upper not below it; how far apart they are and how large, by the counted hours and the most that one brings;
--- POD_k never falls as k grows
-pub record Encloses (each : ℕ) (sums : Sums) (pod : ℕ → Frac) : Type 0 where
+-- nmol m⁻² between the two numbers of a season's hour at most: 2 for the six trees, whatever the kind of its frame; row 13 allows more
+abbrev pub gapHour : Season → ℕ
+gapHour season = 2
+
+-- lower is not above the exact dose and upper not below it; how far apart they are and how large, by the counted hours, how far apart the numbers of one are at most
+-- and the most that one brings; POD_k never falls as k grows
+pub record Encloses (apart each : ℕ) (sums : Sums) (pod : ℕ → Frac) : Type 0 where
   pub low : NotAbove (sums .lower) pod
   pub high : NotBelow (sums .upper) pod
   pub order : sums .lower ≤ sums .upper
-  pub gap : sums .upper ≤ sums .lower + gapDose * sums .counted
+  pub gap : sums .upper ≤ sums .lower + apart * sums .counted
   pub most : sums .upper ≤ each * sums .counted
   pub grows : (k l : ℕ) → k ≤ l → pod k ≼ pod l
 
 -- hours in a row, from what those before them left
-abbrev pub HoursEnclosed : ℕ → Outcome Stand → Carried → List Hour → Type 0
-HoursEnclosed each stand c hs = Encloses each (sumsOf stand c hs) (podOf stand c hs)
+abbrev pub HoursEnclosed : ℕ → ℕ → Outcome Stand → Carried → List Hour → Type 0
+HoursEnclosed apart each stand c hs = Encloses apart each (sumsOf stand c hs) (podOf stand c hs)

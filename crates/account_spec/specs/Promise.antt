@@ -12,7 +12,7 @@ use Rattle.records.specs.Answers.{Outcome, accepted, refused}
 use Rattle.frames.specs.Digits.{byte, number}
 use Rattle.flux_spec.specs.declared.Stand.{Stand}
 use Rattle.flux_spec.specs.Dose.{NotAbove, NotBelow}
-use Rattle.flux_spec.specs.Enclosure.{mostDose}
+use Rattle.flux_spec.specs.Enclosure.{mostDose, gapMost}
 use Rattle.account_spec.specs.declared.Season.{Season}
 use Rattle.account_spec.specs.declared.Account.{Account}
 use Rattle.account_spec.specs.declared.Totals.{Totals}
@@ -20,7 +20,7 @@ use Rattle.account_spec.specs.declared.Fed.{Fed}
 use Rattle.account_spec.specs.declared.Reading.{Reading}
 use Rattle.account_spec.specs.Limits.{mostHour, gapEach}
 use Rattle.account_spec.specs.Hours.{standIn, Carried}
-use Rattle.account_spec.specs.Enclosed.{AllChecked, AllDosed, HoursEnclosed}
+use Rattle.account_spec.specs.Enclosed.{AllChecked, AllDosed, gapHour, HoursEnclosed}
 use Rattle.account_spec.specs.Account.{freshAccount}
 use Rattle.account_spec.specs.Rules.{leftBy}
 use Rattle.account_spec.specs.Reading.{exceededWord, belowWord, wordOf, verdictWord}
@@ -110,6 +110,8 @@ pub record SeasonPromise : Type 0 where
   pub exists : (calls : List Call) → RunOf freshAccount calls
   pub day : (r : RunOf freshAccount dayCalls) → repliesOf (r .events) ≡ accepted tt ∷ refused (1, 0) ∷ acceptances 25
   -- the sums of any list of hours, for any sound figures and any first and last day
-  pub listed : (stand : Stand) → Sound (stand .figures) → (c : Carried) (hs : List Hour) → AllChecked hs → HoursEnclosed (mostDose (stand .figures .gmax)) (accepted stand) c hs
+  pub listed :
+      (stand : Stand) → Sound (stand .figures) → (c : Carried) (hs : List Hour) → AllChecked hs →
+      HoursEnclosed (gapMost (stand .figures)) (mostDose (stand .figures .gmax)) (accepted stand) c hs
   -- so those of any part of a season
-  pub enclosed : (season : Season) (c : Carried) (hs : List Hour) → AllDosed season hs → HoursEnclosed (mostHour season) (standIn season) c hs
+  pub enclosed : (season : Season) (c : Carried) (hs : List Hour) → AllDosed season hs → HoursEnclosed (gapHour season) (mostHour season) (standIn season) c hs

@@ -14,6 +14,7 @@ pub enum HourKind {
     None,
     Deficit,
     Pressure,
+    Humidity,
 }
 
 // What the frames before the first hour said.

@@ -2,10 +2,11 @@
 use Prim.Native.Nat.{ℕ, _+_, _-_, _*_, _≤_, _<_, max}
 use mathlib.Core.Path.{_≡_}
 use mathlib.Core.Logic.{⊎-elim}
-use native.Mathlib.Nat.{le-antisymm, mul-le-mul-left, mul-le-mul-right, mul-le-mul, le-of-mul-le-mul-left}
+use native.Mathlib.Nat.{le-antisymm, mul-le-mul-left, mul-le-mul-right, mul-le-mul, mul-lt-mul-of-pos-right, le-of-mul-le-mul-left, lt-of-mul-lt-mul-right}
 use native.Mathlib.Omega.{arith}
 use borrow.Author.Tests.{lt-ltb, le-ltb}
-use Rattle.exact.specs.Frac.{Frac, natural, _over_, _⊕_, _⊗_, _≼_, _≈_, straight}
+use Rattle.exact.specs.declared.Fraction.{Fraction}
+use Rattle.exact.specs.Frac.{Frac, natural, _over_, _⊕_, _⊗_, _≼_, _≺_, _≈_, Is, fracOf, straight}
 use Rattle.exact.proofs.OrderLaws.{le-or-lt}
 
 pub ≼-refl : (x : Frac) → x ≼ x
@@ -14,6 +15,10 @@ pub ≼-refl : (x : Frac) → x ≼ x
 pub ≼-trans : {x y z : Frac} → x ≼ y → y ≼ z → x ≼ z
 ≼-trans {x} {y} {z} p q =
     record { cross = le-of-mul-le-mul-left {k = y .den} (omega (arith, mul-le-mul-right (z .den) (p .cross), mul-le-mul-right (x .den) (q .cross))) (y .positive) }
+
+pub ≼-≺-trans : {x y z : Frac} → x ≼ y → y ≺ z → x ≺ z
+≼-≺-trans {x} {y} {z} p q =
+    record { cross = lt-of-mul-lt-mul-right (y .den) (omega (arith, mul-le-mul-right (z .den) (p .cross), mul-lt-mul-of-pos-right (q .cross) (x .positive))) }
 
 pub ≼-antisym : {x y : Frac} → x ≼ y → y ≼ x → x ≈ y
 ≼-antisym h k = record { cross = le-antisymm (h .cross) (k .cross) }
@@ -46,6 +51,11 @@ pub ⊗-comm : (x y : Frac) → x ⊗ y ≼ y ⊗ x
 pub ⊗-le-one : {x y : Frac} → x ≼ natural 1 → y ≼ natural 1 → x ⊗ y ≼ natural 1
 ⊗-le-one p q = ≼-trans (⊗-mono p q) (record { cross = omega arith })
 
+pub is-value : {r : Fraction} {x : Frac} → Is r x → fracOf r ≈ x
+is-value {r} {x} i =
+    let whole : max 1 (r .den) ≡ x .den = omega (arith, i .den, x .positive) in
+    record { cross = rw (i .num, whole) }
+
 max-is : (d : ℕ) → 0 < d → max 1 d ≡ d
 max-is d h = omega arith
 
@@ -55,7 +65,7 @@ over-le {m} {c} {n} {d} p q h = record { cross = rw (max-is d q, max-is c p) h }
 pub over-mono : {a b : ℕ} (m : ℕ) → a ≤ b → a over m ≼ b over m
 over-mono m h = record { cross = mul-le-mul-right (max 1 m) h }
 
-over-same : {m c n d : ℕ} → 0 < c → 0 < d → m * d ≡ n * c → m over c ≈ n over d
+pub over-same : {m c n d : ℕ} → 0 < c → 0 < d → m * d ≡ n * c → m over c ≈ n over d
 over-same {m} {c} {n} {d} p q h = record { cross = rw (max-is d q, max-is c p) h }
 
 -- ---- the straight line, before its end and past it

@@ -1,5 +1,6 @@
 pub mod OrderLaws
 pub mod FracLaws
+pub mod StraightLaws
 pub mod GreaterLaws
 pub mod InverseLaws
 pub mod PowerLaws
@@ -8,8 +9,10 @@ pub mod RootLaws
 pub mod LeastLaws
 pub mod SquareLaws
 pub mod RoundingLaws
+pub mod TimesLaws
 pub mod SeriesConvolution
 pub mod SeriesCommon
 pub mod SeriesSums
 pub mod SeriesLaws
 pub mod SeriesBounds
+pub mod GrowthLaws

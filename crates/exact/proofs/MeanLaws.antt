@@ -19,10 +19,10 @@ use native.Mathlib.Nat.{
 }
 
 -- Bernoulli: (1 + s/c)^n ≥ 1 + n·s/c
-rise : (c s n : ℕ) → c ^ n * (c + n * s) ≤ c * (c + s) ^ n
-rise c s zero = rw (pow-zero, pow-zero) (omega arith)
-rise c s (suc n) =
-    rw (pow-suc c n, pow-suc (c + s) n) (omega (arith, mul-le-mul-right (c + s) (rise c s n)))
+pub bernoulli : (c s n : ℕ) → c ^ n * (c + n * s) ≤ c * (c + s) ^ n
+bernoulli c s zero = rw (pow-zero, pow-zero) (omega arith)
+bernoulli c s (suc n) =
+    rw (pow-suc c n, pow-suc (c + s) n) (omega (arith, mul-le-mul-right (c + s) (bernoulli c s n)))
 
 fall-step : (c d e s m l : ℕ) → c * e ≤ (e + s) * d → m * (e + s) ≤ c * l → m * c * e ≤ c * (l * d)
 fall-step c d e s m l key h = omega (arith, mul-le-mul-left m key, mul-le-mul-right d h)
@@ -50,7 +50,7 @@ module _ (a s v d p q : ℕ) (p-pos : zero < p) (q-pos : zero < q) (a-pos : zero
   grown : (d + s) ^ p * (a + s) ≤ a * (d + s + s) ^ p
   grown =
       le-of-mul-le-mul-right {k = p}
-      (omega (arith, rise (d + s) s p, ap (λ (m : ℕ). (d + s) ^ p * m) pa, ap (λ (m : ℕ). m * (d + s + s) ^ p) pa)) p-pos
+      (omega (arith, bernoulli (d + s) s p, ap (λ (m : ℕ). (d + s) ^ p * m) pa, ap (λ (m : ℕ). m * (d + s + s) ^ p) pa)) p-pos
 
   fallen : (d + s) ^ q * v ≤ (v + s) * d ^ q
   fallen =

@@ -1,4 +1,4 @@
--- exp(-n/d) at k by whole numbers: rounded down, and bounded from below at every k by one test at one of them.
+-- exp(-n/d) at k by whole numbers: rounded down, and bounded from below at every k by one test at one of them; so the series is bounded from above.
 use mathlib.Core.Path.{_≡_, ap, ap₂, sym, _∙_}
 use Prim.Native.Nat.{ℕ, suc, _+_, _-_, _*_, _/_, _^_, _≤_, _<_, max}
 use native.Mathlib.Nat.{pow-suc, mul-le-mul-left, mul-le-mul-right, le-of-mul-le-mul-right, le-add-right, le-add-left, mul-div-mul-right}
@@ -39,11 +39,11 @@ cross-ge l t P Q N D Q-pos e h =
 
 module _ (n d l t : ℕ) where
   -- l / t is at most 1 / (S_k and that bound of the rest), m = d·(k+1) - n
-  record With (k : ℕ) : Type 0 where
-    m : ℕ
-    is : n + m ≡ d * suc k
-    pos : 0 < m
-    holds : l * (commonNum k n d * m + n ^ suc k) ≤ t * commonDen k d * m
+  pub record With (k : ℕ) : Type 0 where
+    pub m : ℕ
+    pub is : n + m ≡ d * suc k
+    pub pos : 0 < m
+    pub holds : l * (commonNum k n d * m + n ^ suc k) ≤ t * commonDen k d * m
 
   with-suc : (k : ℕ) → With k → With (suc k)
   unfolding commonNum commonDen
@@ -60,25 +60,40 @@ module _ (n d l t : ℕ) where
   with-le : (k : ℕ) → With k → l * commonNum k n d ≤ t * commonDen k d
   with-le k a = le-of-mul-le-mul-right {k = a .m} (omega (arith, a .holds)) (a .pos)
 
+  -- so it is at every k
+  common-le : 0 < d → {last : ℕ} → With last → (k : ℕ) → l * commonNum k n d ≤ t * commonDen k d
+  common-le d-pos {last} first k =
+      let high : With (k + last) = le-ind With first (λ m _. with-suc m) (k + last) (le-add-left last k) in
+      le-of-mul-le-mul-right {k = commonDen (k + last) d}
+      (omega (
+        arith,
+        mul-le-mul-left l (common-mono n d k (k + last) (le-add-right k last)),
+        mul-le-mul-right (commonDen k d) (with-le (k + last) high),
+      ))
+      (commonDen-pos d d-pos (k + last))
+
+  module _ (d-pos : 0 < d) {last : ℕ} (first : With last) (k : ℕ) where
+    terms-le : l * seriesAt k n d .num ≤ seriesAt k n d .den * t
+    terms-le =
+        cross-ge l t (commonNum k n d) (commonDen k d) (seriesAt k n d .num) (seriesAt k n d .den)
+        (commonDen-pos d d-pos k) (series-common d d-pos k n .cross) (common-le d-pos first k)
+
+    pub with-series : 0 < l → seriesAt k n d ≼ t over l
+    with-series l-pos = let is : max 1 l ≡ l = omega arith in record { cross = rw is (omega (arith, terms-le)) }
+
+    pub with-decay : 0 < t → l over t ≼ decayAt k n d
+    unfolding decayAt
+    with-decay t-pos = over-le t-pos (series-pos d d-pos k n) terms-le
+
   abbrev pub restTest : ℕ → Bool
   restTest last = leb (l * (commonNum last n d * (d * suc last - n) + n ^ suc last)) (t * commonDen last d * (d * suc last - n))
 
-  module _ (d-pos : 0 < d) (t-pos : 0 < t) (last : ℕ) (near : n < d * suc last) (test : T (restTest last)) where
-    common-le : (k : ℕ) → l * commonNum k n d ≤ t * commonDen k d
-    common-le k =
-        let first : With last = record { m = d * suc last - n; is = omega arith; pos = omega arith; holds = leb→le _ _ test } in
-        let high : With (k + last) = le-ind With first (λ m _. with-suc m) (k + last) (le-add-left last k) in
-        le-of-mul-le-mul-right {k = commonDen (k + last) d}
-        (omega (
-          arith,
-          mul-le-mul-left l (common-mono n d k (k + last) (le-add-right k last)),
-          mul-le-mul-right (commonDen k d) (with-le (k + last) high),
-        ))
-        (commonDen-pos d d-pos (k + last))
+  with-tested : (last : ℕ) → n < d * suc last → T (restTest last) → With last
+  with-tested last near test = record { m = d * suc last - n; is = omega arith; pos = omega arith; holds = leb→le _ _ test }
 
-    pub decayAt-ge : (k : ℕ) → l over t ≼ decayAt k n d
-    unfolding decayAt
-    decayAt-ge k =
-        over-le t-pos (series-pos d d-pos k n)
-        (cross-ge l t (commonNum k n d) (commonDen k d) (seriesAt k n d .num) (seriesAt k n d .den)
-        (commonDen-pos d d-pos k) (series-common d d-pos k n .cross) (common-le k))
+  module _ (d-pos : 0 < d) where
+    pub decayAt-ge : 0 < t → (last : ℕ) → n < d * suc last → T (restTest last) → (k : ℕ) → l over t ≼ decayAt k n d
+    decayAt-ge t-pos last near test k = with-decay d-pos (with-tested last near test) k t-pos
+
+    pub seriesAt-le : 0 < l → (last : ℕ) → n < d * suc last → T (restTest last) → (k : ℕ) → seriesAt k n d ≼ t over l
+    seriesAt-le l-pos last near test k = with-series d-pos (with-tested last near test) k l-pos

@@ -18,14 +18,14 @@ module _ (d : ℕ) (d-pos : 0 < d) where
   series-mono : {j k : ℕ} (n : ℕ) → j ≤ k → seriesAt j n d ≼ seriesAt k n d
   series-mono {j} {k} n h = by-common j k n n (record { cross = common-mono n d j k h })
 
-  series-sum-le : (k x y : ℕ) → seriesAt k (x + y) d ≼ seriesAt k x d ⊗ seriesAt k y d
+  pub series-sum-le : (k x y : ℕ) → seriesAt k (x + y) d ≼ seriesAt k x d ⊗ seriesAt k y d
   series-sum-le k x y =
       ≼-trans (≈-le (series-common d d-pos k (x + y)))
       (≼-trans {y = common d d-pos k x ⊗ common d d-pos k y}
       (omega (arith, mul-le-mul-left (commonDen k d) (common-sum-le d d-pos x y k)))
       (⊗-mono (≈-ge (series-common d d-pos k x)) (≈-ge (series-common d d-pos k y))))
 
-  series-sum-ge : (j k x y : ℕ) → seriesAt j x d ⊗ seriesAt k y d ≼ seriesAt (j + k) (x + y) d
+  pub series-sum-ge : (j k x y : ℕ) → seriesAt j x d ⊗ seriesAt k y d ≼ seriesAt (j + k) (x + y) d
   series-sum-ge j k x y =
       ≼-trans (⊗-mono (≈-le (series-common d d-pos j x)) (≈-le (series-common d d-pos k y)))
       (≼-trans {y = common d d-pos (j + k) (x + y)}
@@ -33,7 +33,7 @@ module _ (d : ℕ) (d-pos : 0 < d) where
       (≈-ge (series-common d d-pos (j + k) (x + y))))
 
   -- exp(0) is 1 at every k
-  series-zero : (k : ℕ) → seriesAt k 0 d .num ≡ seriesAt k 0 d .den
+  pub series-zero : (k : ℕ) → seriesAt k 0 d .num ≡ seriesAt k 0 d .den
   unfolding seriesAt
   series-zero zero = refl
   series-zero (suc k) = rw (zero-pow (suc k) (zero-lt-suc k)) (omega (arith, ap (λ n. n * max 1 (d ^ suc k * factorial (suc k))) (series-zero k)))

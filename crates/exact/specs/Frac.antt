@@ -1,8 +1,8 @@
 -- Fractions of naturals, not in lowest terms; the denominator is never 0, so that an order is never vacuous.
-use Prim.Native.Nat.{ℕ, _+_, _-_, _*_, _≤_, _<_, max}
+use Prim.Native.Nat.{ℕ, _+_, _-_, _*_, _^_, _≤_, _<_, max}
 use mathlib.Core.Path.{_≡_}
 use mathlib.Core.Bool.{cond}
-use native.Mathlib.Nat.{mul-pos}
+use native.Mathlib.Nat.{mul-pos, one-le-pow}
 use native.Mathlib.Omega.{arith}
 use lib.Dec.{ltb, leb}
 use Rattle.exact.specs.declared.Fraction.{Fraction}
@@ -45,6 +45,10 @@ inverse x = x .den over x .num
 abbrev pub _⊘_ : Frac → Frac → Frac
 x ⊘ y = x ⊗ inverse y
 
+-- x^n
+abbrev pub power : Frac → ℕ → Frac
+power x n = record { num = x .num ^ n; den = x .den ^ n; positive = one-le-pow n (x .den) (x .positive) }
+
 -- x ≤ y
 pub record _≼_ (x y : Frac) : Type 0 where
   pub cross : x .num * y .den ≤ y .num * x .den
@@ -65,6 +69,10 @@ greater x y = cond (leb (x .num * y .den) (y .num * x .den)) y x
 -- the same number, whatever its terms
 pub record _≈_ (x y : Frac) : Type 0 where
   pub cross : x .num * y .den ≡ y .num * x .den
+
+-- what a fraction of the code stands for
+abbrev pub fracOf : Fraction → Frac
+fracOf r = r .num over r .den
 
 -- a fraction of the code has these very terms
 pub record Is (r : Fraction) (x : Frac) : Type 0 where

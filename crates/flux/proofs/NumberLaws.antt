@@ -1,7 +1,7 @@
 -- The code's numbers: what it computes from the terms of f_VPD, f_SW and f_phen is the opening's pair and the share's, and fits 64 bits.
-use Prim.Native.Nat.{ℕ, _+_, _-_, _*_, _/_, _^_, _≤_, _<_, max}
+use Prim.Native.Nat.{ℕ, _+_, _-_, _*_, _/_, _%_, _^_, _≤_, _<_, max}
 use mathlib.Core.Path.{_≡_, sym, ap, ap₂, _∙_}
-use native.Mathlib.Nat.{mul-le-mul, mul-le-mul-left, mul-div-cancel, div-mul-le-self, mul-add-div-right, div-eq-of-lt}
+use native.Mathlib.Nat.{mul-le-mul, mul-le-mul-left, mul-le-mul-right, mul-div-cancel, mod-lt, div-le-self, div-mul-le-self, mul-add-div-right, div-eq-of-lt}
 use native.Mathlib.Omega.{arith}
 use mir.Syntax.{w64}
 use mir.Val.{Fits}
@@ -9,26 +9,29 @@ use Rattle.trees.specs.declared.Figures.{Figures}
 use Rattle.trees.specs.Sound.{Sound}
 use Rattle.trees.specs.Phenology.{phenologyOf}
 use Rattle.trees.specs.Temperature.{temperaturePair}
-use Rattle.trees.specs.Deficit.{deficitOf}
+use Rattle.trees.specs.Deficit.{deficitOf, lowerDeficit, upperDeficit, lowerFactor, upperFactor}
 use Rattle.trees.specs.SoilWater.{soilWaterOf}
-use Rattle.trees.proofs.FactorLaws.{deficit-limits, soilWater-limits, phenology-limits}
-use Rattle.trees.proofs.TermLaws.{Small, deficit-small, soilWater-small, phenology-small}
+use Rattle.trees.proofs.DeficitLaws.{deficit-limits}
+use Rattle.trees.proofs.FactorLaws.{soilWater-limits, phenology-limits}
+use Rattle.trees.proofs.TermLaws.{deficit-small, soilWater-small, phenology-small}
 use Rattle.flux.specs.Steps.{Factor}
 use Rattle.flux_spec.specs.declared.Stand.{Stand}
 use Rattle.flux_spec.specs.Light.{lightLow, lightUp}
-use Rattle.flux_spec.specs.Deficit.{vpdOf, deficitLow, deficitUp}
+use Rattle.flux_spec.specs.Deficit.{airDeficits, deficitLow, deficitUp}
 use Rattle.flux_spec.specs.Conductance.{aboveOf, phenologyIn}
 use Rattle.flux_spec.specs.Pair.{openingLow, openingUp, shareLow, shareUp}
 use Rattle.exact.specs.declared.Fraction.{Fraction}
 use Rattle.exact.specs.Frac.{Frac, Is, natural, _over_, _≼_}
 use Rattle.exact.specs.Rounding.{roundUp, roundDown, timesUp, timesDown}
 use Rattle.exact.proofs.RoundingLaws.{round-whole, round-rest, timesDown-is, timesUp-is, timesDown-le, timesUp-le}
+use Rattle.records.specs.declared.Air.{Air}
+use Rattle.records.specs.declared.Air.the-variants.{Deficit, Pressure, Humidity}
 use Rattle.records.specs.declared.Hour.{Hour}
 use Rattle.frames.specs.Layout.{soilNumber}
 
 -- ---- a number times a factor
 
-module _ (n : ℕ) (x : Fraction) (factor : Factor x) where
+module _ (n : ℕ) (x : Fraction) {most : ℕ} (factor : Factor most x) where
   abbrev value : Frac
   value = record { num = x .num; den = x .den; positive = factor .whole }
 
@@ -41,6 +44,7 @@ module _ (n : ℕ) (x : Fraction) (factor : Factor x) where
   pub up-le : (n * x .num + (x .den - 1)) / x .den ≤ n
   up-le = rw (timesUp-is n value) at (timesUp-le n {x = value} value-le)
 
+module _ (n : ℕ) (x : Fraction) (factor : Factor (10 ^ 6) x) where
   module _ (small : n ≤ 10 ^ 9 + 1) where
     product-le : n * x .num ≤ (10 ^ 9 + 1) * 10 ^ 6
     product-le = omega (arith, mul-le-mul-left n (factor .below), mul-le-mul small (factor .small))
@@ -50,6 +54,45 @@ module _ (n : ℕ) (x : Fraction) (factor : Factor x) where
 
     pub up-fits : Fits w64 (n * x .num + (x .den - 1))
     up-fits = record { fits = omega (arith, product-le, factor .small) }
+
+-- by the two digits of the number, where the denominator is long
+
+low-digit : (n : ℕ) → n % 32768 ≤ 32767
+low-digit n = omega arith
+
+module _ (n : ℕ) (x : Fraction) (factor : Factor (2 * 10 ^ 14) x) (small : n ≤ 10 ^ 9 + 1) where
+  abbrev high : ℕ
+  high = n / 32768 * x .num
+
+  pub high-fits : Fits w64 high
+  high-fits = record { fits = omega (arith, mul-le-mul-left (n / 32768) (factor .below), mul-le-mul-left (n / 32768) (factor .small)) }
+
+  -- the higher digit's quotient, and what it leaves with the lower one
+
+  pub whole-fits : Fits w64 (high / x .den * 32768)
+  whole-fits = record { fits = omega (arith, down-le (n / 32768) x factor) }
+
+  rest-le : high % x .den * 32768 + n % 32768 * x .num ≤ 65535 * (2 * 10 ^ 14)
+  rest-le = omega (arith, mod-lt high (factor .whole), mul-le-mul-right (x .num) (low-digit n), factor .below, factor .small)
+
+  pub rest-fits : Fits w64 (high % x .den * 32768)
+  rest-fits = record { fits = omega (arith, rest-le) }
+
+  pub low-fits : Fits w64 (n % 32768 * x .num)
+  low-fits = record { fits = omega (arith, rest-le) }
+
+  pub sum-fits : Fits w64 (high % x .den * 32768 + n % 32768 * x .num)
+  sum-fits = record { fits = omega (arith, rest-le) }
+
+  module _ (more : ℕ) (less : more < x .den) where
+    abbrev rest : ℕ
+    rest = high % x .den * 32768 + n % 32768 * x .num + more
+
+    pub more-fits : Fits w64 rest
+    more-fits = record { fits = omega (arith, rest-le, factor .small) }
+
+    pub digits-fit : Fits w64 (high / x .den * 32768 + rest / x .den)
+    digits-fit = record { fits = omega (arith, down-le (n / 32768) x factor, div-le-self rest (x .den), rest-le, factor .small) }
 
 -- two numbers of 10⁻⁹
 pub product-lt : {a b : ℕ} → a ≤ 10 ^ 9 + 1 → b ≤ 10 ^ 9 + 1 → a * b + 10 ^ 11 < 10 ^ 19
@@ -72,23 +115,35 @@ module _ (n d : ℕ) (pos : 0 < d) where
 
 -- ---- the factors
 
-factor-is : {r : Fraction} {x : Frac} → Is r x → x ≼ natural 1 → Small x → Factor r
+factor-is : {r : Fraction} {x : Frac} {most : ℕ} → Is r x → x ≼ natural 1 → x .den ≤ most → Factor most r
 factor-is {r} {x} i below small = record {
   whole = omega (arith, i .den, x .positive);
   below = omega (arith, i .num, i .den, below .cross);
-  small = omega (arith, i .den, small .den);
+  small = omega (arith, i .den, small);
 }
 
+-- one Pa, or 5·10⁻⁶ Pa
+deficits-den : (a : Air) (x : ℕ) → airDeficits a x .den ≤ 2 * 10 ^ 8
+deficits-den (Deficit vpd) x = omega arith
+deficits-den (Pressure vpd p) x = omega arith
+deficits-den (Humidity rh) x = omega arith
+
 module _ (f : Figures) (s : Sound f) {r : Fraction} where
-  pub deficit-factor : (vpd : ℕ) → Is r (deficitOf f vpd) → Factor r
-  deficit-factor vpd i = factor-is i (deficit-limits f s vpd .below) (deficit-small f s vpd)
+  deficit-factor : (vpd : Frac) → vpd .den ≤ 2 * 10 ^ 8 → Is r (deficitOf f vpd) → Factor (2 * 10 ^ 14) r
+  deficit-factor vpd h i = factor-is i (deficit-limits f s vpd .below) (omega (arith, deficit-small f s vpd))
 
-  pub soilWater-factor : (reading : ℕ) → Is r (soilWaterOf f reading) → Factor r
-  soilWater-factor reading i = factor-is i (soilWater-limits f s reading .below) (soilWater-small f s reading)
+  pub lower-factor : (a : Air) (x : ℕ) → Is r (lowerFactor f (airDeficits a x)) → Factor (2 * 10 ^ 14) r
+  lower-factor a x i = deficit-factor (upperDeficit (airDeficits a x)) (omega (arith, deficits-den a x)) i
 
-  pub phenology-factor : (first last day temperature : ℕ) → Is r (phenologyOf f first last day temperature) → Factor r
+  pub upper-factor : (a : Air) (x : ℕ) → Is r (upperFactor f (airDeficits a x)) → Factor (2 * 10 ^ 14) r
+  upper-factor a x i = deficit-factor (lowerDeficit (airDeficits a x)) (omega (arith, deficits-den a x)) i
+
+  pub soilWater-factor : (reading : ℕ) → Is r (soilWaterOf f reading) → Factor (10 ^ 6) r
+  soilWater-factor reading i = factor-is i (soilWater-limits f s reading .below) (soilWater-small f s reading .den)
+
+  pub phenology-factor : (first last day temperature : ℕ) → Is r (phenologyOf f first last day temperature) → Factor (10 ^ 6) r
   phenology-factor first last day temperature i =
-      factor-is i (phenology-limits f s first last day temperature .below) (phenology-small f s first last day temperature)
+      factor-is i (phenology-limits f s first last day temperature .below) (phenology-small f s first last day temperature .den)
 
 -- ---- the pairs
 
@@ -100,18 +155,18 @@ module _ (n : ℕ) {r : Fraction} {x : Frac} (i : Is r x) where
   up-is = rw (timesUp-is n x, i .num, i .den)
 
 module _ (f : Figures) (h : Hour) {vpd sw : Fraction} where
-  module _ (v : Is vpd (deficitOf f (vpdOf (h .air)))) (w : Is sw (soilWaterOf f (soilNumber (h .soil)))) where
+  module _ (w : Is sw (soilWaterOf f (soilNumber (h .soil)))) where
     pub openingLow-is :
-        {t : ℕ} → t ≡ temperaturePair f (aboveOf (h .temperature)) .lower →
+        {t : ℕ} → Is vpd (lowerFactor f (airDeficits (h .air) (aboveOf (h .temperature)))) → t ≡ temperaturePair f (aboveOf (h .temperature)) .lower →
         max (f .fmin * 10 ^ 7) (t * vpd .num / vpd .den * sw .num / sw .den) ≡ openingLow f h
     unfolding openingLow deficitLow
-    openingLow-is {t} e = rw (down-is t v, down-is _ w, e)
+    openingLow-is {t} v e = rw (down-is t v, down-is _ w, e)
 
     pub openingUp-is :
-        {t : ℕ} → t ≡ temperaturePair f (aboveOf (h .temperature)) .upper →
+        {t : ℕ} → Is vpd (upperFactor f (airDeficits (h .air) (aboveOf (h .temperature)))) → t ≡ temperaturePair f (aboveOf (h .temperature)) .upper →
         max (f .fmin * 10 ^ 7) (((t * vpd .num + (vpd .den - 1)) / vpd .den * sw .num + (sw .den - 1)) / sw .den) ≡ openingUp f h
     unfolding openingUp deficitUp
-    openingUp-is {t} e = rw (up-is t v, up-is _ w, e)
+    openingUp-is {t} v e = rw (up-is t v, up-is _ w, e)
 
 module _ (stand : Stand) (h : Hour) {phen : Fraction} {light opening : ℕ} where
   module _ (p : Is phen (phenologyIn stand h)) where

@@ -1,17 +1,14 @@
 -- Tenths of a degree above -50.0 °C as the machine computes them from a signed 16-bit number.
-use Prim.Native.Nat.{suc, _<_, _≤_}
+use Prim.Native.Nat.{suc, _<_}
 use mathlib.Core.Path.{_≡_, sym, ap, _∙_}
 use mathlib.Core.Bool.{true, false, true≢false}
 use native.Mathlib.Omega.{arith}
 use borrow.Author.Tests.{le-ltb, ltb-true, ltb-false}
-use lib.Dec.{ltb}
 use lib.IntN.{ℤ, pos, negsuc, _+ℤ_}
 use lib.Signed.{ltZ}
 use mir.Syntax.{w16}
 use mir.Val.{SFits, toZ, ofZ}
 use Rattle.flux_spec.specs.Conductance.{aboveOf}
-use Rattle.records.specs.Temperature.{temperatureOut}
-use Rattle.records.proofs.AnswerLaws.{or-neither}
 use Rattle.records.proofs.SignedLaws.{plain}
 
 low-at : (t : ℤ) → ltZ t (negsuc 499) ≡ true → 0 ≡ aboveOf t
@@ -40,9 +37,3 @@ module _ (t : ℤ) (f : SFits w16 t) where
 
     pub sum-is : toZ w16 (ofZ w16 (toZ w16 (ofZ w16 t) +ℤ pos 500)) ≡ pos (aboveOf t)
     sum-is = plain (toZ w16 (ofZ w16 t) +ℤ pos 500) sum-fits ∙ sum
-
--- up to 60.0 °C, in range
-pub above-highest : (t : ℤ) → temperatureOut t ≡ false → aboveOf t ≤ 1100
-unfolding temperatureOut
-above-highest (pos n) e = omega (arith, ltb-false 600 n (or-neither false (ltb 600 n) e .1))
-above-highest (negsuc n) e = omega arith

@@ -10,6 +10,7 @@ use exact::Bounds;
 use flux_spec::Stand;
 use frames::Hour;
 use tables::Factored;
+use trees::Deficits;
 use trees::Figures;
 ghost use mathlib.Core.Path.{_≡_};
 ghost use Prim.Native.Nat.{_+_, _-_, _≤_};
@@ -17,6 +18,7 @@ ghost use Rattle.trees.specs.Sound.{Sound};
 ghost use Rattle.trees.specs.Steps.{Tabled};
 ghost use Rattle.trees.specs.Temperature.{temperaturePair};
 ghost use Rattle.flux_spec.specs.Conductance.{aboveOf};
+ghost use Rattle.flux_spec.specs.Deficit.{airDeficits};
 ghost use Rattle.flux_spec.specs.Pair.{openingLow, openingUp, shareLow, shareUp, rootLow, quotient, hourPair};
 ghost use Rattle.records.specs.Answers.{accepted};
 ghost use Rattle.records.specs.Ranges.{checked};
@@ -36,19 +38,19 @@ fn temperature(f: Figures, t: u16) -> Bounds
 }
 
 // max(f_min, f_temp·f_VPD·f_SW), in units of 10⁻⁹.
-fn opening(f: Figures, t: Bounds, h: Hour) -> Bounds
+fn opening(f: Figures, t: Bounds, vpd: Deficits, h: Hour) -> Bounds
     requires sound { ⌜ Sound f ⌝ }
     requires temperature { ⌜ t ≡ temperaturePair f (aboveOf (h .temperature)) ⌝ }
+    requires deficits { ⌜ vpd ≡ airDeficits (h .air) (aboveOf (h .temperature)) ⌝ }
     ensures lower { λ r. ⌜ r .lower ≡ openingLow f h ⌝ }
     ensures upper { λ r. ⌜ r .upper ≡ openingUp f h ⌝ }
 {
-    let air = h.air;
-    let vpd = trees::factors::f_vpd(f, scale::vpd(air));
+    let dry = trees::factors::f_vpd(f, vpd);
     let soil = h.soil;
     let sw = trees::factors::f_sw(f, scale::soil_number(soil));
     Bounds {
-        lower: share::opening_low(f.fmin, t.lower, vpd, sw),
-        upper: share::opening_up(f.fmin, t.upper, vpd, sw),
+        lower: share::opening_low(f.fmin, t.lower, dry.lower, sw),
+        upper: share::opening_up(f.fmin, t.upper, dry.upper, sw),
     }
 }
 
@@ -96,15 +98,16 @@ fn pair(gmax: u16, leaf: u16, wind: u16, c: Bounds, s: Bounds) -> Bounds
 }
 
 // The pair of an hour that row 10 lets pass.
-pub(crate) fn dosed(stand: Stand, h: Hour) -> Bounds
+pub(crate) fn dosed(stand: Stand, h: Hour, vpd: Deficits) -> Bounds
     requires sound { ⌜ Sound (stand .figures) ⌝ }
     requires tabled { ⌜ Tabled (stand .figures) ⌝ }
     requires checked { ⌜ checked (Record.Hour h) ≡ accepted tt ⌝ }
+    requires deficits { ⌜ vpd ≡ airDeficits (h .air) (aboveOf (h .temperature)) ⌝ }
     ensures { λ r. ⌜ r ≡ hourPair stand h ⌝ }
 {
     let f = stand.figures;
     let t = scale::above(h.temperature);
-    let o = opening(f, temperature(f, t), h);
+    let o = opening(f, temperature(f, t), vpd, h);
     let s = shares(stand, o, h, t);
     let c = ozone::concentration(h, t);
     pair(f.gmax, f.leaf, h.wind, c, s)

@@ -8,6 +8,7 @@ mod ozone;
 mod rows;
 mod scale;
 mod share;
+mod vapour;
 
 use exact::Bounds;
 pub use flux_spec::Dosed;
@@ -50,5 +51,5 @@ pub fn hour_dose(tree: u8, first: u16, last: u16, h: Hour) -> Dosed
         first,
         last,
     };
-    Dosed::Pair(hour::dosed(stand, h))
+    Dosed::Pair(hour::dosed(stand, h, vapour::deficits(h)))
 }

@@ -3,7 +3,7 @@ use exact::Bounds;
 use frames::Air;
 use frames::Hour;
 ghost use mathlib.Core.Path.{_≡_};
-ghost use Prim.Native.Nat.{_<_};
+ghost use Prim.Native.Nat.{_*_, _<_};
 ghost use Rattle.exact.specs.Frac.{_over_};
 ghost use Rattle.exact.specs.Rounding.{roundUp, roundDown};
 ghost use Rattle.flux_spec.specs.Conductance.{aboveOf};
@@ -31,25 +31,32 @@ fn rounded(n: u64, d: u64) -> Bounds
     Bounds { lower, upper }
 }
 
+// That of tenths of ppb where no pressure is read.
+fn plain(ozone: u16) -> Bounds
+    ensures lower { λ r. ⌜ r .lower ≡ 74808 * ozone ⌝ }
+    ensures upper { λ r. ⌜ r .upper ≡ 74808 * ozone ⌝ }
+{
+    let c = TENTH * (ozone as u64);
+    Bounds { lower: c, upper: c }
+}
+
 // That of an hour, t tenths of a degree above -50.0 °C.
 pub(crate) fn concentration(h: Hour, t: u16) -> Bounds
     requires { ⌜ t ≡ aboveOf (h .temperature) ⌝ }
     ensures lower { λ r. ⌜ r .lower ≡ concentrationLow h ⌝ }
     ensures upper { λ r. ⌜ r .upper ≡ concentrationUp h ⌝ }
 {
-    let ozone = h.ozone as u64;
+    let ozone = h.ozone;
     let air = h.air;
     match air {
-        Air::Deficit(_) => Bounds {
-            lower: TENTH * ozone,
-            upper: TENTH * ozone,
-        },
+        Air::Deficit(_) => plain(ozone),
         Air::Pressure {
             deficit: _,
             pressure: p,
         } => rounded(
-            PRESSURE * ozone * (p as u64),
+            PRESSURE * (ozone as u64) * (p as u64),
             GAS * (2 * (t as u64) + COLDEST),
         ),
+        Air::Humidity(_) => plain(ozone),
     }
 }

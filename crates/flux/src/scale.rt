@@ -1,9 +1,7 @@
 // An hour's numbers on the scales that the factors take.
-use frames::Air;
 use frames::Soil;
 ghost use mathlib.Core.Path.{_≡_};
 ghost use Rattle.flux_spec.specs.Conductance.{aboveOf};
-ghost use Rattle.flux_spec.specs.Deficit.{vpdOf};
 ghost use Rattle.frames.specs.Layout.{soilNumber};
 
 // A temperature in tenths of a degree above -50.0 °C; 0 where it is lower.
@@ -17,19 +15,6 @@ pub(crate) fn above(t: i16) -> u16
         (t + 500) as u16
     } else {
         (t as u16) + 500
-    }
-}
-
-// Vapour pressure deficit in Pa.
-pub(crate) fn vpd(air: Air) -> u16
-    ensures { λ r. ⌜ r ≡ vpdOf air ⌝ }
-{
-    match air {
-        Air::Deficit(n) => n,
-        Air::Pressure {
-            deficit: n,
-            pressure: _,
-        } => n,
     }
 }
 

@@ -19,13 +19,14 @@ fn soil_of(measure: u8, n: u16) -> Soil {
 
 // What the hour says of the air, by its kind.
 fn air_of(row: &[u8]) -> Air {
-    let deficit = u16_at(row, 39);
+    let vapour = u16_at(row, 39);
     match u8_at(row, 15) {
         4 => Air::Pressure {
-            deficit,
+            deficit: vapour,
             pressure: u16_at(row, 51),
         },
-        _ => Air::Deficit(deficit),
+        5 => Air::Humidity(vapour),
+        _ => Air::Deficit(vapour),
     }
 }
 

@@ -2,7 +2,7 @@
 -- and are at most 1 apart.
 use Prim.Native.Nat.{ℕ, _+_, _*_, _≤_, _<_, max}
 use mathlib.Core.Path.{_≡_, ap}
-use native.Mathlib.Nat.{mul-le-mul, mul-le-mul-left, mul-le-mul-right}
+use mathlib.Core.Bool.{Bool, true, false}
 use native.Mathlib.Omega.{arith}
 use lib.Dec.{lit<}
 use lib.IntN.{ℤ}
@@ -10,14 +10,16 @@ use Rattle.exact.specs.Frac.{Frac, natural, _over_, _⊗_, _≼_, _≈_}
 use Rattle.exact.specs.Rounding.{roundUp, roundDown, timesUp, timesDown}
 use Rattle.exact.proofs.FracLaws.{≼-refl, ≼-trans, ⊗-mono, over-mono}
 use Rattle.exact.proofs.RoundingLaws.{roundDown-same, roundUp-same, timesDown-under, timesUp-over, times-order, times-next, timesUp-most, timesDown-mono, timesUp-mono}
+use Rattle.trees.specs.declared.Figures.{Figures}
 use Rattle.records.specs.declared.Air.{Air}
-use Rattle.records.specs.declared.Air.the-variants.{Deficit, Pressure}
+use Rattle.records.specs.declared.Air.the-variants.{Deficit, Pressure, Humidity}
 use Rattle.records.specs.declared.Hour.{Hour}
 use Rattle.frames.proofs.RangeLaws.{PressureIn, HourIn}
 use Rattle.flux_spec.specs.Conductance.{aboveOf}
 use Rattle.flux_spec.specs.Dose.{kelvin, perPpb, concentration, withOzone}
 use Rattle.flux_spec.specs.Pair.{concentrationLow, concentrationUp}
 use Rattle.flux_spec.specs.Facts.{OzoneFacts}
+use Rattle.flux_spec.proofs.BudgetLaws.{isSteep, topIn}
 
 -- ---- in whole numbers
 
@@ -29,14 +31,15 @@ module _ (h : Hour) where
   abbrev x : ℕ
   x = aboveOf (h .temperature)
 
-  module _ (vpd : ℕ) (e : h .air ≡ Deficit vpd) where
+  -- where a ppb is 41.56 nmol m⁻³
+  module _ (plain : perPpb (h .air) (h .temperature) ≡ 4156 over 100) where
     plain-down : concentrationLow h ≡ 74808 * h .ozone
     unfolding concentrationLow concentration timesDown roundDown
-    plain-down = rw e (omega arith)
+    plain-down = rw plain (omega arith)
 
     plain-up : concentrationUp h ≡ 74808 * h .ozone
     unfolding concentrationUp concentration timesUp roundUp
-    plain-up = rw e (omega arith)
+    plain-up = rw plain (omega arith)
 
   module _ (vpd p : ℕ) (e : h .air ≡ Pressure vpd p) where
     abbrev pressed : Frac
@@ -58,7 +61,11 @@ module _ (h : Hour) where
     pressed-up = roundUp-same pressed-is
 
 pub ozone-facts : (h : Hour) → OzoneFacts h
-ozone-facts h = record { plain = λ vpd e. (plain-down h vpd e, plain-up h vpd e); pressed = pressed-is h }
+ozone-facts h = record {
+  plain = λ vpd e. let is = ap (λ a. perPpb a (h .temperature)) e in (plain-down h is, plain-up h is);
+  humid = λ rh e. let is = ap (λ a. perPpb a (h .temperature)) e in (plain-down h is, plain-up h is);
+  pressed = pressed-is h;
+}
 
 -- ---- between its two numbers
 
@@ -84,6 +91,7 @@ module _ (h : Hour) where
 perPpb-le : (a : Air) (t : ℤ) → PressureIn a → perPpb a t ≼ 29644 over 500
 perPpb-le (Deficit vpd) t i = omega arith
 perPpb-le (Pressure vpd p) t i = record { cross = omega (arith, gas-is t, i .below) }
+perPpb-le (Humidity rh) t i = omega arith
 
 concentration-le : (h : Hour) → HourIn h → concentration h ≼ natural 29644
 unfolding concentration
@@ -93,6 +101,16 @@ concentration-le h range =
 pub concentrationUp-le : (h : Hour) → HourIn h → concentrationUp h ≤ 533592000
 unfolding concentrationUp
 concentrationUp-le h range = timesUp-most 18000 (concentration h) 29644 (concentration-le h range)
+
+topIn-ge : (steep : Bool) → 374040000 ≤ topIn steep
+topIn-ge true = omega arith
+topIn-ge false = omega arith
+
+pub concentrationUp-top : (f : Figures) (h : Hour) → HourIn h → (a : Air) → h .air ≡ a → concentrationUp h ≤ topIn (isSteep f a)
+concentrationUp-top f h range (Deficit vpd) e = concentrationUp-le h range
+concentrationUp-top f h range (Pressure vpd p) e = concentrationUp-le h range
+concentrationUp-top f h range (Humidity rh) e =
+    omega (arith, ozone-facts h .humid rh e .1, range .ozone, topIn-ge (isSteep f (Humidity rh)))
 
 -- ---- with a higher reading of ozone
 

@@ -15,7 +15,7 @@ use Rattle.records.specs.declared.Hour.{Hour}
 use Rattle.records.specs.declared.RawHour.{RawHour}
 use Rattle.records.specs.declared.Record.{Record}
 use Rattle.records.specs.Answers.{accepted, refused}
-use Rattle.records.specs.Ranges.{deficitOut, soilOut, periodOut, hourChecked, checked}
+use Rattle.records.specs.Ranges.{vapourOut, soilOut, periodOut, hourChecked, checked}
 use Rattle.records.specs.Temperature.{temperatureOut}
 use Rattle.records.proofs.AnswerLaws.{accepted-same, refused-not-accepted, or-neither, row-passed, onward-passed}
 use Rattle.frames.specs.Layout.{soilOf, hourOf}
@@ -65,8 +65,8 @@ unfit-out h e =
     let ppfd = row-passed (ltb 3000 (h .ppfd)) _ _ tt (ozone .1) in
     let radiation = row-passed (ltb 1500 (h .radiation)) _ _ tt (ppfd .1) in
     let temperature = row-passed (temperatureOut (h .temperature)) _ _ tt (radiation .1) in
-    let deficit = row-passed (deficitOut (h .air)) _ _ tt (temperature .1) in
-    let wind = row-passed (ltb 6000 (h .wind)) _ _ tt (deficit .1) in
+    let vapour = row-passed (vapourOut (h .air)) _ _ tt (temperature .1) in
+    let wind = row-passed (ltb 6000 (h .wind)) _ _ tt (vapour .1) in
     refused-not-accepted (wind .1)
 
 by-tests : (h : Hour) (out other : Bool) → hourChecked (out || other) h ≡ accepted tt → hourChecked out h ≡ accepted tt

@@ -4,6 +4,7 @@ pub mod FluxLaws
 pub mod QuotientSizes
 pub mod QuotientLaws
 pub mod PairLaws
+pub mod BudgetLaws
 pub mod DeficitLaws
 pub mod OpeningLaws
 pub mod ShareLaws

@@ -1,7 +1,8 @@
--- The hour's pair encloses its dose and is at most 2 apart, where the bounds of the share enclose the share and are at most 5 apart.
+-- The hour's pair encloses its dose and is at most as far apart as its gap says, where the bounds of the share enclose the share and are within its budget.
 -- It never falls with a higher reading of ozone.
 use Prim.Native.Nat.{ℕ, _+_, _^_, _≤_}
-use mathlib.Core.Path.{_≡_}
+use mathlib.Core.Path.{_≡_, refl}
+use mathlib.Core.Bool.{Bool}
 use native.Mathlib.Nat.{le-refl}
 use native.Mathlib.Omega.{arith}
 use Rattle.exact.specs.Frac.{natural, _over_, _≼_}
@@ -11,11 +12,11 @@ use Rattle.records.specs.declared.Hour.{Hour}
 use Rattle.frames.proofs.RangeLaws.{HourIn}
 use Rattle.flux_spec.specs.declared.Stand.{Stand}
 use Rattle.flux_spec.specs.BoundaryLayer.{windRead, rootUpAt}
-use Rattle.flux_spec.specs.Deficit.{deficitAt, deficitLow, deficitUp}
 use Rattle.flux_spec.specs.Conductance.{phenologyIn, openingAt, shareAt}
 use Rattle.flux_spec.specs.Dose.{fluxAt, doseAt, withOzone}
 use Rattle.flux_spec.specs.Pair.{concentrationLow, concentrationUp, openingLow, openingUp, shareLow, shareUp, rootLow, quotient, lowerOf, upperOf}
 use Rattle.flux_spec.specs.Enclosure.{mostDose, gapDose, OzoneGrows}
+use Rattle.flux_spec.proofs.BudgetLaws.{isSteep, nearIn, stepIn, gapDose-is}
 use Rattle.flux_spec.proofs.BoundaryLaws.{rootUpAt-anti, rootLow-le, rootUpAt-le}
 use Rattle.flux_spec.proofs.ConcentrationLaws.{
   concentration-low,
@@ -23,6 +24,7 @@ use Rattle.flux_spec.proofs.ConcentrationLaws.{
   concentration-order,
   concentration-gap,
   concentrationUp-le,
+  concentrationUp-top,
   concentration-mono,
   concentrationLow-mono,
   concentrationUp-mono,
@@ -65,42 +67,45 @@ module _ (stand : Stand) (h : Hour) where
     upperOf-le =
         omega (arith, quotient-small (f .gmax) (concentrationUp h) (shareUp stand h) (rootLow (f .leaf) (h .wind)) 0 (concentrationUp-le h range) share-le)
 
-    module _ (order : shareLow stand h ≤ shareUp stand h) (near : shareUp stand h ≤ shareLow stand h + 5) where
+    abbrev steep : Bool
+    steep = isSteep f (h .air)
+
+    module _ (order : shareLow stand h ≤ shareUp stand h) (near : shareUp stand h ≤ shareLow stand h + nearIn steep) where
       quotients-near :
           quotient (f .gmax) (concentrationUp h) (shareUp stand h) (rootLow (f .leaf) (h .wind)) 0
-          ≤ quotient (f .gmax) (concentrationLow h) (shareLow stand h) (rootLow (f .leaf) (h .wind) + 1) 1 + 1
+          ≤ quotient (f .gmax) (concentrationLow h) (shareLow stand h) (rootLow (f .leaf) (h .wind) + 1) 1 + stepIn steep
       quotients-near =
-          quotient-near (f .gmax) (concentrationUp h) (shareUp stand h) (rootLow (f .leaf) (h .wind)) gmax-le (concentrationUp-le h range) share-le
+          quotient-near steep (f .gmax) (concentrationUp h) (shareUp stand h) (rootLow (f .leaf) (h .wind)) gmax-le (concentrationUp-top f h range (h .air) refl) share-le
           (concentrationLow h) (shareLow stand h) (rootLow (f .leaf) (h .wind) + 1) (concentration-gap h) (concentration-order h) order near (le-refl _)
 
-      pub upperOf-gap : upperOf stand h ≤ lowerOf stand h + gapDose
+      pub upperOf-gap : upperOf stand h ≤ lowerOf stand h + gapDose f (h .air)
       unfolding lowerOf upperOf
-      upperOf-gap = omega (arith, quotients-near)
+      upperOf-gap = rw (gapDose-is f (h .air)) (omega (arith, quotients-near))
 
-      -- 3600·F is at most m at some k, so the lower quotient is, and the upper one is at most 1 more
+      -- 3600·F is at most m at some k, so the lower quotient is, and the upper one not much more
       pub pair-none :
-          (m k : ℕ) → m ≤ 3598 → 7 ≤ k → shareLow stand h over 10 ^ 7 ≼ shareAt k stand h → fluxAt k stand h ≼ m over 3600 →
+          (m k : ℕ) → m + gapDose f (h .air) ≤ 3600 → 7 ≤ k → shareLow stand h over 10 ^ 7 ≼ shareAt k stand h → fluxAt k stand h ≼ m over 3600 →
           (lowerOf stand h ≡ 0) × (upperOf stand h ≡ 0)
       unfolding lowerOf upperOf
       pair-none m k few-enough from7 share few =
           let low =
           quotient-few (f .gmax) (concentrationLow h) (shareLow stand h) (rootLow (f .leaf) (h .wind) + 1) _ _ _ (concentration-low h) share (root-under k from7) m
           (rw (fluxAt-is k stand h) at few) in
-          (omega arith, omega (arith, quotients-near))
+          (omega (arith, gapDose-is f (h .air)), omega (arith, quotients-near, gapDose-is f (h .air)))
 
 -- ---- with a higher reading of ozone
 
 module _ (stand : Stand) (h : Hour) {m n : ℕ} (more : m ≤ n) where
   lowerOf-mono : lowerOf stand (withOzone m h) ≤ lowerOf stand (withOzone n h)
-  unfolding lowerOf shareLow openingLow deficitLow phenologyIn
+  unfolding lowerOf shareLow openingLow phenologyIn
   lowerOf-mono = omega (arith, quotient-mono (stand .figures .gmax) (shareLow stand h) (rootLow (stand .figures .leaf) (h .wind) + 1) 1 (concentrationLow-mono h more))
 
   upperOf-mono : upperOf stand (withOzone m h) ≤ upperOf stand (withOzone n h)
-  unfolding upperOf shareUp openingUp deficitUp phenologyIn
+  unfolding upperOf shareUp openingUp phenologyIn
   upperOf-mono = omega (arith, quotient-mono (stand .figures .gmax) (shareUp stand h) (rootLow (stand .figures .leaf) (h .wind)) 0 (concentrationUp-mono h more))
 
   doseAt-more : (k : ℕ) → doseAt k stand (withOzone m h) ≼ doseAt k stand (withOzone n h)
-  unfolding shareAt openingAt deficitAt phenologyIn
+  unfolding shareAt openingAt phenologyIn
   doseAt-more k =
       rw (doseAt-is k stand (withOzone m h), doseAt-is k stand (withOzone n h))
       (dose-mono (stand .figures .gmax) (concentration-mono h more) (≼-refl _) (≼-refl _))

@@ -1,7 +1,8 @@
 -- f_phen × f_light × max(..), for any sound figures, period and hour: at most 1, never falling as k grows, and enclosed by its pair,
--- which is at most 2 apart. What a law needs of f_light it takes as a premise.
+-- which is at most 5 apart, and 51 where f_VPD out of humidity is steep. What a law needs of f_light it takes as a premise.
 use Prim.Native.Nat.{ℕ, _+_, _*_, _^_, _≤_}
 use mathlib.Core.Path.{_≡_, ap}
+use mathlib.Core.Bool.{Bool, true, false}
 use native.Mathlib.Nat.{mul-le-mul}
 use native.Mathlib.Omega.{arith}
 use lib.Dec.{lit≤}
@@ -13,20 +14,24 @@ use Rattle.trees.specs.declared.Figures.{Figures}
 use Rattle.trees.specs.Sound.{Sound}
 use Rattle.trees.proofs.FactorLaws.{phenology-limits}
 use Rattle.records.specs.declared.Hour.{Hour}
+use Rattle.humidity_spec.specs.Pair.{entryK}
 use Rattle.flux_spec.specs.declared.Stand.{Stand}
 use Rattle.flux_spec.specs.Light.{lightAt, lightLow, lightUp}
+use Rattle.flux_spec.specs.Deficit.{HasVpd}
 use Rattle.flux_spec.specs.Conductance.{aboveOf, phenologyIn, openingAt, shareAt}
 use Rattle.flux_spec.specs.Pair.{openingLow, openingUp, shareLow, shareUp}
 use Rattle.flux_spec.specs.Facts.{ShareFacts, HourFacts}
+use Rattle.flux_spec.proofs.BudgetLaws.{isSteep, widthIn, nearIn}
 use Rattle.flux_spec.proofs.ConcentrationLaws.{ozone-facts}
 use Rattle.flux_spec.proofs.LightLaws.{light-facts}
 use Rattle.flux_spec.proofs.OpeningLaws.{openingAt-le, openingAt-mono, opening-low, opening-high, opening-gap, opening-order, openingLow-le, openingUp-le}
 
--- two numbers of 10⁻⁹, the greater ones at most 8 and 3 above
+-- two numbers of 10⁻⁹, the greater ones at most 8 and so much above
 pair-gap :
-    (a b a′ b′ : ℕ) → a ≤ 10 ^ 9 → b ≤ 10 ^ 9 → a′ ≤ a + 8 → b′ ≤ b + 3 →
-    roundUp ((a′ * b′) over 10 ^ 11) ≤ roundDown ((a * b) over 10 ^ 11) + 2
-pair-gap a b a′ b′ p q r t = over-gap (a * b) (a′ * b′) (10 ^ 11) 1 (omega (arith, mul-le-mul r t))
+    (steep : Bool) (a b a′ b′ : ℕ) → a ≤ 10 ^ 9 → b ≤ 10 ^ 9 → a′ ≤ a + 8 → b′ ≤ b + (3 + widthIn steep) →
+    roundUp ((a′ * b′) over 10 ^ 11) ≤ roundDown ((a * b) over 10 ^ 11) + nearIn steep
+pair-gap true a b a′ b′ p q r t = over-gap (a * b) (a′ * b′) (10 ^ 11) 50 (omega (arith, mul-le-mul r t))
+pair-gap false a b a′ b′ p q r t = over-gap (a * b) (a′ * b′) (10 ^ 11) 4 (omega (arith, mul-le-mul r t))
 
 pair-le : (a b : ℕ) → a ≤ 10 ^ 9 → b ≤ 10 ^ 9 + 1 → roundUp ((a * b) over 10 ^ 11) ≤ 10 ^ 7 + 1
 unfolding roundUp
@@ -63,47 +68,48 @@ module _ (stand : Stand) (s : Sound (stand .figures)) (h : Hour) where
   unfolding shareAt
   shareAt-le k light-le = ⊗-le-one (⊗-le-one phen-le light-le) (openingAt-le f s h k)
 
-  module _ (light-mono : (k l : ℕ) → k ≤ l → lightAt k f (h .ppfd) ≼ lightAt l f (h .ppfd)) where
+  module _ (has : HasVpd (h .air) (aboveOf (h .temperature))) (light-mono : (k l : ℕ) → k ≤ l → lightAt k f (h .ppfd) ≼ lightAt l f (h .ppfd)) where
     pub shareAt-mono : (k l : ℕ) → k ≤ l → shareAt k stand h ≼ shareAt l stand h
     unfolding shareAt
-    shareAt-mono k l j = ⊗-mono (⊗-mono (≼-refl phen) (light-mono k l j)) (openingAt-mono f s h j)
+    shareAt-mono k l j = ⊗-mono (⊗-mono (≼-refl phen) (light-mono k l j)) (openingAt-mono f s h has j)
 
     -- ---- the pair encloses it
 
     pub share-low :
         (k₀ : ℕ) → lightLow f (h .ppfd) over 10 ^ 9 ≼ lightAt k₀ f (h .ppfd) →
-        (k : ℕ) → 9 ≤ k → k₀ ≤ k → shareLow stand h over 10 ^ 7 ≼ shareAt k stand h
+        (k : ℕ) → 9 ≤ k → entryK ≤ k → k₀ ≤ k → shareLow stand h over 10 ^ 7 ≼ shareAt k stand h
     unfolding shareAt shareLow
-    share-low k₀ light-low k i j =
+    share-low k₀ light-low k i e j =
         ≼-trans (product-down low (openingLow f h) (10 ^ 9) (10 ^ 9) (10 ^ 7) (10 ^ 11) (omega arith))
         (⊗-mono
         (≼-trans (times-down (lightLow f (h .ppfd)) (10 ^ 9) phen (≼-trans light-low (light-mono k₀ k j)) (≼-refl phen)) (⊗-comm (lightAt k f (h .ppfd)) phen))
-        (≼-trans (opening-low f s h) (openingAt-mono f s h i)))
+        (opening-low f s h has k i e))
 
   pub share-high :
-      ((k : ℕ) → lightAt k f (h .ppfd) ≼ lightUp f (h .ppfd) over 10 ^ 9) →
+      HasVpd (h .air) (aboveOf (h .temperature)) → ((k : ℕ) → lightAt k f (h .ppfd) ≼ lightUp f (h .ppfd) over 10 ^ 9) →
       (k : ℕ) → shareAt k stand h ≼ shareUp stand h over 10 ^ 7
   unfolding shareAt shareUp
-  share-high light-high k =
+  share-high has light-high k =
       ≼-trans
-      (⊗-mono (≼-trans (⊗-comm phen (lightAt k f (h .ppfd))) (times-up (lightUp f (h .ppfd)) (10 ^ 9) phen (light-high k) (≼-refl phen))) (opening-high f s h k))
+      (⊗-mono (≼-trans (⊗-comm phen (lightAt k f (h .ppfd))) (times-up (lightUp f (h .ppfd)) (10 ^ 9) phen (light-high k) (≼-refl phen))) (opening-high f s h has k))
       (product-up up (openingUp f h) (10 ^ 9) (10 ^ 9) (10 ^ 7) (10 ^ 11) (omega arith))
 
   -- ---- the pair
 
-  pub share-order : lightLow f (h .ppfd) ≤ lightUp f (h .ppfd) → shareLow stand h ≤ shareUp stand h
+  pub share-order :
+      HasVpd (h .air) (aboveOf (h .temperature)) → lightLow f (h .ppfd) ≤ lightUp f (h .ppfd) → shareLow stand h ≤ shareUp stand h
   unfolding shareLow shareUp
-  share-order light-order =
+  share-order has light-order =
       over-order (low * openingLow f h) (up * openingUp f h) (10 ^ 11)
-      (mul-le-mul (times-order (lightLow f (h .ppfd)) (lightUp f (h .ppfd)) phen light-order) (opening-order f s h))
+      (mul-le-mul (times-order (lightLow f (h .ppfd)) (lightUp f (h .ppfd)) phen light-order) (opening-order f s h has))
 
   module _ (light-top : lightUp f (h .ppfd) ≤ 10 ^ 9) where
     pub share-gap :
         lightUp f (h .ppfd) ≤ lightLow f (h .ppfd) + 7 → lightLow f (h .ppfd) ≤ lightUp f (h .ppfd) →
-        shareUp stand h ≤ shareLow stand h + 2
+        shareUp stand h ≤ shareLow stand h + nearIn (isSteep f (h .air))
     unfolding shareLow shareUp
     share-gap light-gap light-order =
-        pair-gap low (openingLow f h) up (openingUp f h) (omega (arith, timesDown-le (lightLow f (h .ppfd)) phen-le)) (openingLow-le f s h)
+        pair-gap (isSteep f (h .air)) low (openingLow f h) up (openingUp f h) (omega (arith, timesDown-le (lightLow f (h .ppfd)) phen-le)) (openingLow-le f s h)
         (times-gap (lightLow f (h .ppfd)) (lightUp f (h .ppfd)) phen 7 phen-le light-gap) (opening-gap f s h)
 
     pub shareUp-le : shareUp stand h ≤ 10 ^ 7 + 1
@@ -118,7 +124,7 @@ share-facts stand s h =
     record {
       limits = λ k. record { above = omega arith; below = shareAt-le stand s h k (light .limits k (h .ppfd) .below) };
       dark = λ e k. ≼-antisym (share-dark stand s h k (rw e (≈-le (light .dark k)))) (omega arith);
-      grows = shareAt-mono stand s h (λ k l j. light .grows k l (h .ppfd) j);
+      grows = λ has. shareAt-mono stand s h has (λ k l j. light .grows k l (h .ppfd) j);
     }
 
 pub hour-facts : HourFacts

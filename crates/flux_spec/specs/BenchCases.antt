@@ -33,7 +33,7 @@ phenologyCases =
 
 abbrev pub readingCases : List (Frac × Frac)
 readingCases =
-    (deficitOf beech 2050, 565 over 1000)
+    (deficitOf beech (natural 2050), 565 over 1000)
     ∷ (soilWaterOf beech 650, 565 over 1000)
     ∷ (soilWaterOf borealSpruce 80, 55 over 100)
     ∷ []

@@ -21,7 +21,7 @@ aboveOf (negsuc n) = 499 - n
 unfoldable pub openingAt : ℕ → Figures → Hour → Frac
 openingAt k f h =
     greater (f .fmin over 100)
-    (temperatureAt k f (aboveOf (h .temperature)) ⊗ deficitAt k f h ⊗ soilWaterOf f (soilNumber (h .soil)))
+    (temperatureAt k f (aboveOf (h .temperature)) ⊗ deficitAt k f (h .air) (aboveOf (h .temperature)) ⊗ soilWaterOf f (soilNumber (h .soil)))
 
 -- f_phen, the same at every k
 unfoldable pub phenologyIn : Stand → Hour → Frac

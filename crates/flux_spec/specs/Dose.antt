@@ -5,7 +5,7 @@ use lib.Dec.{ltb}
 use lib.IntN.{ℤ}
 use Rattle.exact.specs.Frac.{Frac, natural, _over_, _⊕_, _⊖_, _⊗_, _⊘_, _≼_}
 use Rattle.records.specs.declared.Air.{Air}
-use Rattle.records.specs.declared.Air.the-variants.{Deficit, Pressure}
+use Rattle.records.specs.declared.Air.the-variants.{Deficit, Pressure, Humidity}
 use Rattle.records.specs.declared.Hour.{Hour}
 use Rattle.flux_spec.specs.declared.Stand.{Stand}
 use Rattle.flux_spec.specs.BoundaryLayer.{resistanceAt}
@@ -19,6 +19,7 @@ kelvin t = aboveOf t over 10 ⊕ (27315 over 100 ⊖ natural 50)
 abbrev pub perPpb : Air → ℤ → Frac
 perPpb (Deficit vpd) t = 4156 over 100
 perPpb (Pressure vpd p) t = natural (10 * p) ⊘ (831447 over 100000 ⊗ kelvin t)
+perPpb (Humidity rh) t = 4156 over 100
 
 -- ozone in nmol m⁻³: ppb × that, for tenths of ppb
 unfoldable pub concentration : Hour → Frac

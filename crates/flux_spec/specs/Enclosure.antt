@@ -1,12 +1,16 @@
 -- What the hour's pair is worth (document 01, "The exact dose"), for any sound figures and any hour that row 10 lets pass.
-use Prim.Native.Nat.{ℕ, _+_, _*_, _≤_}
+use Prim.Native.Nat.{ℕ, _+_, _-_, _*_, _≤_}
 use mathlib.Core.Path.{_≡_}
+use mathlib.Core.Bool.{cond}
+use lib.Dec.{ltb}
 use Rattle.exact.specs.declared.Bounds.{Bounds}
 use Rattle.exact.specs.Frac.{_over_, _≼_}
 use Rattle.trees.specs.declared.Figures.{Figures}
 use Rattle.trees.specs.declared.Choice.{Choice}
 use Rattle.trees.specs.Figures.{figuresOf}
 use Rattle.trees.specs.Sound.{Sound}
+use Rattle.records.specs.declared.Air.{Air}
+use Rattle.records.specs.declared.Air.the-variants.{Deficit, Pressure, Humidity}
 use Rattle.records.specs.declared.Hour.{Hour}
 use Rattle.records.specs.declared.Record.{Record}
 use Rattle.records.specs.Answers.{accepted}
@@ -20,19 +24,26 @@ use Rattle.flux_spec.specs.HourDose.{standOf, addedPair, hourDoseOf}
 abbrev pub mostDose : ℕ → ℕ
 mostDose gmax = 3000 * gmax
 
--- nmol m⁻² between an hour's two numbers at most
-abbrev pub gapDose : ℕ
-gapDose = 2
+-- nmol m⁻² between an hour's two numbers at most, whatever its kind: out of humidity VPD is known to 5·10⁻⁶ Pa, which shows in the dose where f_VPD
+-- falls from 1 to f_min within less than 13 Pa
+abbrev pub gapMost : Figures → ℕ
+gapMost f = cond (ltb (f .vpdmin - f .vpdmax) 13) 6 2
+
+-- by its kind
+abbrev pub gapDose : Figures → Air → ℕ
+gapDose f (Deficit vpd) = 2
+gapDose f (Pressure vpd p) = 2
+gapDose f (Humidity rh) = gapMost f
 
 pub record HourEnclosed (stand : Stand) (h : Hour) : Type 0 where
   pub low : NotAbove (lowerOf stand h) (λ k. doseAt k stand h)
   pub high : NotBelow (upperOf stand h) (λ k. doseAt k stand h)
   pub order : lowerOf stand h ≤ upperOf stand h
-  pub gap : upperOf stand h ≤ lowerOf stand h + gapDose
+  pub gap : upperOf stand h ≤ lowerOf stand h + gapDose (stand .figures) (h .air)
   pub most : upperOf stand h ≤ mostDose (stand .figures .gmax)
   pub grows : (k l : ℕ) → k ≤ l → doseAt k stand h ≼ doseAt l stand h
   -- (0, 0) where F is surely not above 1
-  pub none : ((k : ℕ) → fluxAt k stand h ≼ 3598 over 3600) → (lowerOf stand h ≡ 0) × (upperOf stand h ≡ 0)
+  pub none : ((k : ℕ) → fluxAt k stand h ≼ (3600 - gapDose (stand .figures) (h .air)) over 3600) → (lowerOf stand h ≡ 0) × (upperOf stand h ≡ 0)
 
 -- with a higher reading of ozone nothing falls
 pub record OzoneGrows (stand : Stand) (h : Hour) : Type 0 where
@@ -40,10 +51,11 @@ pub record OzoneGrows (stand : Stand) (h : Hour) : Type 0 where
   pub upper : (m n : ℕ) → m ≤ n → upperOf stand (withOzone m h) ≤ upperOf stand (withOzone n h)
   pub dose : (m n : ℕ) → m ≤ n → (k : ℕ) → doseAt k stand (withOzone m h) ≼ doseAt k stand (withOzone n h)
 
--- the six trees: sound, and within their limits
+-- the six trees: sound, and within their limits; an hour's two numbers are at most 2 apart in every kind
 pub record Limited (f : Figures) : Type 0 where
   pub sound : Sound f
   pub gmax : f .gmax ≤ 265
+  pub gap : gapMost f ≡ 2
 
 -- what `hour_dose` answers with a pair: the hour's where it is counted, else 0 and 0
 pub record Answered (tree first last : ℕ) (h : Hour) (pair : Bounds) : Type 0 where

@@ -5,10 +5,11 @@ use lib.IntN.{pos}
 use Rattle.exact.specs.Frac.{natural, _over_, _⊗_, _≼_, _≈_, Between}
 use Rattle.trees.specs.declared.Figures.{Figures}
 use Rattle.trees.specs.Sound.{Sound}
-use Rattle.records.specs.declared.Air.the-variants.{Deficit, Pressure}
+use Rattle.records.specs.declared.Air.the-variants.{Deficit, Pressure, Humidity}
 use Rattle.records.specs.declared.Hour.{Hour}
 use Rattle.flux_spec.specs.declared.Stand.{Stand}
 use Rattle.flux_spec.specs.Light.{lightAt}
+use Rattle.flux_spec.specs.Deficit.{HasVpd}
 use Rattle.flux_spec.specs.Conductance.{aboveOf, shareAt}
 use Rattle.flux_spec.specs.Dose.{perPpb, concentration}
 use Rattle.flux_spec.specs.Pair.{concentrationLow, concentrationUp}
@@ -17,6 +18,8 @@ use Rattle.flux_spec.specs.Pair.{concentrationLow, concentrationUp}
 pub record OzoneFacts (h : Hour) : Type 0 where
   -- without a pressure, kind 02: exact, 74808 = 18000·4.156
   pub plain : (vpd : ℕ) → h .air ≡ Deficit vpd → (concentrationLow h ≡ 74808 * h .ozone) × (concentrationUp h ≡ 74808 * h .ozone)
+  -- kind 05 too
+  pub humid : (rh : ℕ) → h .air ≡ Humidity rh → (concentrationLow h ≡ 74808 * h .ozone) × (concentrationUp h ≡ 74808 * h .ozone)
   -- with a pressure, kind 04: in whole numbers, for tenths of a degree above -50.0 °C; 92383 = 831447/9
   pub pressed : (vpd p : ℕ) → h .air ≡ Pressure vpd p →
       natural 18000 ⊗ concentration h ≈ (4000000000 * h .ozone * p) over (92383 * (2 * aboveOf (h .temperature) + 4463))
@@ -37,7 +40,7 @@ pub record ShareFacts (stand : Stand) (h : Hour) : Type 0 where
   -- f_light stands outside the floor f_min: in the dark nothing is left
   pub dark : h .ppfd ≡ 0 → (k : ℕ) → shareAt k stand h ≈ natural 0
   -- it never falls as k grows
-  pub grows : (k l : ℕ) → k ≤ l → shareAt k stand h ≼ shareAt l stand h
+  pub grows : HasVpd (h .air) (aboveOf (h .temperature)) → (k l : ℕ) → k ≤ l → shareAt k stand h ≼ shareAt l stand h
 
 pub record HourFacts : Type 0 where
   pub ozone : (h : Hour) → OzoneFacts h

@@ -28,12 +28,12 @@ concentrationUp h = timesUp 18000 (concentration h)
 unfoldable pub openingLow : Figures → Hour → ℕ
 openingLow f h =
     max (f .fmin * 10 ^ 7)
-    (timesDown (timesDown (temperaturePair f (aboveOf (h .temperature)) .lower) (deficitLow f h)) (soilWaterOf f (soilNumber (h .soil))))
+    (timesDown (timesDown (temperaturePair f (aboveOf (h .temperature)) .lower) (deficitLow f (h .air) (aboveOf (h .temperature)))) (soilWaterOf f (soilNumber (h .soil))))
 
 unfoldable pub openingUp : Figures → Hour → ℕ
 openingUp f h =
     max (f .fmin * 10 ^ 7)
-    (timesUp (timesUp (temperaturePair f (aboveOf (h .temperature)) .upper) (deficitUp f h)) (soilWaterOf f (soilNumber (h .soil))))
+    (timesUp (timesUp (temperaturePair f (aboveOf (h .temperature)) .upper) (deficitUp f (h .air) (aboveOf (h .temperature)))) (soilWaterOf f (soilNumber (h .soil))))
 
 -- f_phen × f_light × that, in units of 10⁻⁷
 unfoldable pub shareLow : Stand → Hour → ℕ

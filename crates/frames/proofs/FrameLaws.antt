@@ -2,7 +2,6 @@
 use Prim.Native.Nat.{ℕ, _≤_}
 use mathlib.Core.Path.{_≡_, sym, ap, _∙_}
 use mathlib.Core.Bool.{true, false}
-use mathlib.Core.Logic.{⊎-elim}
 use mathlib.Core.List.{List}
 use native.Mathlib.Nat.{le-of-eq}
 use native.Mathlib.Omega.{arith}
@@ -19,7 +18,7 @@ use Rattle.frames.specs.Digits.{allDigits, byteAt}
 use Rattle.frames.specs.Kinds.{one, kinds, sizeOf, isLength, lengthOf}
 use Rattle.frames.specs.Fields.{fieldsAt}
 use Rattle.frames.specs.Layout.{airOf, rawHourOf, frameOf, frameAt, soilOf, hourOf}
-use Rattle.frames.specs.Steps.{IsHour, Sized}
+use Rattle.frames.specs.Steps.{IsHour, withDeficit, withPressure, withHumidity, Sized}
 use Rattle.frames.specs.Frames.{parsedOf, soundOf, recordOf}
 use Rattle.frames.proofs.KindLaws.{length-ge, kind-within}
 use Rattle.records.specs.declared.Air.{Air}
@@ -56,14 +55,20 @@ pub frame-is : (l : List ℕ) {kind : ℕ} → byteAt 0 l ≡ kind → frameAt l
 unfolding frameAt
 frame-is l e = rw e
 
-module _ (l : List ℕ) {kind : ℕ} (hour : IsHour kind) where
-  -- its numbers are those of kind 02 and, past them, its own
-  pub hour-same : (air : Air) → rawHourOf air (fieldsAt 2 l) ≡ rawHourOf air (fieldsAt kind l)
-  hour-same air = ⊎-elim (λ (e : kind ≡ 2). rw e) (λ (e : kind ≡ 4). rw e) hour
+-- an hour's numbers are those of kind 02 and, past them, its own
+pub hour-same : (l : List ℕ) {kind : ℕ} → IsHour kind → (air : Air) → rawHourOf air (fieldsAt 2 l) ≡ rawHourOf air (fieldsAt kind l)
+hour-same l (withDeficit e) air = rw e
+hour-same l (withPressure e) air = rw e
+hour-same l (withHumidity e) air = rw e
 
-  pub hour-framed : byteAt 0 l ≡ kind → frameAt l ≡ Raw.Hour (rawHourOf (airOf kind (fieldsAt kind l)) (fieldsAt kind l))
-  unfolding frameOf
-  hour-framed k = frame-is l k ∙ ⊎-elim (λ (e : kind ≡ 2). rw e) (λ (e : kind ≡ 4). rw e) hour
+hour-of-kind : (ns : List ℕ) {kind : ℕ} → IsHour kind → frameOf kind ns ≡ Raw.Hour (rawHourOf (airOf kind ns) ns)
+unfolding frameOf
+hour-of-kind ns (withDeficit e) = rw e
+hour-of-kind ns (withPressure e) = rw e
+hour-of-kind ns (withHumidity e) = rw e
+
+pub hour-framed : (l : List ℕ) {kind : ℕ} → IsHour kind → byteAt 0 l ≡ kind → frameAt l ≡ Raw.Hour (rawHourOf (airOf kind (fieldsAt kind l)) (fieldsAt kind l))
+hour-framed l {kind} is k = frame-is l k ∙ hour-of-kind (fieldsAt kind l) is
 
 module _ (l : List ℕ) (sized : Sized l) where
   -- its kind's byte is in it

@@ -2,7 +2,7 @@
 use Prim.Native.Nat.{ℕ, zero, suc, _+_, max, _≤_, _<_}
 use mathlib.Core.Path.{_≡_, refl, sym, subst}
 use mathlib.Core.Bool.{Bool, true, false, false≢true, _&&_, _||_}
-use mathlib.Core.Logic.{inl, inr, ⊎-elim}
+use mathlib.Core.Logic.{⊎-elim}
 use mathlib.Core.List.{List, [], _∷_, map, foldr}
 use native.Mathlib.Numerals.{add-one}
 use native.Mathlib.Omega.{arith}
@@ -11,7 +11,7 @@ use lib.Dec.{eqb}
 use lib.ListN.{length, getD, drop, List·getD-eq-default}
 use lib.Seq.{drop-cons}
 use Rattle.frames.specs.Kinds.{Width, one, kinds, widthsOf, sizeOf, digitsIn, lengths, longest, among, isLength, lengthOf}
-use Rattle.frames.specs.Steps.{IsHour}
+use Rattle.frames.specs.Steps.{IsHour, withDeficit, withPressure, withHumidity}
 use Rattle.exact.proofs.OrderLaws.{le-or-lt}
 use Rattle.records.proofs.AnswerLaws.{and-both, or-either}
 
@@ -101,25 +101,31 @@ length-is (suc b) h = length-at kinds b (omega arith)
 -- the kinds, by their numbers
 pub data KindCase (b : ℕ) : Type 0 where
   header : b ≡ 1 → KindCase b
-  hour : b ≡ 2 → KindCase b
+  hour : IsHour b → KindCase b
   end : b ≡ 3 → KindCase b
-  withPressure : b ≡ 4 → KindCase b
 
 pub kind-cases : (b : ℕ) → (1 ≤ b) × (b ≤ length kinds) → KindCase b
 kind-cases zero h = absurd (omega arith)
 kind-cases (suc zero) h = header refl
-kind-cases (suc (suc zero)) h = hour refl
+kind-cases (suc (suc zero)) h = hour (withDeficit refl)
 kind-cases (suc (suc (suc zero))) h = end refl
-kind-cases (suc (suc (suc (suc zero)))) h = withPressure refl
-kind-cases (suc (suc (suc (suc (suc b))))) h = absurd (omega arith)
+kind-cases (suc (suc (suc (suc zero)))) h = hour (withPressure refl)
+kind-cases (suc (suc (suc (suc (suc zero))))) h = hour (withHumidity refl)
+kind-cases (suc (suc (suc (suc (suc (suc b)))))) h = absurd (omega arith)
 
 pub hour-left : (b : ℕ) → KindCase b → (b ≡ 1 → ⊥) → (b ≡ 3 → ⊥) → IsHour b
 hour-left b (header e) p q = absurd (p e)
-hour-left b (hour e) p q = inl e
+hour-left b (hour is) p q = is
 hour-left b (end e) p q = absurd (q e)
-hour-left b (withPressure e) p q = inr e
+
+pub deficit-left : (b : ℕ) → IsHour b → (b ≡ 4 → ⊥) → (b ≡ 5 → ⊥) → b ≡ 2
+deficit-left b (withDeficit e) p q = e
+deficit-left b (withPressure e) p q = absurd (p e)
+deficit-left b (withHumidity e) p q = absurd (q e)
 
 -- a line of any kind of hour has the places of kind 02's fields
 pub hour-ge : (b n : ℕ) → IsHour b → lengthOf b ≤ n → lengthOf 2 ≤ n
 unfolding lengthOf
-hour-ge b n is h = ⊎-elim (λ e. omega (arith, rw e at h)) (λ e. omega (arith, rw e at h)) is
+hour-ge b n (withDeficit e) h = omega (arith, rw e at h)
+hour-ge b n (withPressure e) h = omega (arith, rw e at h)
+hour-ge b n (withHumidity e) h = omega (arith, rw e at h)

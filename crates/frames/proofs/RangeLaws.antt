@@ -13,11 +13,11 @@ use Rattle.trees.specs.Figures.{figuresOf}
 use Rattle.records.specs.Answers.{accepted}
 use Rattle.records.specs.Temperature.{temperatureOut}
 use Rattle.frames.specs.Layout.{vapourNumber, soilNumber}
-use Rattle.records.specs.Ranges.{isOutside, deficitOut, soilOut, pressureOut, periodOut, checked}
+use Rattle.records.specs.Ranges.{isOutside, vapourOut, soilOut, pressureOut, periodOut, checked}
 use Rattle.records.specs.Period.{periodHours}
 use Rattle.records.specs.declared.Header.{Header}
 use Rattle.records.specs.declared.Air.{Air}
-use Rattle.records.specs.declared.Air.the-variants.{Deficit, Pressure}
+use Rattle.records.specs.declared.Air.the-variants.{Deficit, Pressure, Humidity}
 use Rattle.records.specs.declared.Soil.{Soil}
 use Rattle.records.specs.declared.Soil.the-variants.{Suction, Water}
 use Rattle.records.specs.declared.Hour.{Hour}
@@ -44,6 +44,7 @@ pub record HeaderIn (h : Header) : Type 0 where
 abbrev pub PressureIn : Air → Type 0
 PressureIn (Deficit n) = Unit
 PressureIn (Pressure n p) = Inside 5000 11000 p
+PressureIn (Humidity n) = Unit
 
 pub record HourIn (h : Hour) : Type 0 where
   pub ozone : h .ozone ≤ 5000
@@ -51,6 +52,7 @@ pub record HourIn (h : Hour) : Type 0 where
   pub radiation : h .radiation ≤ 1500
   pub temperature : temperatureOut (h .temperature) ≡ false
   pub vapour : vapourNumber (h .air) ≤ 10000
+  pub air : vapourOut (h .air) ≡ false
   pub wind : h .wind ≤ 6000
   pub soil : soilNumber (h .soil) ≤ 10000
   pub pressure : PressureIn (h .air)
@@ -60,13 +62,15 @@ InRange (Record.Header h) = HeaderIn h
 InRange (Record.Hour h) = HourIn h
 InRange (Record.End e) = Unit
 
-vapour-le : (a : Air) → deficitOut a ≡ false → vapourNumber a ≤ 10000
+vapour-le : (a : Air) → vapourOut a ≡ false → vapourNumber a ≤ 10000
 vapour-le (Deficit n) e = ltb-false 10000 n e
 vapour-le (Pressure n p) e = ltb-false 10000 n e
+vapour-le (Humidity n) e = omega (arith, ltb-false 1000 n e)
 
 pressure-in : (a : Air) → pressureOut a ≡ false → PressureIn a
 pressure-in (Deficit n) e = tt
 pressure-in (Pressure n p) e = inside-is 5000 11000 p e
+pressure-in (Humidity n) e = tt
 
 soil-le : (s : Soil) → soilOut s ≡ false → soilNumber s ≤ 10000
 soil-le (Suction n) e = ltb-false 10000 n e
@@ -120,7 +124,7 @@ hour-passed h e =
     let ppfd = row-passed (ltb 3000 (h .ppfd)) _ _ tt (ozone .1) in
     let radiation = row-passed (ltb 1500 (h .radiation)) _ _ tt (ppfd .1) in
     let temperature = row-passed (temperatureOut (h .temperature)) _ _ tt (radiation .1) in
-    let vapour = row-passed (deficitOut (h .air)) _ _ tt (temperature .1) in
+    let vapour = row-passed (vapourOut (h .air)) _ _ tt (temperature .1) in
     let wind = row-passed (ltb 6000 (h .wind)) _ _ tt (vapour .1) in
     let soil = row-passed (soilOut (h .soil)) _ _ tt (wind .1) in
     let pressure = row-passed (pressureOut (h .air)) _ _ tt (soil .1) in
@@ -130,6 +134,7 @@ hour-passed h e =
       radiation = ltb-false 1500 (h .radiation) (radiation .0);
       temperature = temperature .0;
       vapour = vapour-le (h .air) (vapour .0);
+      air = vapour .0;
       wind = ltb-false 6000 (h .wind) (wind .0);
       soil = soil-le (h .soil) (soil .0);
       pressure = pressure-in (h .air) (pressure .0);

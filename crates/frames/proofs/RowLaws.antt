@@ -13,7 +13,7 @@ use Rattle.records.specs.Answers.{Outcome, accepted, refused, onward}
 use Rattle.frames.specs.Digits.{within, allDigits, byteAt}
 use Rattle.frames.specs.Kinds.{among, isLength, lengthOf}
 use Rattle.records.specs.Temperature.{temperatureOut}
-use Rattle.records.specs.Ranges.{isOutside, onTree, periodOut, deficitOut, soilOut, pressureOut, checked}
+use Rattle.records.specs.Ranges.{isOutside, onTree, periodOut, vapourOut, soilOut, pressureOut, checked}
 use Rattle.frames.specs.Frames.{parsedOf, soundOf, recordOf, readFrameOf}
 use Rattle.frames.specs.Rows.{oneOf, readerRows, ReaderRows}
 use Rattle.records.specs.declared.Raw.{Raw}
@@ -79,7 +79,7 @@ checked-only {rows} a (Record.Hour h) =
     (row-only (ltb 3000 (h .ppfd)) _ _ _ (field-in rows 2 refl)
     (row-only (ltb 1500 (h .radiation)) _ _ _ (field-in rows 3 refl)
     (row-only (temperatureOut (h .temperature)) _ _ _ (field-in rows 4 refl)
-    (row-only (deficitOut (h .air)) _ _ _ (field-in rows 5 refl)
+    (row-only (vapourOut (h .air)) _ _ _ (field-in rows 5 refl)
     (row-only (ltb 6000 (h .wind)) _ _ _ (field-in rows 6 refl)
     (row-only (soilOut (h .soil)) _ _ _ (field-in rows 7 refl)
     (row-only (pressureOut (h .air)) _ _ _ (field-in rows 8 refl)

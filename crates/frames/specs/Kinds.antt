@@ -25,9 +25,13 @@ endWidths = two ∷ []
 abbrev pressureWidths : List Width
 pressureWidths = hourWidths ++ two ∷ []
 
+-- 05: those of 02, humidity in VPD's place (W-205)
+abbrev humidityWidths : List Width
+humidityWidths = hourWidths
+
 -- the table, from kind 01 on: the widths of the fields that follow the kind's byte
 abbrev pub kinds : List (List Width)
-kinds = headerWidths ∷ hourWidths ∷ endWidths ∷ pressureWidths ∷ []
+kinds = headerWidths ∷ hourWidths ∷ endWidths ∷ pressureWidths ∷ humidityWidths ∷ []
 
 -- the widths of a kind's fields, none where there is no such kind
 abbrev pub widthsOf : ℕ → List Width

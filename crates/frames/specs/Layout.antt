@@ -11,7 +11,7 @@ use Rattle.frames.specs.Fields.{digitsOf, fieldsAt}
 use Rattle.records.specs.Temperature.{signedOf, complementOf}
 use Rattle.records.specs.declared.Header.{Header}
 use Rattle.records.specs.declared.Air.{Air}
-use Rattle.records.specs.declared.Air.the-variants.{Deficit, Pressure}
+use Rattle.records.specs.declared.Air.the-variants.{Deficit, Pressure, Humidity}
 use Rattle.records.specs.declared.Soil.{Soil}
 use Rattle.records.specs.declared.Soil.the-variants.{Suction, Water}
 use Rattle.records.specs.declared.Hour.{Hour}
@@ -36,17 +36,20 @@ soilNumber (Water n) = n
 abbrev pub vapourNumber : Air → ℕ
 vapourNumber (Deficit n) = n
 vapourNumber (Pressure n p) = n
+vapourNumber (Humidity n) = n
 
 abbrev pub pastSoil : Air → List ℕ
 pastSoil (Deficit n) = []
 pastSoil (Pressure n p) = p ∷ []
+pastSoil (Humidity n) = []
 
 abbrev pub hourNumbers : Hour → List ℕ
 hourNumbers h = h .day ∷ h .hour ∷ h .ozone ∷ h .ppfd ∷ h .radiation ∷ complementOf (h .temperature) ∷ vapourNumber (h .air) ∷ h .wind ∷ soilNumber (h .soil) ∷ pastSoil (h .air)
 
--- the air of an hour frame's numbers, by its kind, 02 or 04
+-- the air of an hour frame's numbers, by its kind, 04, 05 or 02
 abbrev pub airOf : ℕ → List ℕ → Air
-airOf kind ns = cond (eqb kind 4) (Pressure (getD ns 6 0) (getD ns 9 0)) (Deficit (getD ns 6 0))
+airOf kind ns =
+    cond (eqb kind 4) (Pressure (getD ns 6 0) (getD ns 9 0)) (cond (eqb kind 5) (Humidity (getD ns 6 0)) (Deficit (getD ns 6 0)))
 
 abbrev pub rawHourOf : Air → List ℕ → RawHour
 rawHourOf air ns = record {
@@ -98,6 +101,7 @@ frameAt l = frameOf (byteAt 0 l) (fieldsAt (byteAt 0 l) l)
 abbrev pub airKind : Air → ℕ
 airKind (Deficit n) = 2
 airKind (Pressure n p) = 4
+airKind (Humidity n) = 5
 
 abbrev pub kindOf : Record → ℕ
 kindOf (Record.Header h) = 1

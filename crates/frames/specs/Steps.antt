@@ -3,7 +3,6 @@
 use Prim.Native.Nat.{ℕ, _+_, _*_, _/_, _%_, _≤_, _<_}
 use mathlib.Core.Path.{_≡_}
 use mathlib.Core.Bool.{true}
-use mathlib.Core.Logic.{_⊎_}
 use mathlib.Core.List.{List}
 use lib.ListN.{length, getD}
 use Rattle.frames.specs.Digits.{valueOf, byteAt}
@@ -32,8 +31,10 @@ abbrev pub Makes : {A : Type 0} → List ℕ → ℕ → A → (List ℕ → A) 
 Makes vs kind r f = Finds vs (lengthOf kind) r (λ l. f (fieldsAt kind l))
 
 -- the kinds of an hour's frame
-abbrev pub IsHour : ℕ → Type 0
-IsHour kind = (kind ≡ 2) ⊎ (kind ≡ 4)
+pub data IsHour (kind : ℕ) : Type 0 where
+  withDeficit : kind ≡ 2 → IsHour kind
+  withPressure : kind ≡ 4 → IsHour kind
+  withHumidity : kind ≡ 5 → IsHour kind
 
 -- rows 1 and 3 let the line pass: some kind has its length, and so has its own
 pub record Sized (l : List ℕ) : Type 0 where

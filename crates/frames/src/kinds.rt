@@ -16,6 +16,7 @@ pub(crate) fn length_of(kind: u8) -> usize
         2 => HourLine::DIGITS,
         3 => EndLine::DIGITS,
         4 => PressureLine::DIGITS,
+        5 => HourLine::DIGITS,
         _ => 0,
     }
 }

@@ -19,7 +19,7 @@ ghost use mathlib.Core.Path.{_≡_};
 ghost use mathlib.Core.List.{List};
 ghost use Prim.Native.Nat.{ℕ};
 ghost use Rattle.frames.specs.Steps.{Values, Says, IsHour, Makes, Sized};
-ghost use Rattle.frames.specs.Layout.{vapourNumber, soilNumber, headerOf, airOf, rawHourOf, endOf, frameAt, soilOf, hourOf};
+ghost use Rattle.frames.specs.Layout.{vapourNumber, soilNumber, headerOf, airOf, rawHourOf, endOf, frameAt, airKind, soilOf, hourOf};
 
 fn header_at(values: &[u8]) -> Header
     requires { ⌜ Values (now values) ⌝ }
@@ -39,13 +39,14 @@ fn air_at(kind: u8, values: &[u8]) -> Air
     requires { ⌜ Values (now values) ⌝ }
     ensures { λ r. ⌜ (IsHour kind → Makes (now (values .entry)) kind r (airOf kind)) ⌝ }
 {
-    let vapour = number_at(values, HourLine::VPD);
+    let vapour = number_at(values, HourLine::VAPOUR);
     let pressure = number_at(values, PressureLine::PRESSURE);
     match kind {
         4 => Air::Pressure {
             deficit: vapour,
             pressure: pressure,
         },
+        5 => Air::Humidity(vapour),
         _ => Air::Deficit(vapour),
     }
 }
@@ -109,6 +110,21 @@ pub fn vapour_number(air: Air) -> u16
             deficit: n,
             pressure: _,
         } => n,
+        Air::Humidity(n) => n,
+    }
+}
+
+// The kind of an hour's frame, by its air.
+pub fn air_kind(air: Air) -> u8
+    ensures { λ r. ⌜ r ≡ airKind air ⌝ }
+{
+    match air {
+        Air::Deficit(_) => 2,
+        Air::Pressure {
+            deficit: _,
+            pressure: _,
+        } => 4,
+        Air::Humidity(_) => 5,
     }
 }
 

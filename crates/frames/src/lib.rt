@@ -6,6 +6,7 @@ mod layout;
 mod temperature;
 pub mod widths;
 
+pub use layout::air_kind;
 pub use layout::soil_number;
 pub use layout::vapour_number;
 pub use records::Air;

@@ -29,6 +29,7 @@ impl HeaderLine {
 }
 
 // 02 | day 2 | hour 1 | ozone 2 | PPFD 2 | G 2 | T 2 | VPD 2 | wind 2 | soil 2
+// 05 | the same, humidity in VPD's place
 pub struct HourLine;
 
 impl HourLine {
@@ -44,9 +45,9 @@ impl HourLine {
 
     pub const TEMPERATURE: usize = HourLine::RADIATION + NUMBER;
 
-    pub const VPD: usize = HourLine::TEMPERATURE + NUMBER;
+    pub const VAPOUR: usize = HourLine::TEMPERATURE + NUMBER;
 
-    pub const WIND: usize = HourLine::VPD + NUMBER;
+    pub const WIND: usize = HourLine::VAPOUR + NUMBER;
 
     pub const SOIL: usize = HourLine::WIND + NUMBER;
 
@@ -72,6 +73,6 @@ impl PressureLine {
 }
 
 // The number of kinds, and the digits of the longest lines.
-pub const KINDS: u8 = 4;
+pub const KINDS: u8 = 5;
 
 pub const LONGEST: usize = PressureLine::DIGITS;

@@ -62,6 +62,10 @@ fn print_hour(h: Hour) {
             print_fields(h);
             print_next(n);
         },
+        Air::Humidity(_) => {
+            print_next(5);
+            print_fields(h);
+        },
     }
 }
 

@@ -91,10 +91,14 @@ fn soil_of(tree: u8, n: u16) -> Soil {
 }
 
 // What an hour of a kind says of the air.
-fn air_of(kind: u8, deficit: u16, pressure: u16) -> Air {
+fn air_of(kind: u8, vapour: u16, pressure: u16) -> Air {
     match kind {
-        4 => Air::Pressure { deficit, pressure },
-        _ => Air::Deficit(deficit),
+        4 => Air::Pressure {
+            deficit: vapour,
+            pressure,
+        },
+        5 => Air::Humidity(vapour),
+        _ => Air::Deficit(vapour),
     }
 }
 

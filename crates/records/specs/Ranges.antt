@@ -9,7 +9,7 @@ use Rattle.records.specs.Answers.{Outcome, accepted, refused, row, field
 use Rattle.records.specs.Temperature.{temperatureOut}
 use Rattle.records.specs.declared.Header.{Header}
 use Rattle.records.specs.declared.Air.{Air}
-use Rattle.records.specs.declared.Air.the-variants.{Deficit, Pressure}
+use Rattle.records.specs.declared.Air.the-variants.{Deficit, Pressure, Humidity}
 use Rattle.records.specs.declared.Soil.{Soil}
 use Rattle.records.specs.declared.Soil.the-variants.{Suction, Water}
 use Rattle.records.specs.declared.Hour.{Hour}
@@ -24,15 +24,17 @@ abbrev pub onTree : {A : Type 0} → Choice → (Figures → Outcome A) → Outc
 onTree (Choice.Tree f) next = next f
 onTree Choice.Unknown next = refused (5, 0)
 
--- VPD 0 to 10000 Pa
-abbrev pub deficitOut : Air → Bool
-deficitOut (Deficit n) = ltb 10000 n
-deficitOut (Pressure n p) = ltb 10000 n
+-- VPD 0 to 10000 Pa, or in its place humidity 0 to 1000 tenths of a percent (W-205)
+abbrev pub vapourOut : Air → Bool
+vapourOut (Deficit n) = ltb 10000 n
+vapourOut (Pressure n p) = ltb 10000 n
+vapourOut (Humidity n) = ltb 1000 n
 
 -- pressure 5000 to 11000 tenths of hPa, where the frame has one (W-204)
 abbrev pub pressureOut : Air → Bool
 pressureOut (Deficit n) = false
 pressureOut (Pressure n p) = isOutside 5000 11000 p
+pressureOut (Humidity n) = false
 
 -- suction 0 to 10000 kPa, available water 0 to 1000 tenths of a percent
 abbrev pub soilOut : Soil → Bool
@@ -50,7 +52,7 @@ hourChecked unfit h =
     (field 2 (ltb 3000 (h .ppfd))
     (field 3 (ltb 1500 (h .radiation))
     (field 4 (temperatureOut (h .temperature))
-    (field 5 (deficitOut (h .air))
+    (field 5 (vapourOut (h .air))
     (field 6 (ltb 6000 (h .wind))
     (field 7 unfit
     (field 8 (pressureOut (h .air))

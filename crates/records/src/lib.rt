@@ -30,10 +30,11 @@ pub enum Soil {
 }
 
 // What an hour says of the air besides its ozone and temperature, by the kind of its frame: vapour pressure deficit in Pa (02);
-// deficit, and pressure in tenths of hPa (04).
+// deficit, and pressure in tenths of hPa (04); relative humidity in tenths of a percent (05).
 pub enum Air {
     Deficit(u16),
     Pressure { deficit: u16, pressure: u16 },
+    Humidity(u16),
 }
 
 // An hour's readings: ozone in tenths of ppb, PPFD in µmol m⁻² s⁻¹, global radiation in W m⁻², temperature in tenths of °C,

@@ -8,7 +8,7 @@ use crate::Soil;
 use trees::Choice;
 ghost use mathlib.Core.Path.{_≡_};
 ghost use Rattle.records.specs.Answers.{checkedAs};
-ghost use Rattle.records.specs.Ranges.{isOutside, periodOut, deficitOut, soilOut, pressureOut, hourChecked, checked};
+ghost use Rattle.records.specs.Ranges.{isOutside, periodOut, vapourOut, soilOut, pressureOut, hourChecked, checked};
 ghost use Rattle.records.specs.Temperature.{temperatureOut};
 ghost use Rattle.records.specs.declared.Record.{Record};
 
@@ -67,8 +67,8 @@ fn temperature_out(t: i16) -> bool
 }
 
 // Field 5.
-fn deficit_out(air: Air) -> bool
-    ensures { λ r. ⌜ r ≡ deficitOut air ⌝ }
+fn vapour_out(air: Air) -> bool
+    ensures { λ r. ⌜ r ≡ vapourOut air ⌝ }
 {
     match air {
         Air::Deficit(n) => 10000 < n,
@@ -76,6 +76,7 @@ fn deficit_out(air: Air) -> bool
             deficit: n,
             pressure: _,
         } => 10000 < n,
+        Air::Humidity(n) => 1000 < n,
     }
 }
 
@@ -89,6 +90,7 @@ fn pressure_out(air: Air) -> bool
             deficit: _,
             pressure: n,
         } => outside(5000, 11000, n),
+        Air::Humidity(_) => false,
     }
 }
 
@@ -119,7 +121,7 @@ pub fn check_hour(h: Hour, unfit: bool) -> Checked
         return Checked::Refused(Refusal::Range(4));
     }
     let air = h.air;
-    if deficit_out(air) {
+    if vapour_out(air) {
         return Checked::Refused(Refusal::Range(5));
     }
     if 6000 < h.wind {

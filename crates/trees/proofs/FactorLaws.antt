@@ -1,5 +1,4 @@
--- For any sound figures f_VPD, f_SW and f_phen lie between their limits; f_VPD and f_SW have their stated values at "max" and "min", f_VPD falls with
--- the deficit, f_SW falls with suction and rises with water.
+-- For any sound figures f_SW and f_phen lie between their limits; f_SW has its stated values at "max" and "min", falls with suction and rises with water.
 use Prim.Native.Nat.{ℕ, _-_, _≤_, _<_}
 use mathlib.Core.Path.{_≡_, refl}
 use native.Mathlib.Omega.{arith}
@@ -10,7 +9,7 @@ use Rattle.trees.specs.declared.Phenology.{Phenology}
 use Rattle.trees.specs.declared.Phenology.the-variants.{Ramps, Dip, Temperature}
 use Rattle.trees.specs.declared.Figures.{Figures}
 use Rattle.trees.specs.Sound.{Sound, SoilSound}
-use Rattle.trees.specs.Deficit.{falling, deficitOf}
+use Rattle.trees.specs.Deficit.{falling}
 use Rattle.trees.specs.SoilWater.{drier, soilWaterOf}
 use Rattle.trees.specs.Phenology.{byRamps, byDip, byTemperature, phenologyOf}
 use Rattle.trees.specs.Temperature.{inside}
@@ -50,42 +49,24 @@ drier-pos Water wet dry s = omega arith
 -- ---- the line from 1 to f_min
 
 module _ (f : Figures) (sound : Sound f) where
-  falling-limits : (d s : ℕ) → Between (f .fmin over 100) (natural 1) (falling (f .fmin) d s)
+  pub falling-limits : (d s : ℕ) → Between (f .fmin over 100) (natural 1) (falling (f .fmin) d s)
   unfolding falling
   falling-limits d s = record {
     above = straight-ge _ _ d s (f .fmin) (omega (arith, sound .fmin)) (omega arith);
     below = line-le _ _ d s (omega arith) (omega (arith, sound .fmin));
   }
 
-  falling-anti : (d d′ s : ℕ) → d ≤ d′ → falling (f .fmin) d′ s ≼ falling (f .fmin) d s
+  pub falling-anti : (d d′ s : ℕ) → d ≤ d′ → falling (f .fmin) d′ s ≼ falling (f .fmin) d s
   unfolding falling
   falling-anti d d′ s h = straight-anti _ _ d d′ s (omega (arith, sound .fmin)) h
 
-  falling-start : (d s : ℕ) → d ≡ 0 → 0 < s → falling (f .fmin) d s ≈ natural 1
+  pub falling-start : (d s : ℕ) → d ≡ 0 → 0 < s → falling (f .fmin) d s ≈ natural 1
   unfolding falling
   falling-start d s e h = rw e (let p = straight-start 100 (f .fmin) s h in omega arith)
 
-  falling-end : (d s : ℕ) → s ≤ d → falling (f .fmin) d s ≈ f .fmin over 100
+  pub falling-end : (d s : ℕ) → s ≤ d → falling (f .fmin) d s ≈ f .fmin over 100
   unfolding falling
   falling-end d s h = rw (straight-end _ (f .fmin) d s h) (omega arith)
-
-  -- ---- f_VPD
-
-  pub deficit-limits : (vpd : ℕ) → Between (f .fmin over 100) (natural 1) (deficitOf f vpd)
-  unfolding deficitOf
-  deficit-limits vpd = falling-limits _ _
-
-  pub deficit-max : (vpd : ℕ) → vpd ≤ f .vpdmax → deficitOf f vpd ≈ natural 1
-  unfolding deficitOf
-  deficit-max vpd h = falling-start _ _ (omega arith) (omega (arith, sound .vpd))
-
-  pub deficit-min : (vpd : ℕ) → f .vpdmin ≤ vpd → deficitOf f vpd ≈ f .fmin over 100
-  unfolding deficitOf
-  deficit-min vpd h = falling-end _ _ (omega arith)
-
-  pub deficit-anti : (vpd vpd′ : ℕ) → vpd ≤ vpd′ → deficitOf f vpd′ ≼ deficitOf f vpd
-  unfolding deficitOf
-  deficit-anti vpd vpd′ h = falling-anti _ _ _ (omega arith)
 
   -- ---- f_SW
 

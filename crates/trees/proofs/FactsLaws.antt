@@ -24,10 +24,6 @@ use Rattle.trees.proofs.PhenologyLaws.{
   phenology-temperature,
 }
 use Rattle.trees.proofs.FactorLaws.{
-  deficit-limits,
-  deficit-max,
-  deficit-min,
-  deficit-anti,
   soilWater-limits,
   soilWater-max,
   soilWater-min,
@@ -35,6 +31,7 @@ use Rattle.trees.proofs.FactorLaws.{
   water-mono,
   phenology-limits,
 }
+use Rattle.trees.proofs.DeficitLaws.{deficit-limits, deficit-max, deficit-min, deficit-anti, deficit-near}
 use Rattle.trees.proofs.TemperatureLaws.{
   temperatureAt-above,
   temperatureAt-le,
@@ -121,7 +118,13 @@ module _ (f : Figures) (s : Sound f) where
   }
 
   deficit-facts : DeficitFacts f
-  deficit-facts = record { limits = deficit-limits f s; max = deficit-max f s; min = deficit-min f s; falls = deficit-anti f s }
+  deficit-facts = record {
+    limits = deficit-limits f s;
+    max = deficit-max f s;
+    min = deficit-min f s;
+    falls = deficit-anti f s;
+    near = deficit-near f s;
+  }
 
   soilWater-facts : SoilWaterFacts f
   soilWater-facts = record {

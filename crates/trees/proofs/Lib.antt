@@ -7,5 +7,6 @@ pub mod CurveLaws
 pub mod TemperatureLaws
 pub mod PhenologyLaws
 pub mod FactorLaws
+pub mod DeficitLaws
 pub mod FactsLaws
 pub mod TermLaws

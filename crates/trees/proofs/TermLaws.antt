@@ -1,10 +1,12 @@
--- The denominators of f_VPD, f_SW and f_phen as they are worked out are at most 1,000,000, for any sound figures.
-use Prim.Native.Nat.{ℕ, _+_, _-_, _*_, _^_, _≤_}
+-- The denominators of f_SW and f_phen as they are worked out are at most 1,000,000, for any sound figures, and that of f_VPD so many times the deficit's own.
+use Prim.Native.Nat.{ℕ, _-_, _*_, _^_, _≤_}
 use mathlib.Core.Path.{_≡_, refl}
 use mathlib.Core.Bool.{Bool, true, false, cond}
+use mathlib.Core.Logic.{⊎-elim}
+use native.Mathlib.Nat.{mul-le-mul-right}
 use native.Mathlib.Omega.{arith}
 use lib.Dec.{ltb, leb}
-use Rattle.exact.specs.Frac.{Frac, _over_, natural, straight}
+use Rattle.exact.specs.Frac.{Frac, natural, straight}
 use Rattle.trees.specs.declared.Measure.{Measure}
 use Rattle.trees.specs.declared.Measure.the-variants.{Suction, Water}
 use Rattle.trees.specs.declared.Phenology.{Phenology}
@@ -15,6 +17,8 @@ use Rattle.trees.specs.Deficit.{falling, deficitOf}
 use Rattle.trees.specs.SoilWater.{drier, soilWaterOf}
 use Rattle.trees.specs.Phenology.{byRamps, byDip, byTemperature, phenologyOf}
 use Rattle.trees.specs.Temperature.{inside}
+use Rattle.exact.proofs.OrderLaws.{le-or-lt}
+use Rattle.exact.proofs.FracLaws.{straight-along, straight-end}
 use Rattle.trees.proofs.PhenologyLaws.{phenology-ramps, phenology-dip, phenology-temperature}
 
 pub record Small (x : Frac) : Type 0 where
@@ -24,10 +28,12 @@ cond-small : (t : Bool) {x y : Frac} → Small x → Small y → Small (cond t x
 cond-small true p q = p
 cond-small false p q = q
 
+straight-den : (from to d s top : ℕ) → 100 ≤ top → 100 * s ≤ top → straight from to d s .den ≤ top
+straight-den from to d s top h k =
+    ⊎-elim (λ l. rw (straight-end from to d s l) h) (λ l. rw (straight-along from to d s l) (omega arith)) (le-or-lt s d)
+
 straight-small : (from to d s : ℕ) → s ≤ 10000 → Small (straight from to d s)
-unfolding straight
-straight-small from to d s h =
-    cond-small (ltb d s) {x = ((s - d) * from + d * to) over (100 * s)} {y = to over 100} (record { den = omega arith }) (record { den = omega arith })
+straight-small from to d s h = record { den = straight-den from to d s (10 ^ 6) (omega arith) (omega arith) }
 
 drier-le : (m : Measure) (wet dry : ℕ) → SoilSound m wet dry → drier m wet dry ≤ 10000
 drier-le Suction wet dry s = omega arith
@@ -48,9 +54,11 @@ unfolding byTemperature
 temperature-small tmin tmax temperature = cond-small (inside tmin tmax temperature) (record { den = omega arith }) (record { den = omega arith })
 
 module _ (f : Figures) (sound : Sound f) where
-  pub deficit-small : (vpd : ℕ) → Small (deficitOf f vpd)
+  pub deficit-small : (vpd : Frac) → deficitOf f vpd .den ≤ 10 ^ 6 * vpd .den
   unfolding deficitOf falling
-  deficit-small vpd = straight-small _ (f .fmin) _ (f .vpdmin - f .vpdmax) (omega (arith, sound .vpd))
+  deficit-small vpd =
+      straight-den 100 (f .fmin) _ ((f .vpdmin - f .vpdmax) * vpd .den) _ (omega (arith, vpd .positive))
+      (omega (arith, mul-le-mul-right {m = f .vpdmin - f .vpdmax} {n = 10000} (vpd .den) (omega (arith, sound .vpd))))
 
   pub soilWater-small : (reading : ℕ) → Small (soilWaterOf f reading)
   unfolding soilWaterOf falling

@@ -10,7 +10,7 @@ use Rattle.trees.specs.Temperature.{temperatureAt, temperaturePair}
 use Rattle.trees.specs.Deficit.{deficitOf}
 use Rattle.trees.specs.SoilWater.{soilWaterOf}
 use Rattle.trees.specs.Phenology.{phenologyOf}
-use Rattle.exact.specs.Frac.{Frac, _over_, natural, straight, _≼_, _≈_, Between}
+use Rattle.exact.specs.Frac.{Frac, _over_, natural, _⊕_, _⊗_, straight, _≼_, _≈_, Between}
 
 -- ---- f_phen, as a function of the day
 
@@ -76,13 +76,16 @@ pub record TemperatureFacts (f : Figures) : Type 0 where
 
 pub record DeficitFacts (f : Figures) : Type 0 where
   -- f_min to 1
-  pub limits : (vpd : ℕ) → Between (f .fmin over 100) (natural 1) (deficitOf f vpd)
+  pub limits : (vpd : Frac) → Between (f .fmin over 100) (natural 1) (deficitOf f vpd)
   -- 1 at "max" and under it
-  pub max : (vpd : ℕ) → vpd ≤ f .vpdmax → deficitOf f vpd ≈ natural 1
+  pub max : (vpd : Frac) → vpd ≼ natural (f .vpdmax) → deficitOf f vpd ≈ natural 1
   -- f_min at "min" and over it
-  pub min : (vpd : ℕ) → f .vpdmin ≤ vpd → deficitOf f vpd ≈ f .fmin over 100
+  pub min : (vpd : Frac) → natural (f .vpdmin) ≼ vpd → deficitOf f vpd ≈ f .fmin over 100
   -- it falls as the deficit grows
-  pub falls : (vpd vpd′ : ℕ) → vpd ≤ vpd′ → deficitOf f vpd′ ≼ deficitOf f vpd
+  pub falls : (vpd vpd′ : Frac) → vpd ≼ vpd′ → deficitOf f vpd′ ≼ deficitOf f vpd
+  -- by no more than the line from 1 to f_min does over as many Pa
+  pub near :
+      (vpd vpd′ w : Frac) → vpd′ ≼ vpd ⊕ w → deficitOf f vpd ≼ deficitOf f vpd′ ⊕ w ⊗ (100 - f .fmin) over (100 * (f .vpdmin - f .vpdmax))
 
 pub record SoilWaterFacts (f : Figures) : Type 0 where
   -- f_min to 1

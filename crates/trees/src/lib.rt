@@ -2,6 +2,7 @@
 pub mod factors;
 pub mod phen;
 
+use exact::Fraction;
 ghost use mathlib.Core.Path.{_≡_};
 ghost use Rattle.trees.specs.Figures.{borealSpruce, birch, continentalSpruce, beech, oak, evergreen, figuresOf, choiceRow, treeRow, rampDays};
 
@@ -57,6 +58,19 @@ pub struct Figures {
     // days
     pub f1: u16,
     pub f4: u16,
+}
+
+// A vapour pressure deficit lies from lower/den to upper/den, in Pa; a den of 0 is read as 1.
+pub struct Deficits {
+    pub lower: u64,
+    pub upper: u64,
+    pub den: u32,
+}
+
+// A factor lies from lower to upper.
+pub struct FactorPair {
+    pub lower: Fraction,
+    pub upper: Fraction,
 }
 
 // What a tree's number names: the tree's figures, or nothing (row 5).

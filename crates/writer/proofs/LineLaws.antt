@@ -14,7 +14,7 @@ use Rattle.frames.specs.Layout.{hourNumbers, frameOf, frameAt, airKind, kindOf,
 use Rattle.frames.specs.Steps.{Sized}
 use Rattle.frames.specs.Frames.{parsedOf}
 use Rattle.records.specs.declared.Air.{Air}
-use Rattle.records.specs.declared.Air.the-variants.{Deficit, Pressure}
+use Rattle.records.specs.declared.Air.the-variants.{Deficit, Pressure, Humidity}
 use Rattle.records.specs.declared.Hour.{Hour}
 use Rattle.records.specs.declared.Record.{Record}
 use Rattle.frames.proofs.KindLaws.{length-is}
@@ -33,10 +33,15 @@ module _ (h : Hour) where
   unfolding frameLine
   pressure-line e = rw e
 
+  pub humidity-line : {n : ℕ} → h .air ≡ Humidity n → frameLine (Record.Hour h) ≡ digitsOf (one ∷ widthsOf 2) (5 ∷ hourNumbers h)
+  unfolding frameLine
+  humidity-line e = rw e
+
   hour-length : (a : Air) → h .air ≡ a → (isLength (length (frameLine (Record.Hour h))) ≡ true) × (lengthOf (airKind (h .air)) ≡ length (frameLine (Record.Hour h)))
   unfolding frameLine among lengthOf
   hour-length (Deficit n) e = rw e (refl, refl)
   hour-length (Pressure n p) e = rw e (refl, refl)
+  hour-length (Humidity n) e = rw e (refl, refl)
 
 -- its length is its kind's, by the table
 line-length : (r : Record) → (isLength (length (frameLine r)) ≡ true) × (lengthOf (kindOf r) ≡ length (frameLine r))

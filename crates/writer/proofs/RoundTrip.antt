@@ -16,12 +16,13 @@ use Rattle.records.specs.Temperature.{temperatureOut}
 use Rattle.frames.specs.Fields.{fieldsAt}
 use Rattle.frames.specs.Layout.{soilNumber, hourNumbers, headerOf, airOf, rawHourOf, endOf, soilOf, hourOf, frameOf, frameAt, airKind, kindOf, numbersOf, frameLine}
 use Rattle.records.specs.Ranges.{onTree, checked}
+use Rattle.frames.specs.Steps.{IsHour, withDeficit, withPressure, withHumidity}
 use Rattle.frames.specs.Frames.{parsedOf, soundOf, recordOf, readFrameOf}
 use Rattle.records.specs.Buffer.{putOf, bufferAfter}
 use Rattle.writer.specs.Writer.{textOf, writeOf}
 use Rattle.writer.specs.RoundTrip.{InWidth, measureIn, HasMeasure, OfMeasure, RoundTrip}
 use Rattle.records.specs.declared.Air.{Air}
-use Rattle.records.specs.declared.Air.the-variants.{Deficit, Pressure}
+use Rattle.records.specs.declared.Air.the-variants.{Deficit, Pressure, Humidity}
 use Rattle.records.specs.declared.Soil.{Soil}
 use Rattle.records.specs.declared.Soil.the-variants.{Suction, Water}
 use Rattle.records.specs.declared.Hour.{Hour}
@@ -34,9 +35,9 @@ use Rattle.writer.proofs.TemperatureLaws.{complement-signed, signed-com
 use Rattle.frames.proofs.RangeLaws.{InRange, checked-passed}
 use Rattle.frames.proofs.ReadLaws.{parsed-passed, SoundRead, sound-read, hour-read}
 use Rattle.writer.proofs.WidthLaws.{range-fits}
-use Rattle.frames.proofs.FrameLaws.{frame-is, sized-within}
+use Rattle.frames.proofs.FrameLaws.{frame-is, hour-framed, sized-within}
 use Rattle.writer.proofs.LineLaws.{line-parsed, line-frame, line-written}
-use Rattle.frames.proofs.KindLaws.{KindCase, header, hour, end, withPressure, kind-cases}
+use Rattle.frames.proofs.KindLaws.{KindCase, header, hour, end, kind-cases}
 use Rattle.writer.proofs.RowLaws.{write-only}
 
 -- ---- written, then read
@@ -59,6 +60,7 @@ hour-frame : (h : Hour) (a : Air) → h .air ≡ a → frameOf (airKind (h .air)
 unfolding frameOf
 hour-frame h (Deficit n) e = rw e
 hour-frame h (Pressure n p) e = rw e
+hour-frame h (Humidity n) e = rw e
 
 record-back : (tree : ℕ) (r : Record) → OfMeasure tree r → InRange r → recordOf tree (frameOf (kindOf r) (numbersOf r)) ≡ soundOf r
 unfolding recordOf frameOf
@@ -97,17 +99,20 @@ soil-number : (m : Measure) (n : ℕ) → soilNumber (soilOf m n) ≡ n
 soil-number Measure.Suction n = refl
 soil-number Measure.Water n = refl
 
+air-kind : (kind : ℕ) (ns : List ℕ) → IsHour kind → kind ≡ airKind (airOf kind ns)
+air-kind kind ns (withDeficit e) = rw e
+air-kind kind ns (withPressure e) = rw e
+air-kind kind ns (withHumidity e) = rw e
+
 module _ (l : List ℕ) where
   abbrev hourIn : ℕ → RawHour
   hourIn kind = rawHourOf (airOf kind (fieldsAt kind l)) (fieldsAt kind l)
 
-  deficit-numbers : (m : Measure) → hourNumbers (hourOf (hourIn 2) m) ≡ fieldsAt 2 l
+  hour-numbers : (kind : ℕ) → IsHour kind → (m : Measure) → hourNumbers (hourOf (hourIn kind) m) ≡ fieldsAt kind l
   unfolding hourOf
-  deficit-numbers m = simp (complement-signed (hourIn 2 .temperature) (number-lt _ l), soil-number m)
-
-  pressure-numbers : (m : Measure) → hourNumbers (hourOf (hourIn 4) m) ≡ fieldsAt 4 l
-  unfolding hourOf
-  pressure-numbers m = simp (complement-signed (hourIn 4 .temperature) (number-lt _ l), soil-number m)
+  hour-numbers kind (withDeficit e) m = rw e (simp (complement-signed (hourIn 2 .temperature) (number-lt _ l), soil-number m))
+  hour-numbers kind (withPressure e) m = rw e (simp (complement-signed (hourIn 4 .temperature) (number-lt _ l), soil-number m))
+  hour-numbers kind (withHumidity e) m = rw e (simp (complement-signed (hourIn 5 .temperature) (number-lt _ l), soil-number m))
 
 -- a record that passes, with the kind and the numbers of the line
 record ReadFrom (l : List ℕ) (r : Record) : Type 0 where
@@ -125,13 +130,12 @@ module _ (tree : ℕ) (l : List ℕ) (r : Record) (e : recordOf tree (frameAt l)
   line-from : KindCase (byteAt 0 l) → ReadFrom l r
   unfolding recordOf frameOf hourOf
   line-from (header k) = read-from l (Record.Header (headerOf (fieldsAt 1 l))) r k refl (sound-read _ r (by-kind k))
-  line-from (hour k) =
-      let h = hour-read tree (hourIn l 2) r (by-kind k) in
-      read-from l (Record.Hour (hourOf (hourIn l 2) (h .figures .measure))) r k (deficit-numbers l (h .figures .measure)) (h .is)
+  line-from (hour is) =
+      let k = byteAt 0 l in
+      let h = hour-read tree (hourIn l k) r (ap (recordOf tree) (sym (hour-framed l is refl)) ∙ e) in
+      let kind = air-kind k (fieldsAt k l) is in
+      read-from l (Record.Hour (hourOf (hourIn l k) (h .figures .measure))) r kind (rw (← kind) (hour-numbers l k is (h .figures .measure))) (h .is)
   line-from (end k) = read-from l (Record.End (endOf (fieldsAt 3 l))) r k refl (sound-read _ r (by-kind k))
-  line-from (withPressure k) =
-      let h = hour-read tree (hourIn l 4) r (by-kind k) in
-      read-from l (Record.Hour (hourOf (hourIn l 4) (h .figures .measure))) r k (pressure-numbers l (h .figures .measure)) (h .is)
 
 line-read : (tree : ℕ) (l : List ℕ) (r : Record) → readFrameOf tree l ≡ accepted r → (checked r ≡ accepted tt) × (frameLine r ≡ l)
 unfolding readFrameOf

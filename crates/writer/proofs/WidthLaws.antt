@@ -5,7 +5,7 @@ use native.Mathlib.Omega.{arith}
 use Rattle.frames.specs.Kinds.{one, widthsOf}
 use Rattle.frames.specs.Layout.{kindOf, numbersOf}
 use Rattle.records.specs.declared.Air.{Air}
-use Rattle.records.specs.declared.Air.the-variants.{Deficit, Pressure}
+use Rattle.records.specs.declared.Air.the-variants.{Deficit, Pressure, Humidity}
 use Rattle.records.specs.declared.Hour.{Hour}
 use Rattle.records.specs.declared.Record.{Record}
 use Rattle.frames.proofs.RangeLaws.{HourIn, InRange}
@@ -26,6 +26,10 @@ hour-fits h i w (Pressure n p) e =
     let t = complement-lt (h .temperature) (i .temperature) in
     let v = rw e at (i .vapour) in
     let q = rw e at (i .pressure) in
+    rw e (omega arith)
+hour-fits h i w (Humidity n) e =
+    let t = complement-lt (h .temperature) (i .temperature) in
+    let v = rw e at (i .vapour) in
     rw e (omega arith)
 
 pub range-fits : (r : Record) → InRange r → InWidth r → FitsLine r

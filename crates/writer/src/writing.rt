@@ -55,7 +55,7 @@ fn put_hour_fields(kind: u8, h: Hour, buf: &mut [u8])
     put_number(buf, HourLine::DAY, h.day);
     put_byte(buf, HourLine::HOUR, h.hour);
     put_four(buf, HourLine::OZONE, h.ozone, h.ppfd, h.radiation, t);
-    put_two(buf, HourLine::VPD, vapour, h.wind);
+    put_two(buf, HourLine::VAPOUR, vapour, h.wind);
     put_number(buf, HourLine::SOIL, n);
 }
 
@@ -92,6 +92,7 @@ fn put_hour(h: Hour, buf: &mut [u8]) -> Written
             deficit: _,
             pressure: n,
         } => put_pressure_line(h, n, buf),
+        Air::Humidity(_) => put_hour_line(5, h, buf),
     }
 }
 

@@ -68,18 +68,24 @@ returns-4 c =
     let at = within (told .before .before) in
     (uncounted-is _ _ _ _ _ (chosen (named at)) (days at) (passed told) (le-ltb 50 (start at .args .h .radiation) (omega (arith, c .if2 .taken))), (enclosure, (hour-facts, bench-cases)))
 
-dosed-requires : tie.Need-dosed-requires
-dosed-requires c κs =
+deficits-requires : tie.Need-deficits-requires
+deficits-requires c κs =
     let told = c .before .before in
     let read = told .before .before in
+    fit-checked (measure read) (hour read) (passed told)
+
+dosed-requires : tie.Need-dosed-requires
+dosed-requires c κs =
+    let told = c .before .before .before in
+    let read = told .before .before in
     let e = chosen (named (within read)) in
-    (figures-sound _ _ e, (figures-tabled _ _ e, fit-checked (measure read) (hour read) (passed told)))
+    (figures-sound _ _ e, (figures-tabled _ _ e, (fit-checked (measure read) (hour read) (passed told), c .deficits .ensures)))
 
 returns-5 : tie.Need-returns-5
 returns-5 c =
-    let told = c .before .before .before in
+    let told = c .before .before .before .before in
     let at = within (told .before .before) in
-    (counted-is _ _ _ _ _ (chosen (named at)) (days at) (passed told) (lt-ltb 50 (start at .args .h .radiation) (omega (arith, c .before .if2 .left))) _ (c .dosed .ensures), (enclosure, (hour-facts, bench-cases)))
+    (counted-is _ _ _ _ _ (chosen (named at)) (days at) (passed told) (lt-ltb 50 (start at .args .h .radiation) (omega (arith, c .before .before .if2 .left))) _ (c .dosed .ensures), (enclosure, (hour-facts, bench-cases)))
 
 pub hour-dose-spec : {M : Type 1} → statement M
 hour-dose-spec =
@@ -97,5 +103,6 @@ hour-dose-spec =
     returns-3
     (λ c. search needs)
     returns-4
+    deficits-requires
     dosed-requires
     returns-5)

@@ -1,33 +1,19 @@
 -- `account::rows::mixed` meets its contract.
+use mathlib.Core.Path.{sym, _∙_}
 use borrow.Author.Needs.{needs}
+use borrow.Author.Tests.{eq-eqb, ne-eqb}
+use Rattle.account_spec.specs.HourKinds.{kindNumber}
 use Rattle.account.proofs.rows.mixed.Statement.{statement}
 use Rattle.account.proofs.rows.mixed.Tie as tie
 
+returns : tie.Need-returns
+returns c = simp (eq-eqb (kindNumber (c .before .before .args .kind)) 0 (sym (c .before .kind-number .ensures) ∙ c .if1 .taken))
+
 returns-2 : tie.Need-returns-2
-returns-2 c = rw (c .before .before .enum-told2 .given .1, c .enum-told3 .given .1)
-
-returns-3 : tie.Need-returns-3
-returns-3 c = rw (c .before .before .enum-told2 .given .1, c .enum-told4 .given .1)
-
-returns-4 : tie.Need-returns-4
-returns-4 c = rw (c .before .before .enum-told5 .given .1, c .enum-told6 .given .1)
-
-returns-5 : tie.Need-returns-5
-returns-5 c = rw (c .before .before .enum-told5 .given .1, c .enum-told7 .given .1)
+returns-2 c =
+    let start = c .before .before .before in
+    let number = c .before .before .kind-number .ensures in
+    simp (number, c .air-kind .ensures, ne-eqb (kindNumber (start .args .kind)) 0 (λ e. c .before .if1 .left (number ∙ e)))
 
 pub mixed-spec : {M : Type 1} → statement M
-mixed-spec =
-    tie.close
-    (tie.spec
-    (λ c. search needs)
-    (λ c. search needs)
-    (λ c. search needs)
-    (λ c. search needs)
-    (λ c. search needs)
-    (λ c. search needs)
-    (λ c. search needs)
-    (λ c. search needs)
-    returns-2
-    returns-3
-    returns-4
-    returns-5)
+mixed-spec = tie.close (tie.spec (λ c κs. search needs) returns (λ c κs. search needs) returns-2)

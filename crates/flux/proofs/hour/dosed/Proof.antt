@@ -10,7 +10,7 @@ use Rattle.records.proofs.SignedLaws.{at-plain}
 use Rattle.frames.proofs.RangeLaws.{checked-passed}
 use Rattle.flux_spec.proofs.ConcentrationLaws.{concentration-order, concentrationUp-le}
 use Rattle.flux_spec.proofs.EnclosureLaws.{shares-order, shares-top}
-use Rattle.flux.proofs.ScaleLaws.{above-highest}
+use Rattle.flux_spec.proofs.DeficitLaws.{above-highest}
 use Rattle.flux.proofs.hour.dosed.Statement.{statement}
 use Rattle.flux.proofs.hour.dosed.Tie as tie
 
@@ -21,18 +21,18 @@ tenths c = at-plain (c .before .before .before .args .h .temperature) (search ne
 temperature-requires : tie.Need-temperature-requires
 temperature-requires c κs =
     let start = c .before .before .before in
-    let range = checked-passed (Record.Hour (start .args .h)) (start .pre .1 .1) in
+    let range = checked-passed (Record.Hour (start .args .h)) (start .pre .1 .1 .0) in
     (start .pre .1 .0, rw (tenths c) (above-highest _ (range .temperature)))
 
 opening-requires : tie.Need-opening-requires
 opening-requires c κs =
     let start = c .before .before .before .before in
-    (start .pre .0, rw (← tenths (c .before)) (c .temperature .ensures))
+    (start .pre .0, (rw (← tenths (c .before)) (c .temperature .ensures), start .pre .1 .1 .1))
 
 shares-requires : tie.Need-shares-requires
 shares-requires c κs =
     let start = c .before .before .before .before .before in
-    let range = checked-passed (Record.Hour (start .args .h)) (start .pre .1 .1) in
+    let range = checked-passed (Record.Hour (start .args .h)) (start .pre .1 .1 .0) in
     (start .pre .0, (tenths (c .before .before), (range .ppfd, (c .opening .ensures .0, c .opening .ensures .1))))
 
 concentration-requires : tie.Need-concentration-requires
@@ -44,7 +44,7 @@ pair-requires c κs =
     let stand = start .args .stand in
     let h = start .args .h in
     let s = start .pre .0 in
-    let passed = start .pre .1 .1 in
+    let passed = start .pre .1 .1 .0 in
     let thick = concentrationUp-le h (checked-passed (Record.Hour h) passed) in
     let most = shares-top stand s h passed in
     let conc = c .concentration .ensures in

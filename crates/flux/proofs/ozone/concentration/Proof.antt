@@ -20,12 +20,12 @@ mul-rounded-2 c = product-fits (search needs) (search needs)
 
 returns : tie.Need-returns
 returns c =
-    let is = ozone-facts (c .before .before .before .args .h) .plain _ (c .enum-told .given .1) in
-    (sym (is .0), sym (is .1))
+    let is = ozone-facts (c .before .before .before .args .h) .plain _ (c .before .enum-told .given .1) in
+    (c .plain .ensures .0 ∙ sym (is .0), c .plain .ensures .1 ∙ sym (is .1))
 
 returns-2 : tie.Need-returns-2
 returns-2 c =
-    let start = c .before .before .before .before .before in
+    let start = c .before .before .before .before in
     let h = start .args .h in
     let air = c .before .before .air .given in
     let of : ℕ → Frac = λ t. (4000000000 * h .ozone * air .0 .1 .0) over (92383 * (2 * t + 4463)) in (
@@ -33,13 +33,17 @@ returns-2 c =
       c .rounded .ensures .1 ∙ ap (λ t. roundUp (of t)) (start .pre) ∙ sym (pressed-up h _ _ (air .1)),
     )
 
+returns-3 : tie.Need-returns-3
+returns-3 c =
+    let is = ozone-facts (c .before .before .before .args .h) .humid _ (c .before .enum-told2 .given .1) in
+    (c .plain2 .ensures .0 ∙ sym (is .0), c .plain2 .ensures .1 ∙ sym (is .1))
+
 pub concentration-spec : {M : Type 1} → statement M
 concentration-spec =
     tie.close
     (tie.spec
     (λ c. search needs)
-    (λ c. search needs)
-    (λ c. search needs)
+    (λ c κs. search needs)
     (λ c. search needs)
     (λ c. search needs)
     (λ c. search needs)
@@ -49,5 +53,8 @@ concentration-spec =
     (λ c. search needs)
     (λ c. search needs)
     (λ c κs. search needs)
+    (λ c. search needs)
+    (λ c κs. search needs)
     returns
-    returns-2)
+    returns-2
+    returns-3)

@@ -4,7 +4,7 @@ use Rattle.flux.proofs.share.opening_low.Statement.{statement}
 use Rattle.flux.proofs.share.opening_low.Tie as tie
 
 returns : tie.Need-returns
-returns c = rw (c .at-least .ensures, c .before .times-down2 .ensures .0, c .before .before .times-down .ensures .0)
+returns c = rw (c .at-least .ensures, c .before .times-down .ensures .0, c .before .before .deficit-down .ensures .0)
 
 pub opening-low-spec : {M : Type 1} → statement M
 opening-low-spec =

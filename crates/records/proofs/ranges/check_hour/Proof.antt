@@ -7,7 +7,7 @@ use borrow.Author.Needs.{needs}
 use lib.Dec.{ltb}
 use Rattle.records.specs.Answers.{Outcome, accepted, field}
 use Rattle.records.specs.Temperature.{temperatureOut}
-use Rattle.records.specs.Ranges.{deficitOut, pressureOut, hourChecked}
+use Rattle.records.specs.Ranges.{vapourOut, pressureOut, hourChecked}
 use Rattle.records.specs.declared.Hour.{Hour}
 use Rattle.records.proofs.SignedLaws.{at-plain}
 use Rattle.records.proofs.ranges.check_hour.Statement.{statement}
@@ -19,7 +19,7 @@ module _ (out : Bool) where
   from6 h = field 6 (ltb 6000 (h .wind)) (field 7 out (field 8 (pressureOut (h .air)) (accepted tt)))
 
   abbrev from5 : Hour → Outcome Unit
-  from5 h = field 5 (deficitOut (h .air)) (from6 h)
+  from5 h = field 5 (vapourOut (h .air)) (from6 h)
 
   abbrev from4 : Hour → Outcome Unit
   from4 h = field 4 (temperatureOut (h .temperature)) (from5 h)
@@ -66,11 +66,11 @@ out c = unfit (c .before .before .before)
 past4 : (c : tie.Else4) → from5 (out c) (hour₄ (c .before)) ≡ hourChecked (out c) (hour₄ (c .before))
 past4 c = rw (← past3 (c .before .before .before)) (simp (sym (answer (c .before)) ∙ c .if4 .left))
 
-deficit-out-requires : tie.Need-deficit-out-requires
-deficit-out-requires c κs = search needs
+vapour-out-requires : tie.Need-vapour-out-requires
+vapour-out-requires c κs = search needs
 
 returns-5 : tie.Need-returns-5
-returns-5 c = let e = c .before .before in rw (← past4 e) (simp (sym (c .before .deficit-out .ensures) ∙ c .if5 .taken))
+returns-5 c = let e = c .before .before in rw (← past4 e) (simp (sym (c .before .vapour-out .ensures) ∙ c .if5 .taken))
 
 module _ (c : tie.Else5) where
   abbrev else4 : tie.Else4
@@ -80,7 +80,7 @@ module _ (c : tie.Else5) where
   hour₅ = hour₄ (else4 .before)
 
   past5 : from6 (out else4) hour₅ ≡ hourChecked (out else4) hour₅
-  past5 = rw (← past4 else4) (simp (sym (c .before .deficit-out .ensures) ∙ c .if5 .left))
+  past5 = rw (← past4 else4) (simp (sym (c .before .vapour-out .ensures) ∙ c .if5 .left))
 
 returns-6 : tie.Need-returns-6
 returns-6 c = let e = c .before .before in rw (← past5 e) (simp (lt-ltb 6000 (hour₅ e .wind) (omega arith)))
@@ -113,7 +113,7 @@ check-hour-spec =
     returns-3
     temperature-out-requires
     returns-4
-    deficit-out-requires
+    vapour-out-requires
     returns-5
     returns-6
     returns-7

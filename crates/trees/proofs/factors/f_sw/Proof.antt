@@ -10,4 +10,6 @@ unfolding soilWaterOf
 returns c = (rw (c .before .before .drier .ensures, c .before .drier2 .ensures) at (c .falling .ensures), factor-facts)
 
 pub f-sw-spec : {M : Type 1} → statement M
-f-sw-spec = tie.close (tie.spec (λ c κs. search needs) (λ c κs. search needs) (λ c κs. search needs) returns)
+f-sw-spec =
+    tie.close
+    (tie.spec (λ c κs. search needs) (λ c κs. search needs) (λ c. search needs) (λ c. search needs) (λ c κs. search needs) returns)

@@ -6,7 +6,7 @@ use Rattle.trees.proofs.factors.falling.Tie as tie
 
 returns : tie.Need-returns
 unfolding falling
-returns c = c .straight .ensures
+returns c = c .line .ensures
 
 pub falling-spec : {M : Type 1} → statement M
 falling-spec = tie.close (tie.spec (λ c κs. search needs) returns)

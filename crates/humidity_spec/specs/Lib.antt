@@ -1,0 +1,3 @@
+pub mod Vapour
+pub mod Pair
+pub mod Facts
