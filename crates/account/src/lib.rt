@@ -18,6 +18,7 @@ use frames::Header;
 use frames::Parsed;
 use frames::Raw;
 use frames::Refusal;
+pub use rows::kind_number;
 ghost use mathlib.Core.Path.{_≡_};
 ghost use Rattle.records.specs.Answers.{rowOf};
 ghost use Rattle.account_spec.specs.Account.{freshAccount};

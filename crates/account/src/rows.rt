@@ -34,7 +34,7 @@ fn out_of_turn(s: State, frame: Raw) -> bool
 }
 
 // The kind of the season's hour frames, 0 before the first.
-fn kind_number(kind: HourKind) -> u8
+pub fn kind_number(kind: HourKind) -> u8
     ensures { λ r. ⌜ r ≡ kindNumber kind ⌝ }
 {
     match kind {

@@ -15,7 +15,7 @@ use Rattle.account_spec.specs.declared.HourKind.the-variants.{None, Defi
 use Rattle.account_spec.specs.HourKinds.{hourKind, isMixed, kindOut}
 use Rattle.account_spec.specs.Book.{kindOfHours}
 
-some-kind : (air : Air) (n : ℕ) → kindOut (hourKind air) (suc n) ≡ false
+pub some-kind : (air : Air) (n : ℕ) → kindOut (hourKind air) (suc n) ≡ false
 some-kind (Air.Deficit d) n = ne-eqb (suc n) 0 (omega arith)
 some-kind (Air.Pressure d p) n = ne-eqb (suc n) 0 (omega arith)
 some-kind (Air.Humidity d) n = ne-eqb (suc n) 0 (omega arith)
@@ -26,7 +26,7 @@ kind-in (h ∷ hs) = some-kind (h .air) (length hs)
 
 -- ---- a case for each kind, by its number
 
-abbrev numbered : ℕ → HourKind
+abbrev pub numbered : ℕ → HourKind
 numbered n = getD (None ∷ None ∷ Deficit ∷ None ∷ Pressure ∷ Humidity ∷ []) n None
 
 kind-numbered : (air : Air) → hourKind air ≡ numbered (airKind air)

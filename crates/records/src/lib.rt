@@ -101,6 +101,7 @@ pub enum Refusal {
     Account,
     Place,
     Mixed,
+    Tried,
 }
 
 // The answer to a line by rows 1 to 3: its frame, or the row that refuses it.
@@ -127,7 +128,7 @@ pub enum Written {
     Refused(Refusal),
 }
 
-// A refusal's row, 1 to 15.
+// A refusal's row, 1 to 16.
 pub fn row_of(refusal: Refusal) -> u8
     ensures { λ r. ⌜ r ≡ rowOf «refusal» .0 ⌝ }
 {
@@ -147,6 +148,7 @@ pub fn row_of(refusal: Refusal) -> u8
         Refusal::Account => 13,
         Refusal::Place => 14,
         Refusal::Mixed => 15,
+        Refusal::Tried => 16,
     }
 }
 

@@ -1,0 +1,58 @@
+// When two accounts are the same: in every field, each nested one too (row 16).
+use account::Account;
+use account::Phase;
+use account::Season;
+use account::Sums;
+use account::kind_number;
+ghost use mathlib.Core.Path.{_≡_};
+ghost use Rattle.account_spec.specs.Account.{seasonNumbers, sumsNumbers};
+ghost use Rattle.trial_spec.specs.Same.{phaseNumber, sameNumbers, isSame};
+
+fn phase_number(phase: Phase) -> u8
+    ensures { λ r. ⌜ r ≡ phaseNumber phase ⌝ }
+{
+    match phase {
+        Phase::Fresh => 0,
+        Phase::Open => 1,
+        Phase::Closed => 2,
+    }
+}
+
+fn same_season(a: Season, b: Season) -> bool
+    ensures { λ r. ⌜ r ≡ sameNumbers (seasonNumbers a) (seasonNumbers b) ⌝ }
+{
+    let x = a.header;
+    let y = b.header;
+    (x.tree == y.tree)
+        & (x.days == y.days)
+        & (x.first == y.first)
+        & (x.last == y.last)
+        & (x.level == y.level)
+}
+
+fn same_sums(a: Sums, b: Sums) -> bool
+    ensures { λ r. ⌜ r ≡ sameNumbers (sumsNumbers a) (sumsNumbers b) ⌝ }
+{
+    (a.hours == b.hours)
+        & (a.counted == b.counted)
+        & (a.lower == b.lower)
+        & (a.upper == b.upper)
+        & (a.aot40 == b.aot40)
+}
+
+pub(crate) fn same(a: Account, b: Account) -> bool
+    ensures { λ r. ⌜ r ≡ isSame a b ⌝ }
+{
+    let phase = a.phase;
+    let other_phase = b.phase;
+    let season = a.season;
+    let other_season = b.season;
+    let kind = a.kind;
+    let other_kind = b.kind;
+    let sums = a.sums;
+    let other_sums = b.sums;
+    (phase_number(phase) == phase_number(other_phase))
+        & same_season(season, other_season)
+        & (kind_number(kind) == kind_number(other_kind))
+        & same_sums(sums, other_sums)
+}

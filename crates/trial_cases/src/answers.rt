@@ -1,0 +1,74 @@
+// Answers as words.
+use crate::fields::print_account;
+use account::Account;
+use account::Fed;
+use account::Reading;
+use account::Verdict;
+use cases::print;
+use cases::print_next;
+use cases::print_number;
+use frames::Refusal;
+use trial::Trial;
+
+fn print_refusal(refusal: Refusal) {
+    print(b"refused");
+    print_next(frames::row_of(refusal) as u64);
+    if let Refusal::Range(field) = refusal {
+        print_next(field as u64);
+    }
+}
+
+fn print_verdict(verdict: Verdict) {
+    match verdict {
+        Verdict::None => print(b" none"),
+        Verdict::Undecided => print(b" undecided"),
+        Verdict::Exceeded => print(b" exceeded"),
+        Verdict::Below => print(b" below"),
+    }
+}
+
+fn print_reading(reading: Reading) {
+    match reading {
+        Reading::Given(totals) => {
+            let sums = totals.sums;
+            let verdict = totals.verdict;
+            print_number(sums.hours as u64);
+            print_next(sums.counted as u64);
+            print_next(sums.lower);
+            print_next(sums.upper);
+            print_next(sums.aot40 as u64);
+            print_verdict(verdict);
+        },
+        Reading::Refused(refusal) => print_refusal(refusal),
+    }
+}
+
+// An answer and the account that it leaves, all its fields; then that account.
+pub(crate) fn print_fed(answer: Fed) -> Account {
+    let left = match answer {
+        Fed::Accepted(next) => {
+            print(b"accepted: ");
+            next
+        }
+        Fed::Refused(refusal, same) => {
+            print_refusal(refusal);
+            print(b": ");
+            same
+        }
+    };
+    print_account(left);
+    left
+}
+
+// The account tried, the answer with the account that would follow, the reading that would follow.
+pub(crate) fn print_trial(made: Trial) {
+    let tried = made.tried;
+    let answer = made.answer;
+    let reading = made.reading;
+    print_account(tried);
+    print(b": ");
+    print_fed(answer);
+    print(b": ");
+    print_reading(reading);
+    print(b"\n");
+}

@@ -1,0 +1,89 @@
+// An account's fields by their numbers: 0 phase (0 fresh, 1 open, 2 closed), 1 to 5 the header's in their order, 6 kind of its hours (0 none), 7 hours, 8 counted,
+// 9 lower, 10 upper, 11 AOT40.
+use account::Account;
+use account::HourKind;
+use account::Phase;
+use account::Season;
+use account::kind_number;
+use cases::print_next;
+use cases::print_number;
+use cases::u8_at;
+use cases::u16_at;
+use cases::u32_at;
+use cases::u64_at;
+
+fn phase_of(number: u8) -> Phase {
+    match number {
+        0 => Phase::Fresh,
+        1 => Phase::Open,
+        _ => Phase::Closed,
+    }
+}
+
+fn phase_number(phase: Phase) -> u64 {
+    match phase {
+        Phase::Fresh => 0,
+        Phase::Open => 1,
+        Phase::Closed => 2,
+    }
+}
+
+fn kind_of(number: u8) -> HourKind {
+    match number {
+        2 => HourKind::Deficit,
+        4 => HourKind::Pressure,
+        5 => HourKind::Humidity,
+        _ => HourKind::None,
+    }
+}
+
+// The account with one field anew: two digits are the field's number, the digits after them what it is to be, in the field's own width.
+pub(crate) fn with_field(a: Account, digits: &[u8]) -> Account {
+    let mut phase = a.phase;
+    let season = a.season;
+    let mut header = season.header;
+    let mut kind = a.kind;
+    let mut sums = a.sums;
+    match u8_at(digits, 0) {
+        0 => phase = phase_of(u8_at(digits, 2)),
+        1 => header.tree = u8_at(digits, 2),
+        2 => header.days = u16_at(digits, 2),
+        3 => header.first = u16_at(digits, 2),
+        4 => header.last = u16_at(digits, 2),
+        5 => header.level = u16_at(digits, 2),
+        6 => kind = kind_of(u8_at(digits, 2)),
+        7 => sums.hours = u16_at(digits, 2),
+        8 => sums.counted = u16_at(digits, 2),
+        9 => sums.lower = u64_at(digits, 2),
+        10 => sums.upper = u64_at(digits, 2),
+        11 => sums.aot40 = u32_at(digits, 2),
+        _ => {},
+    }
+    Account {
+        phase: phase,
+        season: Season { header: header },
+        kind: kind,
+        sums: sums,
+    }
+}
+
+// Every field, in the order of their numbers.
+pub(crate) fn print_account(a: Account) {
+    let phase = a.phase;
+    let season = a.season;
+    let header = season.header;
+    let kind = a.kind;
+    let sums = a.sums;
+    print_number(phase_number(phase));
+    print_next(header.tree as u64);
+    print_next(header.days as u64);
+    print_next(header.first as u64);
+    print_next(header.last as u64);
+    print_next(header.level as u64);
+    print_next(kind_number(kind) as u64);
+    print_next(sums.hours as u64);
+    print_next(sums.counted as u64);
+    print_next(sums.lower);
+    print_next(sums.upper);
+    print_next(sums.aot40 as u64);
+}

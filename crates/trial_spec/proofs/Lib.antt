@@ -1,0 +1,4 @@
+pub mod SameLaws
+pub mod NextLaws
+pub mod TakeLaws
+pub mod TrialLaws

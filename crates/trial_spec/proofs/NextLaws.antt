@@ -1,0 +1,81 @@
+-- An account that is possible stays possible: what an accepted line makes of it is possible too.
+use Prim.Native.Nat.{ℕ, suc, _+_}
+use mathlib.Core.Path.{_≡_, refl, sym, subst}
+use mathlib.Core.Bool.{false, false≢true}
+use mathlib.Core.List.{List, [], _∷_}
+use native.Mathlib.Omega.{arith}
+use borrow.Author.Tests.{eqb-false}
+use Rattle.records.specs.declared.Hour.{Hour}
+use Rattle.records.specs.declared.Record.{Record}
+use Rattle.records.specs.Answers.{accepted}
+use Rattle.records.specs.Period.{periodHours}
+use Rattle.records.proofs.AnswerLaws.{accepted-same, row-passed, onward-passed}
+use Rattle.account_spec.specs.declared.Season.{Season}
+use Rattle.account_spec.specs.declared.Sums.{Sums}
+use Rattle.account_spec.specs.declared.Account.{Account}
+use Rattle.account_spec.specs.Hours.{plus, standIn, Carried, hourSums, sumsOf}
+use Rattle.account_spec.specs.HourKinds.{hourKind, kindOut}
+use Rattle.account_spec.specs.Enclosed.{HasDose}
+use Rattle.account_spec.specs.Account.{impossible}
+use Rattle.account_spec.specs.Rules.{carriedIn, entered, stateOf, feedOf}
+use Rattle.account_spec.proofs.SumsLaws.{plus-none, hours-is}
+use Rattle.account_spec.proofs.HourLaws.{dosable-has}
+use Rattle.account_spec.proofs.EnclosedLaws.{hours-in}
+use Rattle.account_spec.proofs.PossibleLaws.{SumsIn, Possible, possible-is, possible-false}
+use Rattle.account_spec.proofs.KindLaws.{some-kind}
+use Rattle.account_spec.proofs.BookLaws.{TakenIn}
+use Rattle.account_spec.proofs.TurnLaws.{answer-taken}
+
+-- ---- sums that hours can give, added up
+
+plus-in : {season : Season} {s t : Sums} → SumsIn season s → SumsIn season t → SumsIn season (plus s t)
+plus-in p q = record { counted = omega arith; order = omega arith; most = omega arith; gap = omega arith; aot40 = omega arith }
+
+hour-in : (season : Season) (c : Carried) (h : Hour) → HasDose season h → SumsIn season (hourSums (standIn season) c h)
+unfolding sumsOf
+hour-in season c h has = subst (SumsIn season) (plus-none (hourSums (standIn season) c h)) (hours-in season c (h ∷ []) (has, tt))
+
+hour-one : (season : Season) (c : Carried) (h : Hour) → hourSums (standIn season) c h .hours ≡ 1
+unfolding sumsOf
+hour-one season c h = omega (arith, hours-is (standIn season) c (h ∷ []))
+
+-- ---- an accepted record
+
+entered-possible : (a : Account) (r : Record) → Possible a → TakenIn (stateOf a) r → Possible (entered a r)
+unfolding entered
+entered-possible a (Record.Header h) p t = record {
+  header = λ _. t .1;
+  hours = omega arith;
+  sums = record { counted = omega arith; order = omega arith; most = omega arith; gap = omega arith; aot40 = omega arith };
+  kind = refl;
+  blank = λ e. absurd (false≢true e);
+  given = λ e. absurd (false≢true e);
+}
+entered-possible a (Record.Hour h) p t =
+    let one = hour-one (a .season) (carriedIn a) h in
+    let next : a .sums .hours + hourSums (standIn (a .season)) (carriedIn a) h .hours ≡ suc (a .sums .hours) = omega (arith, one) in
+    record {
+      header = p .header;
+      hours = omega (arith, p .hours, one, eqb-false (a .sums .hours) (periodHours (a .season .header)) (t .1));
+      sums = plus-in (p .sums) (hour-in (a .season) (carriedIn a) h (dosable-has (a .season) h (t .2 (p .header (rw (t .0) refl)))));
+      kind = subst (λ (n : ℕ). kindOut (hourKind (h .air)) n ≡ false) (sym next) (some-kind (h .air) (a .sums .hours));
+      blank = λ e. absurd (false≢true (rw (t .0) at e));
+      given = λ e. absurd (false≢true (rw (t .0) at e));
+    }
+entered-possible a (Record.End e) p t = record {
+  header = λ _. p .header (rw (t .0) refl);
+  hours = p .hours;
+  sums = p .sums;
+  kind = p .kind;
+  blank = λ e. absurd (false≢true e);
+  given = λ _. t .1;
+}
+
+pub next-possible : (a b : Account) (l : List ℕ) → feedOf a l ≡ accepted b → impossible b ≡ false
+unfolding feedOf
+next-possible a b l e =
+    let possible = row-passed (impossible a) _ _ b e in
+    let passed = onward-passed _ _ b (possible .1) in
+    let takes = answer-taken (stateOf a) l (passed .0) (passed .1) in
+    subst (λ (x : Account). impossible x ≡ false) (accepted-same (passed .2))
+    (possible-false _ (entered-possible a (passed .0) (possible-is a (possible .0)) takes))

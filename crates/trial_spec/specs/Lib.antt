@@ -1,0 +1,4 @@
+pub mod Same
+pub mod Trial
+pub mod Taking
+pub mod Promise

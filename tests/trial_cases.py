@@ -1,0 +1,265 @@
+#!/usr/bin/env python3
+"""The commands for crates/trial_cases and what it must print, by the book of tests/account_cases.py and the words of W-206 alone.
+
+    python3 tests/trial_cases.py
+
+writes crates/trial_cases/stdin and stdout.
+
+Tried, taken, and taken a second time: every list of lines that tests/account_cases.py writes by hand, and lists drawn by lot. Forged: trials whose tried
+account, whose carried account or whose holder's account differs in one field, trials that carry each refusal, an impossible account, another
+reading; each field set to numbers on either side of what it was.
+"""
+
+from typing import NamedTuple, Optional
+
+import account_cases as book
+import vectors
+from account_cases import Account
+
+CRATE = vectors.REPOSITORY / "crates" / "trial_cases"
+DIGITS = tuple(max(2, digits) for digits in book.DIGITS)  # of an account's fields; a phase and a kind have two here
+ROWS = tuple((n,) for n in range(1, 17) if n != 10) + tuple((10, field) for field in range(1, 9))
+
+
+class Trial(NamedTuple):
+    tried: Account
+    row: Optional[tuple]  # the row that refuses the line; None where it is accepted
+    next: Account  # the account that would follow
+    reading: str
+
+
+def trial(account, line):
+    row, following = book.feed(account, line)
+    return Trial(account, row, following, book.reading(following))
+
+
+def take(account, held):
+    """The row that refuses it, or None; and the account that is left."""
+    if book.is_impossible(account):
+        return (13,), account
+    if account != held.tried:
+        return (16,), account
+    if held.row:
+        return held.row, account
+    if book.is_impossible(held.next):
+        return (13,), account
+    return None, held.next
+
+
+# ---- commands and answers
+
+
+def answer(row, account):
+    return (book.refused(row) if row else "accepted") + ": " + " ".join(str(n) for n in account)
+
+
+class Sheet:
+    """The commands so far, what they must print, and the account and the trial that they leave."""
+
+    def __init__(self):
+        self.commands, self.answers = [], []
+        self.account, self.trial = Account(), trial(Account(), b"")
+        self.tried, self.taken = set(), set()  # the rows that trials and takings gave
+
+    def command(self, letter, rest=b""):
+        self.commands.append(letter + rest + b"\n")
+
+    def fields(self, letter, old, new):
+        """A command for each field in which the new account is not the old one."""
+        for at, (was, is_now, digits) in enumerate(zip(old, new, DIGITS)):
+            if was != is_now:
+                self.command(letter, b"%02X%0*X" % (at, digits, is_now))
+
+    def hold(self, account):
+        self.fields(b"H", self.account, account)
+        self.account = account
+
+    def feed(self, line):
+        row, self.account = book.feed(self.account, line)
+        self.command(b"F", line)
+        self.answers.append(answer(row, self.account))
+
+    def attempt(self, line):
+        self.trial = held = trial(self.account, line)
+        self.command(b"T", line)
+        self.tried.add(held.row)
+        self.answers.append(" ".join(str(n) for n in held.tried) + ": " + answer(held.row, held.next) + ": " + held.reading)
+
+    def take(self):
+        row, self.account = take(self.account, self.trial)
+        self.command(b"K")
+        self.taken.add(row)
+        self.answers.append(answer(row, self.account))
+        return row
+
+    # a part of the trial that nothing made
+
+    def forge_tried(self, account):
+        self.fields(b"P", self.trial.tried, account)
+        self.trial = self.trial._replace(tried=account)
+
+    def forge_acceptance(self, account):
+        self.command(b"Q", b"FF")  # an acceptance, no field anew
+        self.fields(b"Q", self.trial.next, account)
+        self.trial = self.trial._replace(row=None, next=account)
+
+    def forge_refusal(self, row):
+        self.command(b"R", b"%02X%02X" % (row[0], row[-1]))
+        self.trial = self.trial._replace(row=row)
+
+    def forge_reading(self):
+        self.command(b"V")
+        self.trial = self.trial._replace(reading=book.refused((13,)))
+
+
+# ---- trials that were made
+
+
+def try_and_take(sheet, line):
+    """What taking gives is what feeding gives; taken twice it is row 16 unless nothing changed."""
+    before = sheet.account
+    sheet.attempt(line)
+    made = sheet.trial
+    assert sheet.account == before
+    row = sheet.take()
+    assert (row, sheet.account) == book.feed(before, line) and book.reading(sheet.account) == made.reading
+    again = sheet.take()
+    if not book.is_impossible(before):
+        assert again == ((16,) if sheet.account != before else made.row)
+
+
+def made_by_hand(sheet):
+    for lines in book.by_hand():
+        sheet.hold(Account())
+        for line in lines:
+            try_and_take(sheet, line)
+
+
+def made_by_lot(sheet, lot):
+    """Some lines are fed after the trial, which is then another account's unless they are refused."""
+    for _ in range(8):
+        sheet.hold(Account())
+        for _ in range(60):
+            line = book.some_line(lot, sheet.account)
+            if lot.below(4):
+                try_and_take(sheet, line)
+                continue
+            sheet.attempt(line)
+            sheet.feed(book.some_line(lot, sheet.account))
+            sheet.take()
+
+
+# ---- trials that nothing made
+
+def after(*lines):
+    """The account of a season so far."""
+    account = Account()
+    for line in lines:
+        row, account = book.feed(account, line)
+        assert row is None
+    return account
+
+
+def starts():
+    """An account and the line that it takes next: fresh, opened, after 13 hours of each kind, all given, of a long season; and a closed one, which takes none."""
+    header, hours, end = book.header_line(), list(book.day_lines()), book.end_line()
+    yield Account(), header
+    yield after(header), hours[0]
+    for kind in book.HOUR_KINDS:
+        day = list(book.day_lines(kind=kind))
+        yield after(header, *day[:13]), day[13]
+    yield after(header, *hours), end
+    yield after(header, *hours, end), end
+    yield book.YEAR, book.hour_line(day=209, hour=8, ppfd=500, radiation=400)
+
+
+def changes(account):
+    """The account with one field a step up or down, or at an end of its width, or of each other kind: each field in turn."""
+    for field, was, most in zip(Account._fields, account, book.WIDEST):
+        numbers = (book.NO_KIND, *book.HOUR_KINDS) if field == "kind" else (was + 1, was - 1, 0, most)
+        for n in dict.fromkeys(numbers):
+            if 0 <= n <= most and n != was:
+                yield account._replace(**{field: n})
+
+
+def forged_fields(sheet, account, line):
+    """The account tried, the account handed in, and the account carried, each field in turn."""
+    for other in changes(account):
+        sheet.hold(account)
+        sheet.attempt(line)
+        sheet.forge_tried(other)
+        sheet.take()
+        sheet.hold(other)
+        sheet.take()  # the forged trial taken with the account that it names
+        sheet.attempt(line)
+        sheet.hold(account)
+        sheet.take()
+    for other in changes(trial(account, line).next):
+        sheet.hold(account)
+        sheet.attempt(line)
+        sheet.forge_acceptance(other)
+        sheet.take()
+        sheet.take()
+
+
+def forged_answers(sheet, account, line):
+    """Each refusal, and an acceptance where the line is refused; the account unchanged, and with the reading spoilt."""
+    for row in ROWS:
+        sheet.hold(account)
+        sheet.attempt(line)
+        sheet.forge_refusal(row)
+        sheet.take()
+        sheet.hold(account._replace(level=account.level ^ 1))
+        sheet.take()
+    sheet.hold(account)
+    sheet.attempt(b"0104")
+    sheet.forge_acceptance(account)
+    sheet.take()
+    sheet.take()
+    sheet.attempt(line)
+    sheet.forge_reading()
+    sheet.take()
+
+
+def forged_by_lot(sheet, lot):
+    """Impossible accounts handed in, tried and carried, each with each."""
+    for _ in range(150):
+        account, carried = book.account_by_lot(lot), book.account_by_lot(lot)
+        sheet.hold(account)
+        sheet.attempt(book.some_line(lot, account))
+        if lot.below(2):
+            sheet.forge_acceptance(carried)
+        if lot.below(3) == 0:
+            sheet.forge_tried(lot.of((carried, sheet.trial.next)))
+        if lot.below(3) == 0:
+            sheet.hold(lot.of((carried, sheet.trial.tried, sheet.trial.next)))
+        sheet.take()
+        sheet.take()
+
+
+# ---- the whole
+
+
+def filled():
+    sheet = Sheet()
+    made_by_hand(sheet)
+    lot = book.Lot(16)
+    made_by_lot(sheet, lot)
+    for account, line in starts():
+        forged_fields(sheet, account, line)
+        forged_answers(sheet, account, line)
+    forged_by_lot(sheet, lot)
+    assert sheet.tried == book.ROWS and sheet.taken == {None, *ROWS}
+    return sheet
+
+
+def main():
+    sheet = filled()
+    commands = b"".join(sheet.commands)
+    assert len(commands) <= book.flux_cases.BUFFER
+    (CRATE / "stdin").write_bytes(commands)
+    (CRATE / "stdout").write_text("".join(text + "\n" for text in sheet.answers))
+
+
+if __name__ == "__main__":
+    main()
