@@ -1,5 +1,5 @@
 #!/usr/bin/env python3
-"""The commands for crates/frames_cases and what it must print, reckoned from document 01 ("Frames", "Tree table", "Turned-back lines") and document 02 (W-204, W-205) alone.
+"""The commands for crates/frames_cases and what it must print, reckoned from document 01 ("Frames", "Tree table", "Turned-back lines") and document 02 (W-204, W-205, W-207) alone.
 
     python3 tests/frames_cases.py
 
@@ -15,15 +15,16 @@ BUFFER = 2097152  # bytes that the program reads
 DIGITS = b"0123456789ABCDEF"
 RAMPS = {1: 20 + 30, 2: 20 + 30, 3: 0, 4: 20 + 20, 5: 15 + 20, 6: 0}  # f1 + f4 of each tree, in days
 WATER, SUCTION = (1, 2), (3, 4, 5, 6)  # trees by their soil measure
-LENGTHS = {1: 20, 2: 36, 3: 6, 4: 40, 5: 36}  # digits of a line of each kind
+LENGTHS = {1: 20, 2: 36, 3: 6, 4: 40, 5: 36, 6: 6}  # digits of a line of each kind
 HOUR_WIDTHS = (2, 1, 2, 2, 2, 2, 2, 2, 2)
-WIDTHS = {1: (1, 2, 2, 2, 2), 2: HOUR_WIDTHS, 3: (2,), 4: (*HOUR_WIDTHS, 2), 5: HOUR_WIDTHS}  # bytes of the fields after the kind
+WIDTHS = {1: (1, 2, 2, 2, 2), 2: HOUR_WIDTHS, 3: (2,), 4: (*HOUR_WIDTHS, 2), 5: HOUR_WIDTHS, 6: (2,)}  # bytes of the fields after the kind
 
 # A record is a tuple: (1, tree, days, first, last, level), (3, hours), (2, day, hour, ozone, ppfd, radiation, temperature, vpd, wind, measure, soil),
-# (4, the same fields, pressure), or (5, the fields of 2 with humidity where vpd stands).
+# (4, the same fields, pressure), (5, the fields of 2 with humidity where vpd stands), or (6, ozone ceiling). An hour's ozone is a number or MISSING.
 # An answer is a record, a number of bytes, or a refusal: ("row", N) or ("row", 10, "field", F).
-HEADER_KIND, HOUR_KIND, END_KIND, PRESSURE_KIND, HUMIDITY_KIND = 1, 2, 3, 4, 5
+HEADER_KIND, HOUR_KIND, END_KIND, PRESSURE_KIND, HUMIDITY_KIND, CEILING_KIND = 1, 2, 3, 4, 5, 6
 HOUR_KINDS = (HOUR_KIND, PRESSURE_KIND, HUMIDITY_KIND)
+MISSING, FFFF = "missing", 65535
 
 
 def row(n):
@@ -31,7 +32,7 @@ def row(n):
 
 
 def refusal_of(record):
-    """Rows 5 to 8 for a header, row 10 for an hour; None where none holds."""
+    """Rows 5 to 8 for a header, row 10 for an hour, row 17 for a ceiling; None where none holds."""
     if record[0] == HEADER_KIND:
         _, tree, days, first, last, level = record
         if tree not in RAMPS:
@@ -48,8 +49,10 @@ def refusal_of(record):
         limits = ((0, 5000), (0, 3000), (0, 1500), (-500, 600), (0, vapour), (0, 6000), (0, most), (5000, 11000))
         readings = record[3:9] + record[10:]  # the last limit is for kind 04, which has one reading more
         for field, (reading, (low, high)) in enumerate(zip(readings, limits), start=1):
-            if not low <= reading <= high:
+            if reading != MISSING and not low <= reading <= high:
                 return ("row", 10, "field", field)
+    if record[0] == CEILING_KIND and not 1 <= record[1] <= 5000:
+        return row(17)
     return None
 
 
@@ -69,13 +72,15 @@ def parse(line):
     return tuple(numbers)
 
 
-def record_of(tree, kind, *numbers):
-    """The record that a frame's numbers say, its soil in the tree's measure."""
+def record_of(tree, kind, *numbers, numeric=False):
+    """The record that a frame's numbers say, its soil in the tree's measure; where `numeric`, an ozone of FFFF is a number."""
     if kind not in HOUR_KINDS:
         return (kind, *numbers)
     day, hour, ozone, ppfd, radiation, temperature, vapour, wind, soil, *pressure = numbers
     signed = temperature - 65536 if temperature >= 32768 else temperature
     measure = "water" if tree in WATER else "suction"
+    if ozone == FFFF and not numeric:
+        ozone = MISSING
     return (kind, day, hour, ozone, ppfd, radiation, signed, vapour, wind, measure, soil, *pressure)
 
 
@@ -91,7 +96,7 @@ def read(tree, line):
 
 
 def line_of(record):
-    numbers = [n for n in record[1:] if not isinstance(n, str)]
+    numbers = [FFFF if n == MISSING else n for n in record[1:] if n not in ("suction", "water")]
     text = "%02X" % record[0]
     for n, width in zip(numbers, WIDTHS[record[0]]):
         text += "%0*X" % (2 * width, n % 256**width)
@@ -99,7 +104,7 @@ def line_of(record):
 
 
 def write(record, room):
-    """Rows 5 to 8 or 10, then 12; else the number of bytes of the line."""
+    """Rows 5 to 8, 10 or 17, then 12; else the number of bytes of the line."""
     refused = refusal_of(record)
     if refused:
         return refused
@@ -112,10 +117,10 @@ def words(answer):
 
 
 def mark(answer):
-    """One character: `.` read, `1` to `8` the row, `a` to `h` row 10 with field 1 to 8."""
+    """One character: `.` read, `1` to `8` the row, `A` row 17, `a` to `h` row 10 with field 1 to 8."""
     if answer[0] != "row":
         return "."
-    return "abcdefgh"[answer[3] - 1] if answer[1] == 10 else str(answer[1])
+    return "abcdefgh"[answer[3] - 1] if answer[1] == 10 else "A" if answer[1] == 17 else str(answer[1])
 
 
 # ---- commands, each with its answer
@@ -137,12 +142,13 @@ def change(tree, place, line):
     return command(ord("C"), tree, place, line, "".join(marks))
 
 
-def writing(tree, line, room=ROOM):
+def writing(tree, line, room=ROOM, numeric=False):
     """Rows 1 to 3; else the frame's record, its own rows, what writing it into the first `room` bytes answers, and then the whole buffer."""
+    letter = ord("T" if numeric else "W")
     frame = parse(line)
     if frame[0] == "row":
-        return command(ord("W"), tree, room, line, words(frame))
-    record = record_of(tree, *frame)
+        return command(letter, tree, room, line, words(frame))
+    record = record_of(tree, *frame, numeric=numeric)
     checked = refusal_of(record) or ("sound",)
     answer = write(record, room)
     written = b""
@@ -151,7 +157,7 @@ def writing(tree, line, room=ROOM):
         assert len(written) == answer
         answer = (written.decode(), *read(tree, written))
     buffer = written + b"." * (ROOM - len(written))
-    return command(ord("W"), tree, room, line, words((*record, *checked, *answer, buffer.decode())))
+    return command(letter, tree, room, line, words((*record, *checked, *answer, buffer.decode())))
 
 
 def writing_of(record, room=ROOM, tree=None):
@@ -159,8 +165,9 @@ def writing_of(record, room=ROOM, tree=None):
     if tree is None:
         tree = WATER[0] if "water" in record else SUCTION[-1]
     line = line_of(record)
-    assert record_of(tree, *parse(line)) == record
-    return writing(tree, line, room)
+    numeric = record[0] in HOUR_KINDS and record[3] == FFFF
+    assert record_of(tree, *parse(line), numeric=numeric) == record
+    return writing(tree, line, room, numeric)
 
 
 # ---- the cases
@@ -172,6 +179,12 @@ NOON = b"0200010C01F401F4019000E603E8012C03E8"
 END = b"030018"
 MOUNTAIN = b"0400010C01F401F4019000E603E8012C03E81B58"  # 700.0 hPa
 HUMID = b"0500010C01F401F4019000E60258012C03E8"  # 60.0 %
+CEILING = b"060320"  # 80.0 ppb
+MISSING_HOURS = (  # NOON, MOUNTAIN and HUMID without ozone
+    b"0200010CFFFF01F4019000E603E8012C03E8",
+    b"0400010CFFFF01F4019000E603E8012C03E81B58",
+    b"0500010CFFFF01F4019000E60258012C03E8",
+)
 EXAMPLES = (
     b"0104",
     b"03001g",
@@ -219,6 +232,19 @@ EXAMPLES = (
     b"0500010C01F401F4019002580258012C03E8",
     b"0500010C01F401F4019002590258012C03E8",
     b"05FFFFFF01F401F4019000E60258012C03E8",
+    CEILING,
+    b"060000",
+    b"060001",
+    b"061388",
+    b"061389",
+    b"06FFFF",
+    *MISSING_HOURS,
+    b"0200010CFFFE01F4019000E603E8012C03E8",
+    b"0400010CFFFE01F4019000E603E8012C03E81B58",
+    b"0500010CFFFE01F4019000E60258012C03E8",
+    b"0200010CFFFFFFFF019000E603E8012C03E8",
+    b"0400010CFFFF01F4019000E603E8012C03E81387",
+    b"0500010CFFFF01F4019000E603E9012C03E8",
 )
 
 
@@ -244,6 +270,10 @@ def end(hours):
     return (END_KIND, hours)
 
 
+def ceiling(ozone):
+    return (CEILING_KIND, ozone)
+
+
 def examples():
     yield from (reading(6, line) for line in EXAMPLES)
     # the given tree matters for an hour frame only
@@ -253,12 +283,14 @@ def examples():
     yield reading(2, b"0200010001F40000000000E603E8012C03E9")
     yield reading(3, b"0200010001F40000000000E603E8012C03E9")
     yield writing_of(end(24), 5)
-    yield from (reading(tree, line) for line in (MOUNTAIN, HUMID) for tree in (*range(9), 255))
+    for line in (MOUNTAIN, HUMID, *MISSING_HOURS, CEILING):
+        yield from (reading(tree, line) for tree in (*range(9), 255))
+    yield from (writing(tree, line) for line in (*MISSING_HOURS, CEILING) for tree in RAMPS)
 
 
 def confused():
     """Lines with the length of another kind, or with another kind's number."""
-    for line in (EVERGREEN, HOUR, END, MOUNTAIN, HUMID):
+    for line in (EVERGREEN, HOUR, END, MOUNTAIN, HUMID, CEILING, *MISSING_HOURS):
         for kind in range(10):
             yield reading(6, b"%02X" % kind + line[2:])
             yield writing(6, b"%02X" % kind + line[2:])
@@ -295,15 +327,17 @@ def frames():
 
 
 def lengths():
-    for line in (EVERGREEN, HOUR, END, MOUNTAIN, HUMID):
+    for line in (EVERGREEN, HOUR, END, MOUNTAIN, HUMID, CEILING):
         text = (line + b"0123456789ABCDEF" * 5)[:80]
         yield from (reading(6, text[:n]) for n in range(81))
 
 
 def changes():
     some = [(tree, HOUR) for tree in (6, 1, 0, 7, 255)] + [(tree, line) for line in (MOUNTAIN, HUMID) for tree in (6, 1, 7)]
-    for tree, line in ((6, BEECH), *some, (6, END)):
+    for tree, line in ((6, BEECH), *some, (6, END), (6, CEILING), (0, CEILING), (6, b"061388")):
         yield from (change(tree, place, line) for place in range(len(line)))
+    # the digits of ozone
+    yield from (change(tree, place, line) for line in MISSING_HOURS for tree in (6, 1, 7) for place in range(8, 12))
 
 
 def buffers():
@@ -316,6 +350,10 @@ def buffers():
         mountain(7000, 500, 1200, 600, -205, 1100, 250, "water", 300),
         humid(500, 1200, 600, -205, 600, 250, "suction", 300),
         humid(500, 1200, 600, -205, 600, 250, "water", 300),
+        ceiling(800),
+        hour(MISSING, 1200, 600, -205, 1100, 250, "suction", 300),
+        mountain(7000, MISSING, 1200, 600, -205, 1100, 250, "suction", 300),
+        humid(MISSING, 1200, 600, -205, 600, 250, "water", 300),
     ):
         yield from (writing_of(record, room) for room in range(ROOM + 1))
 
@@ -343,7 +381,9 @@ def header_edges():
 
 def hour_edges():
     yield hour(5001, 1200, 600, 205, 1100, 250, "suction", 300)
-    yield hour(65535, 1200, 600, 205, 1100, 250, "suction", 300)
+    yield hour(65534, 1200, 600, 205, 1100, 250, "suction", 300)
+    yield hour(FFFF, 1200, 600, 205, 1100, 250, "suction", 300)
+    yield hour(FFFF, 1200, 600, 205, 1100, 250, "water", 300)
     yield hour(500, 3001, 600, 205, 1100, 250, "suction", 300)
     yield hour(500, 65535, 600, 205, 1100, 250, "suction", 300)
     yield hour(500, 1200, 1501, 205, 1100, 250, "suction", 300)
@@ -364,6 +404,13 @@ def hour_edges():
     yield hour(5000, 3000, 1500, -500, 10001, 6001, "water", 1001)
     yield hour(5000, 3000, 1500, -500, 10000, 6001, "water", 1001)
     yield hour(5000, 3000, 1500, -500, 10000, 6000, "water", 1001)
+    # missing ozone, and the first field after it that is out
+    yield hour(MISSING, 3001, 1501, 601, 10001, 6001, "suction", 10001)
+    yield hour(MISSING, 3000, 1501, 601, 10001, 6001, "suction", 10001)
+    yield hour(MISSING, 3000, 1500, -501, 10001, 6001, "water", 1001)
+    yield hour(MISSING, 3000, 1500, -500, 10001, 6001, "water", 1001)
+    yield hour(MISSING, 3000, 1500, -500, 10000, 6001, "water", 1001)
+    yield hour(MISSING, 3000, 1500, -500, 10000, 6000, "water", 1001)
 
 
 def pressure_edges():
@@ -391,14 +438,21 @@ def humidity_edges():
             yield humid(500, 1200, 600, 205, humidity, 250, measure, 300)
 
 
+def ceiling_edges():
+    return (ceiling(ozone) for ozone in (0, 1, 4999, 5000, 5001, 32768, FFFF))
+
+
 def edges():
-    for record in (*header_edges(), *hour_edges(), *pressure_edges(), *humidity_edges()):
+    for record in (*header_edges(), *hour_edges(), *pressure_edges(), *humidity_edges(), *ceiling_edges()):
         yield writing_of(record, 0)
         yield writing_of(record)
+    # a record of any other line is the same where FFFF is a number
+    for line in (EVERGREEN, HOUR, END, MOUNTAIN, HUMID, CEILING, b"06FFFF"):
+        yield writing(6, line, numeric=True)
 
 
 def hour_trips(measure, most):
-    yield from (hour(ozone, 1200, 600, 205, 1100, 250, measure, 300) for ozone in (0, 5000))
+    yield from (hour(ozone, 1200, 600, 205, 1100, 250, measure, 300) for ozone in (0, 5000, MISSING))
     yield from (hour(500, ppfd, 600, 205, 1100, 250, measure, 300) for ppfd in (0, 3000))
     yield from (hour(500, 1200, radiation, 205, 1100, 250, measure, 300) for radiation in (0, 1500))
     yield from (hour(500, 1200, 600, t, 1100, 250, measure, 300) for t in (-500, -1, 0, 600))
@@ -407,6 +461,8 @@ def hour_trips(measure, most):
     yield from (hour(500, 1200, 600, 205, 1100, 250, measure, soil) for soil in (0, most))
     yield hour(0, 0, 0, -500, 0, 0, measure, 0, day=0, clock=0)
     yield hour(5000, 3000, 1500, 600, 10000, 6000, measure, most, day=65535, clock=255)
+    yield hour(MISSING, 0, 0, -500, 0, 0, measure, 0, day=0, clock=0)
+    yield hour(MISSING, 3000, 1500, 600, 10000, 6000, measure, most, day=65535, clock=255)
 
 
 def pressure_trips(measure, most):
@@ -444,6 +500,9 @@ def trips():
         end(24),
         end(8784),
         end(65535),
+        ceiling(1),
+        ceiling(800),
+        ceiling(5000),
     ):
         yield from (trip(record, tree) for tree in range(8))
     for trips_of in (hour_trips, pressure_trips, humidity_trips):

@@ -1,5 +1,5 @@
 #!/usr/bin/env python3
-"""The mean of upper - lower over the counted hours whose upper number is not 0, for each season text and over all of them.
+"""The mean of upper - lower over the counted hours with ozone whose upper number is not 0, for each season text and over all of them.
 
     python3 tests/hour_gaps.py SEASON..
 
@@ -15,9 +15,9 @@ from report_cases import hours_of
 
 
 def gaps(path):
-    """The gaps of a season's counted hours with a dose, and the sums of their lower and of their upper numbers."""
-    (tree, _, first, last, _), hours = hours_of(Path(path).read_bytes())
-    pairs = [pair_of(TREES[tree], first, last, hour) for hour in hours if hour.is_counted]
+    """The gaps of a season's counted hours with ozone and a dose, and the sums of their lower and of their upper numbers: no ceiling bears on them."""
+    (tree, _, first, last, _), _, hours = hours_of(Path(path).read_bytes())
+    pairs = [pair_of(TREES[tree], first, last, 0, hour) for hour in hours if hour.is_counted and hour.ozone is not None]
     return [upper - lower for lower, upper in pairs if upper > 0], sum(low for low, _ in pairs), sum(up for _, up in pairs)
 
 

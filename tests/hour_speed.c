@@ -1,5 +1,6 @@
 // Times the hour's pair, proved in crates/flux, against the same formulas with doubles (tests/bench/doubles.h), over the counted hours of a season text
-// (document 01, "Factors" and "Frames"; document 02, W-204): the least of 600 runs each, by turns. Built and run by hour_speed.sh.
+// (document 01, "Factors" and "Frames"; document 02, W-204, W-207): the least of 600 runs each, by turns; the doubles read a missing ozone as the ceiling.
+// Built and run by hour_speed.sh.
 //
 //   hour_speed SEASON
 #include "bench/doubles.h"
@@ -21,7 +22,8 @@ struct hours {
 static struct hours hours;
 
 // Proved: the sum of both numbers of every hour's pair.
-uint64_t pairs(uint8_t tree, uint8_t kind, uint16_t first, uint16_t last, const uint16_t *fields, size_t n, const int16_t *temperatures, size_t m);
+uint64_t pairs(uint8_t tree, uint8_t kind, uint16_t first, uint16_t last, uint16_t ceiling, const uint16_t *fields, size_t n, const int16_t *temperatures,
+               size_t m);
 
 static double doses(const struct hours *h) {
     double sum = 0;
@@ -43,6 +45,7 @@ static void add_hour(const char *line) {
     int fields = hours.header.kind == 4 ? FIELDS : FIELDS - 1;
     for (int i = 0; i < fields; i++) r[i < 5 ? i : i + 1] = h[i] = (uint16_t)number(line, places[i], i == 1 ? 2 : 4);
     r[5] = hours.temperatures[hours.n] = (int16_t)number(line, 20, 4);
+    if (r[2] == MISSING) r[2] = hours.header.ceiling;
     hours.n++;
 }
 
@@ -54,6 +57,8 @@ static void read_season(FILE *text) {
             hours.header.tree = (int)number(line, 2, 2);
             hours.header.first = (int)number(line, 8, 4);
             hours.header.last = (int)number(line, 12, 4);
+        } else if (kind == 6) {
+            hours.header.ceiling = (int)number(line, 2, 4);
         } else if (kind != 3 && hours.n < MOST && number(line, 16, 4) > 50) {
             hours.header.kind = kind;
             add_hour(line);
@@ -76,7 +81,8 @@ int main(int count, char **words) {
     uint64_t both = 0;
     for (int run = 0; run < RUNS; run++) {
         double a = now();
-        both = pairs((uint8_t)s->tree, (uint8_t)s->kind, (uint16_t)s->first, (uint16_t)s->last, hours.fields, FIELDS * hours.n, hours.temperatures, hours.n);
+        both = pairs((uint8_t)s->tree, (uint8_t)s->kind, (uint16_t)s->first, (uint16_t)s->last, (uint16_t)s->ceiling, hours.fields, FIELDS * hours.n,
+                     hours.temperatures, hours.n);
         double b = now();
         sum = doses(&hours);
         double c = now();

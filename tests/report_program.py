@@ -17,15 +17,16 @@ from pathlib import Path
 
 import report_cases
 import vectors
-from account_cases import end_line, header_line, hour_line
+from account_cases import Lot, ceiling_line, end_line, header_line, hour_line
 from paper import HOUR_KINDS
 from vectors import REPOSITORY
 
 PROGRAM = REPOSITORY / "target" / "bin" / "pod1"
 SCRIPT = REPOSITORY / "pod1"
 TIME = Path("/usr/bin/time")
-LEAP_YEAR = {2: 325036, 4: 360172, 5: 325036}  # bytes of a leap year's text, by the kind of its hours; no accepted text exceeds the greatest
-TAKEN = 360448  # bytes that the program reads; the first 360,267 decide any report
+LEAP_YEAR = {2: 325036, 4: 360172, 5: 325036}  # bytes of a leap year's text, by the kind of its hours
+LONGEST = 360179  # the same with a ceiling; no accepted text exceeds it
+TAKEN = 360448  # bytes that the program reads; the longest text and 41 more decide any report
 MOST_MEMORY = 4096  # KiB
 SECONDS = 30  # for a run to end
 
@@ -59,6 +60,15 @@ def leap_years():
     return years
 
 
+def longest_year():
+    """A leap year of kind 04 with a ceiling, ozone missing at noon: the longest text that is accepted."""
+    header, *lines = leap_year(4)
+    at_noon = (line[:8] + b"FFFF" + line[12:] if line[6:8] == b"0C" else line for line in lines)
+    year = report_cases.text_of([header, ceiling_line(5000), *at_noon])
+    assert len(year) == LONGEST and not report_cases.report(year).startswith(b"refused")
+    return year
+
+
 def odd_texts(day, year):
     """Texts on the edges of what a line is."""
     yield "empty", b""
@@ -76,6 +86,7 @@ def odd_texts(day, year):
     yield "leap year", year
     yield "leap year without its last line feed", year[:-1]
     yield "leap year twice", year + year
+    yield "leap year with its ceiling again at its end", year + ceiling_line(5000)
 
 
 def cut_texts(day):
@@ -107,7 +118,8 @@ def padded(text, line, size):
 
 def border_texts(year):
     """Sizes around what the program takes, and around the longest season."""
-    lines = (b"\n", b"A\n", b"A", end_line(8784) + b"\n", *(hour_line(kind=kind) + b"\n" for kind in HOUR_KINDS), header_line() + b"\n")
+    hours = (hour_line(kind=kind) + b"\n" for kind in HOUR_KINDS)
+    lines = (b"\n", b"A\n", b"A", end_line(8784) + b"\n", ceiling_line() + b"\n", *hours, header_line() + b"\n")
     for size in (TAKEN - 1, TAKEN, TAKEN + 1):
         for line in lines:
             yield f"leap year and {line!r} to {size} bytes", padded(year, line, size)
@@ -146,6 +158,16 @@ def try_file(path):
         same(path.name, run([PROGRAM], stdin=file), (report_cases.report(text), b"", 0))
     if text.endswith(b"\n"):
         try_text(f"{path.name} without its last line feed", text[:-1])
+
+
+def try_fillings():
+    """Seasons that lack ozone, and each filled with 0, with the ceiling and by lot."""
+    lot = Lot(6)
+    for text in report_cases.gap_seasons():
+        try_text(f"season {text[:20].decode()} without ozone", text)
+        for filling in report_cases.fillings(text, lot):
+            report_cases.hold_filling("a season by lot", text, filling)
+            try_text(f"season {text[:20].decode()} filled", filling)
 
 
 def pour(pipe, text, size):
@@ -246,8 +268,7 @@ def try_vectors(folder):
 
 def main():
     build()
-    day, years = report_cases.text_of(report_cases.day(True)), leap_years()
-    year = max(years.values(), key=len)
+    day, years, year = report_cases.text_of(report_cases.day(True)), leap_years(), longest_year()
     try_vectors(vectors.folder_of(sys.argv))
     named = [(f"leap year of kind {kind}", text) for kind, text in years.items()]
     for texts in (named, odd_texts(day, year), cut_texts(day), long_texts(day, year), border_texts(year)):
@@ -258,6 +279,7 @@ def main():
     seasons = *map(report_cases.text_of, report_cases.month_seasons()), *report_cases.mountain_seasons(), *report_cases.humid_seasons()
     for text in seasons:
         try_text(f"season {text[:20].decode()}", text)
+    try_fillings()
     try_pieces_of(day, year)
     try_folder(PROGRAM, b"", 0)
     try_closed(PROGRAM, b"", 0)

@@ -61,13 +61,13 @@ static struct text whole(const char *name)
 static int agree(const struct text *t)
 {
     struct season s = feed_all(t);
-    unsigned long long f[5];
-    for (uint64_t which = 0; which < 5; which++)
+    unsigned long long f[6];
+    for (uint64_t which = 0; which < 6; which++)
         f[which] = probe_all(t, which);
-    printf("account: %llu hours, %llu counted, POD1 %llu to %llu, AOT40 %llu\n", f[0], f[1], f[2], f[3], f[4]);
-    printf("C:       %d hours, %d counted, POD1 %.3f, AOT40 %u\n", s.hours, s.counted, s.pod, s.aot40);
-    int is_same = f[0] == (unsigned)s.hours && f[1] == (unsigned)s.counted && f[4] == s.aot40;
-    return s.phase == CLOSED && is_same && (double)f[2] <= s.pod && s.pod <= (double)f[3];
+    printf("account: %llu hours, %llu counted, POD1 %llu to %llu, AOT40 %llu to %llu\n", f[0], f[1], f[2], f[3], f[4], f[5]);
+    printf("C:       %d hours, %d counted, POD1 %.3f to %.3f, AOT40 %u to %u\n", s.hours, s.counted, s.pod[0], s.pod[1], s.aot40[0], s.aot40[1]);
+    int is_same = f[0] == (unsigned)s.hours && f[1] == (unsigned)s.counted && f[4] == s.aot40[0] && f[5] == s.aot40[1];
+    return s.phase == CLOSED && is_same && (double)f[2] <= s.pod[0] && s.pod[1] <= (double)f[3];
 }
 
 int main(int argc, char **argv)
@@ -84,7 +84,7 @@ int main(int argc, char **argv)
         double began = now();
         kept = probe_all(&t, 0);
         double middle = now();
-        kept = (uint64_t)feed_all(&t).pod;
+        kept = (uint64_t)feed_all(&t).pod[1];
         double ended = now();
         least_account = fmin(least_account, middle - began);
         least_c = fmin(least_c, ended - middle);

@@ -18,7 +18,7 @@ from account_cases import Account
 
 CRATE = vectors.REPOSITORY / "crates" / "trial_cases"
 DIGITS = tuple(max(2, digits) for digits in book.DIGITS)  # of an account's fields; a phase and a kind have two here
-ROWS = tuple((n,) for n in range(1, 17) if n != 10) + tuple((10, field) for field in range(1, 9))
+ROWS = tuple((n,) for n in range(1, 19) if n != 10) + tuple((10, field) for field in range(1, 9))
 
 
 class Trial(NamedTuple):
@@ -28,9 +28,16 @@ class Trial(NamedTuple):
     reading: str
 
 
+def reading(account):
+    """Every figure, hours to AOT40's upper, and the verdict."""
+    if book.is_impossible(account):
+        return book.refused((13,))
+    return " ".join(str(n) for n in account[account._fields.index("hours") :]) + " " + book.verdict(account)
+
+
 def trial(account, line):
     row, following = book.feed(account, line)
-    return Trial(account, row, following, book.reading(following))
+    return Trial(account, row, following, reading(following))
 
 
 def take(account, held):
@@ -122,7 +129,7 @@ def try_and_take(sheet, line):
     made = sheet.trial
     assert sheet.account == before
     row = sheet.take()
-    assert (row, sheet.account) == book.feed(before, line) and book.reading(sheet.account) == made.reading
+    assert (row, sheet.account) == book.feed(before, line) and reading(sheet.account) == made.reading
     again = sheet.take()
     if not book.is_impossible(before):
         assert again == ((16,) if sheet.account != before else made.row)
@@ -161,13 +168,19 @@ def after(*lines):
 
 
 def starts():
-    """An account and the line that it takes next: fresh, opened, after 13 hours of each kind, all given, of a long season; and a closed one, which takes none."""
-    header, hours, end = book.header_line(), list(book.day_lines()), book.end_line()
+    """An account and the line that it takes next: fresh, opened, with a ceiling, after 13 hours of each kind, some without ozone, all given, of a long season;
+    and a closed one, which takes none."""
+    header, ceiling, hours, end = book.header_line(), book.ceiling_line(), list(book.day_lines()), book.end_line()
     yield Account(), header
     yield after(header), hours[0]
+    yield after(header), ceiling
+    yield after(header, ceiling), hours[0]
     for kind in book.HOUR_KINDS:
         day = list(book.day_lines(kind=kind))
         yield after(header, *day[:13]), day[13]
+    day = list(book.day_lines(is_missing=book.GAPS["some"]))
+    yield after(header, ceiling, *day[:13]), day[13]
+    yield after(header, ceiling, *day[:12]), day[12]
     yield after(header, *hours), end
     yield after(header, *hours, end), end
     yield book.YEAR, book.hour_line(day=209, hour=8, ppfd=500, radiation=400)

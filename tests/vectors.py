@@ -4,15 +4,20 @@ from fractions import Fraction
 from pathlib import Path
 from typing import NamedTuple
 
+from paper import CEILING, DIGITS, END, MISSING, gap_allowed
+
 REPOSITORY = Path(__file__).resolve().parent.parent
-REQUESTS = ("W-204", "W-205")
+REQUESTS = {"W-204": 4, "W-205": 5, "W-207": 6}  # the newest kind that the answers in a request's folder know
 LONG = 13000  # bytes; of a request's texts from here on few are stored in a crate
 
 
 class Figures(NamedTuple):
     counted: int
-    dose: Fraction  # exact to 25 digits
-    aot40: int
+    missing: int  # counted hours without ozone
+    low: Fraction  # the dose with each missing ozone read as 0, exact to 25 digits
+    high: Fraction  # with each read as the ceiling
+    least: int  # AOT40 likewise
+    most: int
 
 
 class Season(NamedTuple):
@@ -34,26 +39,41 @@ def texts(folder):
 
 
 def figures_of(counted, missing, low, high, least, most):
-    assert missing == "0" and low == high and least == most
-    return Figures(int(counted), Fraction(low), int(least))
+    return Figures(int(counted), int(missing), Fraction(low), Fraction(high), int(least), int(most))
+
+
+def is_outdated(path, refusal):
+    """Whether its row is that of a line whose kind, or whose FFFF, was not known yet when the answer was given: row 3, or row 10."""
+    _, row, _, at = refusal.split()
+    lines = path.read_text(errors="replace").split("\n")
+    line = lines[int(at) - 1] if int(at) <= len(lines) else ""
+    newest = REQUESTS.get(path.parent.name, END)
+    if row == "3":
+        return any(line.startswith(f"{kind:02X}") and len(line) == digits for kind, digits in DIGITS.items() if kind > newest)
+    return row == "10" and newest < CEILING and line[8:12] == f"{MISSING:X}"
 
 
 def answer(path):
-    """The line of a text's refusal, or its season."""
+    """The line of a text's refusal, or its season; None where a later request changes the refusal's row."""
     season, *months = path.with_suffix(".expect").read_text().splitlines()
     words = season.split()
     if words[0] == "refused":
-        return season
+        return None if is_outdated(path, season) else season
     if len(words) == 6:
         hours, counted, dose, aot40, _, level = words
-        return Season(int(hours), int(level), Figures(int(counted), Fraction(dose), int(aot40)), {})
+        return Season(int(hours), int(level), figures_of(counted, 0, dose, dose, aot40, aot40), {})
     by_month = {int(month): figures_of(*rest) for month, *rest in (line.split() for line in months)}
     return Season(int(words[0]), int(words[8]), figures_of(*words[1:7]), by_month)
 
 
 def encloses(lower, upper, figures):
-    """The pair encloses the exact dose, at most 4 nmol m⁻² apart for each counted hour."""
-    return lower <= figures.dose <= upper <= lower + 4 * figures.counted
+    """The pair encloses the exact doses of every filling, no further apart than its hours allow, each end near to the dose that it is for."""
+    counted, missing, low, high, *_ = figures
+    return (
+        low - 4 * (counted - missing) <= lower <= low
+        and high <= upper <= high + 4 * counted
+        and upper - lower <= gap_allowed(counted, missing)
+    )
 
 
 def stored_texts(folder):

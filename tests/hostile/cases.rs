@@ -1,7 +1,7 @@
 //! The makers of cases: each makes a text by chance.
 
 use crate::damage::*;
-use crate::frames::NEWEST;
+use crate::frames::{CEILING, NEWEST};
 use crate::rng::Rng;
 use crate::season::*;
 use crate::turns::*;
@@ -13,7 +13,7 @@ enum Maker {
 }
 use Maker::{Chance, InTurn};
 
-const MAKERS: [(&str, Maker); 26] = [
+const MAKERS: [(&str, Maker); 29] = [
     ("weather", Chance(weather)),
     ("every reading", InTurn(every_reading)),
     ("every field", InTurn(every_field)),
@@ -40,12 +40,16 @@ const MAKERS: [(&str, Maker); 26] = [
     ("mixed kinds", Chance(mixed)),
     ("every mixture of kinds", InTurn(every_mixture)),
     ("every tenth of a degree", InTurn(every_tenth)),
+    ("missing ozone", Chance(missing)),
+    ("every ceiling", InTurn(every_ceiling)),
+    ("every gap", InTurn(every_gap)),
 ];
-/// The last ones need W-204's kind, or W-205's.
+/// The last ones need W-204's kind, W-205's or W-207's.
 const MAKERS_IN_USE: usize = match NEWEST {
     ..=3 => 23,
     4 => 25,
-    _ => 26,
+    5 => 26,
+    _ => 29,
 };
 
 /// A whole season instead, now and then.
@@ -141,11 +145,12 @@ fn damaged_few(rng: &mut Rng) -> Vec<u8> {
     let last = whole.len() - 1;
     let mut lines = vec![whole[0].clone(), whole[1].clone(), whole[2].clone(), whole[last].clone()];
     for _ in 0..rng.between(1, 2) {
-        match rng.below(5) {
+        match rng.below(6) {
             0 => wrong_length(rng, &mut lines),
             1 => wrong_digit(rng, &mut lines),
             2 => wrong_kind(rng, &mut lines),
             3 => wrong_hour(rng, &mut lines),
+            4 if NEWEST >= CEILING => wrong_ceiling(rng, &mut lines),
             _ => wrong_turn(rng, &mut lines),
         }
     }
@@ -196,6 +201,20 @@ fn mixed(rng: &mut Rng) -> Vec<u8> {
         other_kind(rng, &season, &mut lines);
     }
     text(rng, &lines)
+}
+
+/// A ceiling and hours without ozone; few hours counted, or the level near one end of the pair, now and then.
+fn missing(rng: &mut Rng) -> Vec<u8> {
+    let mut season = if rng.one_in(3) { season(rng) } else { short_season(rng) };
+    lose_ozone(rng, &mut season);
+    if rng.one_in(2) {
+        let days = [season.header.first, season.header.last];
+        few_lit(rng, &mut season, &days);
+    }
+    if rng.one_in(2) {
+        near_level(rng, &mut season);
+    }
+    season_text(rng, &season)
 }
 
 /// A growing season or a whole year, near the level or with corners; now and then with many lines after its end.

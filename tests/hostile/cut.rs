@@ -97,7 +97,7 @@ impl Cut<'_> {
     /// Drops days of a whole season at either end, with the header and the count changed to suit.
     fn drop_days(&mut self) {
         while self.is_season() {
-            let days = (lines(&self.text).len() - 2) / 24;
+            let days = lines(&self.text).len() / 24; // with the two or three other lines no more
             let sizes = std::iter::successors(Some(days / 2), |size| Some(size / 2)).take_while(|&size| size > 0);
             let candidates: Vec<Vec<u8>> = sizes.flat_map(|size| [self.days(size..days), self.days(0..days - size)]).collect();
             if !candidates.into_iter().any(|candidate| self.take(candidate)) {
@@ -113,11 +113,12 @@ impl Cut<'_> {
     /// The season's text with these of its days only.
     fn days(&self, kept: Range<usize>) -> Vec<u8> {
         let lines = lines(&self.text);
-        let (header, hours) = (lines[0], &lines[1 + 24 * kept.start..1 + 24 * kept.end]);
+        let (header, start) = (lines[0], if is_hour(lines[1]) { 1 } else { 2 });
+        let hours = &lines[start + 24 * kept.start..start + 24 * kept.end];
         let (first, last) = (&hours[0][2..6], &hours[hours.len() - 1][2..6]);
         let mut text = [&header[..8], first, last, &header[16..], b"\n"].concat();
-        for hour in hours {
-            text.extend_from_slice(hour);
+        for line in lines[1..start].iter().chain(hours) {
+            text.extend_from_slice(line);
             text.push(b'\n');
         }
         text.extend(format!("03{:04X}\n", hours.len()).bytes());

@@ -17,11 +17,18 @@ pub fn text(rng: &mut Rng, lines: &Lines) -> Vec<u8> {
     text
 }
 
+/// The last ones need a second hour kind, or a ceiling.
+const DAMAGES: usize = match NEWEST {
+    ..=3 => 8,
+    4 | 5 => 9,
+    _ => 11,
+};
+
 /// One to three damages of any kind.
 pub fn damage(rng: &mut Rng, season: &Season) -> Lines {
     let mut lines = season.lines();
     for _ in 0..rng.pick(&[1, 1, 1, 2, 3]) {
-        match rng.below(if HOUR_KINDS.len() > 1 { 9 } else { 8 }) {
+        match rng.below(DAMAGES) {
             0 => wrong_length(rng, &mut lines),
             1 => wrong_digit(rng, &mut lines),
             2 => wrong_kind(rng, &mut lines),
@@ -30,7 +37,9 @@ pub fn damage(rng: &mut Rng, season: &Season) -> Lines {
             5 => past_range(rng, season, &mut lines),
             6 => wrong_count(rng, &mut lines),
             7 => after_the_end(rng, season, &mut lines),
-            _ => other_kind(rng, season, &mut lines),
+            8 => other_kind(rng, season, &mut lines),
+            9 => wrong_ceiling(rng, &mut lines),
+            _ => lost_ozone(rng, &mut lines),
         }
     }
     lines
@@ -158,15 +167,37 @@ pub fn other_kind(rng: &mut Rng, season: &Season, lines: &mut Lines) {
     let kind = any_kind(rng);
     let readings = season.hours[n].as_kind(season.header.tree, kind);
     let line = hour_line(season.day(n), n as i64 % 24, &readings).into_bytes();
-    if rng.one_in(3) || n + 1 >= lines.len() {
+    if rng.one_in(3) || season.line_of(n) >= lines.len() {
         lines.insert(rng.below(lines.len() + 1), line);
     } else {
-        lines[n + 1] = line;
+        lines[season.line_of(n)] = line;
     }
 }
 
+/// A ceiling in range or not, put in at its place or elsewhere; or the one that is there lost or changed.
+pub fn wrong_ceiling(rng: &mut Rng, lines: &mut Lines) {
+    let odd = rng.pick(&[0, 5001, 0x7FFF, 0x8000, 0xFFFF]);
+    let ceiling = if rng.one_in(3) { odd } else { any_ceiling(rng) };
+    let line = ceiling_line(ceiling).into_bytes();
+    let has_one = lines.len() > 1 && lines[1].starts_with(b"06");
+    match rng.below(4) {
+        0 if has_one => lines[1] = line,
+        1 if has_one => {
+            lines.remove(1);
+        }
+        2 => lines.insert(lines.len().min(1), line),
+        _ => lines.insert(rng.below(lines.len() + 1), line),
+    }
+}
+
+/// An hour's ozone lost, under a ceiling or not; or the header's first day.
+fn lost_ozone(rng: &mut Rng, lines: &mut Lines) {
+    let at = rng.below(lines.len());
+    put(&mut lines[at], 8, "FFFF");
+}
+
 pub fn wrong_count(rng: &mut Rng, lines: &mut Lines) {
-    let hours = lines.len() as i64 - 2;
+    let hours = hours_in(lines);
     let count = match rng.below(4) {
         0 => hours - 1,
         1 => hours + 1,
@@ -182,20 +213,26 @@ pub fn wrong_count(rng: &mut Rng, lines: &mut Lines) {
     }
 }
 
+/// The lines that are as long as an hour frame.
+fn hours_in(lines: &[Vec<u8>]) -> i64 {
+    lines.iter().filter(|line| line.len() >= 36).count() as i64
+}
+
 /// An end frame before the last hour, its count right for its place or not.
 fn early_end(rng: &mut Rng, lines: &mut Lines) {
     let at = rng.below(lines.len());
-    let count = at as i64 - rng.pick(&[1, 1, 0, 2]);
+    let count = hours_in(&lines[..at]) + rng.pick(&[0, 0, 1, -1]);
     lines.insert(at, end_line(count).into_bytes());
 }
 
 pub fn after_the_end(rng: &mut Rng, season: &Season, lines: &mut Lines) {
-    let more = match rng.below(6) {
+    let more = match rng.below(7) {
         0 => vec![],
         1 => header_line(&season.header).into_bytes(),
         2 => hour_line(season.header.last + 1, 0, &season.hours[0]).into_bytes(),
         3 => end_line(season.hours.len() as i64).into_bytes(),
         4 => b" ".to_vec(),
+        5 => ceiling_line(any_ceiling(rng)).into_bytes(),
         _ => lines[rng.below(lines.len())].clone(),
     };
     lines.push(more);

@@ -1,13 +1,13 @@
-//! The kinds of frames (document 01, "Frames"; document 02, W-204 and W-205) and an hour's readings.
+//! The kinds of frames (document 01, "Frames"; document 02, W-204, W-205 and W-207) and an hour's readings.
 
 use crate::trees::tree;
 use std::ops::{Index, IndexMut};
 
-/// The newest kind that the program under test knows: 3 is document 01's, 4 that of W-204, 5 that of W-205.
-pub const NEWEST: i64 = 5;
+/// The newest kind that the program under test knows: 3 is document 01's, 4 that of W-204, 5 that of W-205, 6 that of W-207.
+pub const NEWEST: i64 = 6;
 
 /// Each kind and its digits.
-const FRAMES: [(i64, usize); 5] = [(1, 20), (2, 36), (3, 6), (4, 40), (5, 36)];
+const FRAMES: [(i64, usize); 6] = [(1, 20), (2, 36), (3, 6), (4, 40), (5, 36), (6, 6)];
 
 /// The kinds up to the newest, with their digits.
 pub fn frames(newest: i64) -> Vec<(i64, usize)> {
@@ -21,6 +21,9 @@ pub const HOUR_KINDS: &[i64] = match NEWEST {
     _ => &[2, 4, 5],
 };
 
+/// The kind of a ceiling frame.
+pub const CEILING: i64 = 6;
+
 pub const OZONE: usize = 0;
 pub const PPFD: usize = 1;
 pub const RADIATION: usize = 2;
@@ -32,6 +35,9 @@ pub const WIND: usize = 5;
 pub const SOIL: usize = 6;
 /// Kind 04's.
 pub const PRESSURE: usize = 7;
+
+/// Ozone FFFF: no reading (W-207).
+pub const MISSING: i64 = 0xFFFF;
 
 /// An hour's readings in the order of its frame.
 #[derive(Clone, Copy)]
@@ -47,14 +53,31 @@ impl Readings {
         &self.values[..readings_of(self.kind)]
     }
 
-    /// The same weather in a frame of another kind: what a range of that kind leaves out is put to its end.
+    /// The same weather in a frame of another kind: what a range of that kind leaves out is put to its end; a missing ozone stays missing.
     pub fn as_kind(&self, number: i64, kind: i64) -> Readings {
         let mut values = self.values;
-        for (reading, value) in values.iter_mut().enumerate() {
+        for (reading, value) in values.iter_mut().enumerate().filter(|(reading, _)| *reading != OZONE || !self.lacks_ozone()) {
             let (least, most) = range(number, kind, reading);
             *value = (*value).clamp(least, most);
         }
         Readings { kind, values }
+    }
+
+    pub fn is_counted(&self) -> bool {
+        self[RADIATION] > 50
+    }
+
+    pub fn lacks_ozone(&self) -> bool {
+        self[OZONE] == MISSING
+    }
+
+    /// The same hour, a missing ozone read as a number.
+    pub fn filled(&self, ozone: i64) -> Readings {
+        let mut filled = *self;
+        if self.lacks_ozone() {
+            filled[OZONE] = ozone;
+        }
+        filled
     }
 }
 

@@ -4,8 +4,10 @@
 //!     hostile --vectors FOLDER      the account itself against season texts with known answers
 //!
 //! Written from documents 01 and 02 alone, with an account of its own in doubles. Each text's answer is compared: refusals byte for byte; hours,
-//! counted hours and AOT40 equal; the dose between lower and upper; these no more than 4 nmol m⁻² apart for each counted hour; the verdict by its
-//! rule; the same of each month touched, without a verdict; and the months' four figures add up to the season's.
+//! counted hours and both AOT40 figures equal; the doses with missing ozone read as 0 and as the ceiling between lower and upper; these no more than
+//! 4 nmol m⁻² apart for each counted hour with ozone and 800000 for each without; the verdict by its rule; the same of each month touched, without a
+//! verdict; and the months' five figures add up to the season's. A season that lacks ozone is filled with 0, with the ceiling and by chance, and each
+//! filling held to what was printed for it (fillings.rs).
 //! Which kinds of frames the program knows is NEWEST in frames.rs.
 //! At the first difference it prints the smallest text that it can cut the case down to, and exits with 1. PROGRAM is target/bin/pod1 of the
 //! repository where none is named.
@@ -16,6 +18,7 @@ mod cases;
 mod cut;
 mod damage;
 mod dose;
+mod fillings;
 mod frames;
 mod program;
 mod rng;

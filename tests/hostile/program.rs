@@ -1,6 +1,7 @@
 //! The program run on a text, and its lines held to the account in doubles.
 
-use crate::account::{answer, Answer, Figures, Month};
+use crate::account::{answer, Answer, Figures, Month, Sums};
+use crate::fillings;
 use crate::frames::NEWEST;
 use std::io::{Read, Write};
 use std::path::Path;
@@ -9,8 +10,8 @@ use std::sync::mpsc;
 use std::thread;
 use std::time::Duration;
 
-/// How far the double dose may lie outside lower and upper, nmol m⁻².
-const SLACK: f64 = 0.01;
+/// How far a double dose may lie outside lower and upper, nmol m⁻².
+pub const SLACK: f64 = 0.01;
 /// What an hour adds at most, nmol m⁻² (row 13).
 const MOST_HOUR: i64 = if NEWEST < 4 { 600_000 } else { 800_000 };
 const LONGEST_RUN: Duration = Duration::from_secs(10);
@@ -22,13 +23,20 @@ pub struct Difference {
     pub got: String,
 }
 
-/// What the program answered, or how that differs from document 01.
+/// What the program answered, or how that differs from documents 01 and 02.
 pub fn compare(program: &Path, text: &[u8]) -> Result<String, Difference> {
+    let (_, printed) = held(program, text)?;
+    fillings::compare(program, text, &printed)?;
+    Ok(summary(&printed))
+}
+
+/// The account's answer and what the program printed, if that is right.
+pub fn held(program: &Path, text: &[u8]) -> Result<(Answer, Vec<u8>), Difference> {
     let expected = answer(NEWEST, text);
     let differs = |got: String, why: &str| Difference { expected: format!("{}{why}", describe(&expected)), got };
     let printed = run(program, text).map_err(|failure| differs(failure, ""))?;
     match wrong(&expected, &printed) {
-        None => Ok(summary(&printed)),
+        None => Ok((expected, printed)),
         Some(why) => Err(differs(format!("{:?}", String::from_utf8_lossy(&printed)), &why)),
     }
 }
@@ -37,23 +45,22 @@ fn describe(expected: &Answer) -> String {
     match expected {
         Answer::Refused { row, line } => format!("{:?}", format!("refused {row} line {line}\n")),
         Answer::Season(figures, months) => {
-            let Figures { hours, counted, dose, aot40, level } = figures;
-            let months: String = months.iter().map(describe_month).collect();
-            format!("hours {hours}, counted {counted}, dose {dose:.3}, AOT40 {aot40}, level {level}{months}")
+            let months: String = months.iter().map(|month| format!("; month {}: {}", month.number, describe_sums(&month.sums))).collect();
+            format!("hours {}, level {}, {}{months}", figures.hours, figures.level, describe_sums(&figures.sums))
         }
     }
 }
 
-fn describe_month(month: &Month) -> String {
-    let Month { number, counted, dose, aot40 } = month;
-    format!("; month {number}: counted {counted}, dose {dose:.3}, AOT40 {aot40}")
+fn describe_sums(sums: &Sums) -> String {
+    let Sums { counted, missing, dose: [low, high], aot40: [least, most] } = sums;
+    format!("counted {counted}, missing {missing}, dose {low:.3} to {high:.3}, AOT40 {least} to {most}")
 }
 
 /// The row or the verdict of a right answer.
 fn summary(printed: &[u8]) -> String {
     let line = String::from_utf8_lossy(printed);
     let words: Vec<&str> = line.split_whitespace().collect();
-    if words[0] == "refused" { format!("row {}", words[1]) } else { words[5].to_string() }
+    if words[0] == "refused" { format!("row {}", words[1]) } else { words[6].to_string() }
 }
 
 // ---- the comparison
@@ -70,56 +77,62 @@ fn wrong(expected: &Answer, printed: &[u8]) -> Option<String> {
 fn wrong_season(figures: &Figures, months: &[Month], printed: &[u8]) -> Option<String> {
     let mut lines = printed.split_inclusive(|&byte| byte == b'\n');
     let line = lines.next().unwrap_or_default();
-    let Some([hours, counted, lower, upper, aot40]) = numbers(line) else {
-        return Some("no line of five numbers and a verdict".into());
+    let Some([hours, sums @ ..]) = numbers(line) else {
+        return Some("no line of six numbers and a verdict".into());
     };
-    if (hours, counted, aot40) != (figures.hours, figures.counted, figures.aot40) {
-        return Some("hours, counted or AOT40 is another".into());
+    if hours != figures.hours {
+        return Some("hours is another".into());
     }
-    if let Some(why) = wrong_pair(figures.dose, counted, lower, upper) {
+    if let Some(why) = wrong_sums(&figures.sums, sums) {
         return Some(why.into());
     }
-    let verdict = verdict(lower, upper, figures.level);
-    let right = format!("{hours} {counted} {lower} {upper} {aot40} {verdict}\n");
+    let [counted, lower, upper, least, most] = sums;
+    let right = format!("{hours} {counted} {lower} {upper} {least} {most} {}\n", verdict(lower, upper, figures.level));
     if line != right.as_bytes() {
         return Some(format!("the line is {right:?}"));
     }
-    wrong_months(months, &lines.collect::<Vec<_>>(), [counted, lower, upper, aot40])
+    wrong_months(months, &lines.collect::<Vec<_>>(), sums)
 }
 
-/// A line for each month touched and no other, in order; added up they are the season's four figures.
-fn wrong_months(months: &[Month], lines: &[&[u8]], season: [i64; 4]) -> Option<String> {
+/// A line for each month touched and no other, in order; added up they are the season's five figures.
+fn wrong_months(months: &[Month], lines: &[&[u8]], season: [i64; 5]) -> Option<String> {
     if lines.len() != months.len() {
         return Some(format!("{} months are touched, {} lines follow", months.len(), lines.len()));
     }
-    let mut sums = [0; 4];
+    let mut added = [0; 5];
     for (month, line) in months.iter().zip(lines) {
         match month_figures(month, line) {
-            Ok(figures) => (0..4).for_each(|at| sums[at] += figures[at]),
+            Ok(sums) => (0..5).for_each(|at| added[at] += sums[at]),
             Err(why) => return Some(format!("month {}: {why}", month.number)),
         }
     }
-    (sums != season).then(|| "the months do not add up to the season".into())
+    (added != season).then(|| "the months do not add up to the season".into())
 }
 
-/// The four figures of a month's line, or why it is wrong.
-fn month_figures(month: &Month, line: &[u8]) -> Result<[i64; 4], String> {
-    let [number, counted, lower, upper, aot40] = numbers(line.strip_suffix(b"\n").unwrap_or(line)).ok_or("no line of five numbers")?;
-    if (number, counted, aot40) != (month.number, month.counted, month.aot40) {
-        return Err("number, counted or AOT40 is another".into());
+/// The five figures of a month's line, or why it is wrong.
+fn month_figures(month: &Month, line: &[u8]) -> Result<[i64; 5], String> {
+    let [number, sums @ ..] = numbers(line.strip_suffix(b"\n").unwrap_or(line)).ok_or("no line of six numbers")?;
+    if number != month.number {
+        return Err("number is another".into());
     }
-    if let Some(why) = wrong_pair(month.dose, counted, lower, upper) {
+    if let Some(why) = wrong_sums(&month.sums, sums) {
         return Err(why.into());
     }
-    let right = format!("{number} {counted} {lower} {upper} {aot40}\n");
-    if line == right.as_bytes() { Ok([counted, lower, upper, aot40]) } else { Err(format!("the line is {right:?}")) }
+    let [counted, lower, upper, least, most] = sums;
+    let right = format!("{number} {counted} {lower} {upper} {least} {most}\n");
+    if line == right.as_bytes() { Ok(sums) } else { Err(format!("the line is {right:?}")) }
 }
 
-fn wrong_pair(dose: f64, counted: i64, lower: i64, upper: i64) -> Option<&'static str> {
-    if dose < lower as f64 - SLACK || dose > upper as f64 + SLACK {
-        return Some("the dose is not between lower and upper");
+fn wrong_sums(sums: &Sums, [counted, lower, upper, least, most]: [i64; 5]) -> Option<&'static str> {
+    if (counted, [least, most]) != (sums.counted, sums.aot40) {
+        return Some("counted or AOT40 is another");
     }
-    let is_apart = lower > upper || upper - lower > 4 * counted || upper > MOST_HOUR * counted;
+    let Sums { missing, dose: [low, high], .. } = *sums;
+    if low < lower as f64 - SLACK || high > upper as f64 + SLACK {
+        return Some("a dose is not between lower and upper");
+    }
+    let gap = 4 * (counted - missing) + MOST_HOUR * missing;
+    let is_apart = lower > upper || upper - lower > gap || upper > MOST_HOUR * counted;
     is_apart.then_some("lower and upper are out of order, too far apart or too great")
 }
 
@@ -133,12 +146,12 @@ fn verdict(lower: i64, upper: i64, level: i64) -> &'static str {
     }
 }
 
-/// The five numbers at a line's start; how they are written is seen by the line made of them.
-fn numbers(printed: &[u8]) -> Option<[i64; 5]> {
+/// The six numbers at a line's start; how they are written is seen by the line made of them.
+pub fn numbers(printed: &[u8]) -> Option<[i64; 6]> {
     let line = std::str::from_utf8(printed).ok()?;
     let numbers: Vec<i64> = line.split(' ').map_while(|word| word.parse().ok()).collect();
-    let five: [i64; 5] = numbers.try_into().ok()?;
-    five.iter().all(|number| (0..1 << 40).contains(number)).then_some(five)
+    let six: [i64; 6] = numbers.try_into().ok()?;
+    six.iter().all(|number| (0..1 << 40).contains(number)).then_some(six)
 }
 
 // ---- the run

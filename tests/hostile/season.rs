@@ -8,6 +8,8 @@ use crate::trees::tree;
 
 pub struct Season {
     pub header: Header,
+    /// 0 where there is none.
+    pub ceiling: i64,
     pub hours: Vec<Readings>,
 }
 
@@ -32,6 +34,10 @@ pub fn end_line(count: i64) -> String {
     format!("03{}", pair(count))
 }
 
+pub fn ceiling_line(ozone: i64) -> String {
+    format!("{CEILING:02X}{}", pair(ozone))
+}
+
 impl Season {
     /// Of the first hour, which is that of a whole season.
     pub fn kind(&self) -> i64 {
@@ -42,8 +48,16 @@ impl Season {
         self.header.first + n as i64 / 24
     }
 
+    /// The place of an hour among the lines.
+    pub fn line_of(&self, n: usize) -> usize {
+        n + if self.ceiling > 0 { 2 } else { 1 }
+    }
+
     pub fn lines(&self) -> Vec<Vec<u8>> {
         let mut lines = vec![header_line(&self.header)];
+        if self.ceiling > 0 {
+            lines.push(ceiling_line(self.ceiling));
+        }
         for (n, readings) in self.hours.iter().enumerate() {
             lines.push(hour_line(self.day(n), n as i64 % 24, readings));
         }
@@ -51,18 +65,18 @@ impl Season {
         lines.into_iter().map(String::into_bytes).collect()
     }
 
-    /// What an hour adds to the dose.
-    pub fn dose_of(&self, n: usize, readings: &Readings) -> f64 {
+    /// What an hour adds to the dose, a missing ozone read as a number.
+    fn dose_of(&self, n: usize, readings: &Readings, missing: i64) -> f64 {
         let Header { tree, first, last, .. } = self.header;
-        if readings[RADIATION] > 50 {
-            hour_dose(tree, first, last, self.day(n), readings)
+        if readings.is_counted() {
+            hour_dose(tree, first, last, self.day(n), &readings.filled(missing))
         } else {
             0.0
         }
     }
 
-    pub fn dose(&self) -> f64 {
-        self.hours.iter().enumerate().map(|(n, readings)| self.dose_of(n, readings)).sum()
+    fn dose(&self, missing: i64) -> f64 {
+        self.hours.iter().enumerate().map(|(n, readings)| self.dose_of(n, readings, missing)).sum()
     }
 }
 
@@ -160,11 +174,33 @@ pub fn plausible(rng: &mut Rng, header: Header) -> Season {
     plausible_in(rng, kind, header)
 }
 
-/// The same in hours of the kind.
+/// The same in hours of the kind, now and then with a ceiling.
 pub fn plausible_in(rng: &mut Rng, kind: i64, header: Header) -> Season {
     let climate = climate(rng, header.tree);
     let hours = (0..header.hours()).map(|n| weather(rng, kind, &climate, header.tree, header.first + n / 24, n % 24)).collect();
-    Season { header, hours }
+    let mut season = Season { header, ceiling: 0, hours };
+    if NEWEST >= CEILING && rng.one_in(3) {
+        lose_ozone(rng, &mut season);
+    }
+    season
+}
+
+// ---- hours without ozone
+
+/// A ceiling, and ozone missing in none of the hours, in few, in half of them or in all.
+pub fn lose_ozone(rng: &mut Rng, season: &mut Season) {
+    season.ceiling = any_ceiling(rng);
+    let every = rng.pick(&[0, 40, 2, 2, 1]);
+    for readings in &mut season.hours {
+        if every > 0 && rng.one_in(every) {
+            readings[OZONE] = MISSING;
+        }
+    }
+}
+
+pub fn any_ceiling(rng: &mut Rng) -> i64 {
+    let any = rng.between(1, 5000);
+    rng.pick(&[1, 2, 399, 400, 401, 700, 4999, 5000, any, any])
 }
 
 // ---- corners
@@ -199,19 +235,21 @@ fn corner(rng: &mut Rng, number: i64, readings: &Readings, reading: usize) -> i6
     (rng.pick(&edges) + rng.between(-1, 1)).clamp(least, most)
 }
 
-/// Some of an hour's readings put to corners.
+/// Some of an hour's readings put to corners; a missing ozone stays missing.
 pub fn put_to_corners(rng: &mut Rng, number: i64, readings: &mut Readings) {
     let often = rng.between(2, 7) as usize;
-    for reading in 0..readings_of(readings.kind) {
+    for reading in readings.lacks_ozone() as usize..readings_of(readings.kind) {
         if rng.one_in(often) {
             readings[reading] = corner(rng, number, readings, reading);
         }
     }
 }
 
-/// Light and ozone enough that the hour adds to the dose, unless another reading stops it.
+/// Light and ozone enough that the hour adds to the dose, unless another reading stops it; a missing ozone stays missing.
 pub fn light_up(rng: &mut Rng, readings: &mut Readings) {
-    readings[OZONE] = rng.between(300, 5000);
+    if !readings.lacks_ozone() {
+        readings[OZONE] = rng.between(300, 5000);
+    }
     readings[PPFD] = rng.between(100, 3000);
     readings[RADIATION] = if rng.one_in(3) { 51 } else { rng.between(51, 1500) };
 }
@@ -229,20 +267,21 @@ pub fn few_lit(rng: &mut Rng, season: &mut Season, days: &[i64]) {
 
 // ---- doses near the level
 
-/// Changes readings until the dose lies near a multiple of 10000, and makes that the level.
+/// Changes readings until the dose, with missing ozone read as 0 or as the ceiling, lies near a multiple of 10000, and makes that the level.
 pub fn near_level(rng: &mut Rng, season: &mut Season) {
     let nearness = rng.pick(&[0.01, 0.5, 2.0, 6.0, 50.0]);
-    let mut dose = season.dose();
+    let missing = if season.ceiling > 0 { rng.pick(&[0, season.ceiling]) } else { 0 };
+    let mut dose = season.dose(missing);
     let level = ((dose / 10000.0).round() as i64).clamp(1, 10000);
     let target = level as f64 * 10000.0 + rng.between(-4, 4) as f64;
-    let lit: Vec<usize> = (0..season.hours.len()).filter(|&n| season.hours[n][RADIATION] > 50).collect();
+    let lit: Vec<usize> = (0..season.hours.len()).filter(|&n| season.hours[n].is_counted()).collect();
     for _ in 0..4000 {
         if lit.is_empty() || (dose - target).abs() < nearness {
             break;
         }
         let n = rng.pick(&lit);
         let changed = one_changed(rng, season.header.tree, &season.hours[n]);
-        let new = dose - season.dose_of(n, &season.hours[n]) + season.dose_of(n, &changed);
+        let new = dose - season.dose_of(n, &season.hours[n], missing) + season.dose_of(n, &changed, missing);
         if (new - target).abs() < (dose - target).abs() {
             dose = new;
             season.hours[n] = changed;
@@ -251,11 +290,11 @@ pub fn near_level(rng: &mut Rng, season: &mut Season) {
     season.header.level = level;
 }
 
-/// One reading moved, by little or by much, within its range; the hour stays counted.
+/// One reading moved, by little or by much, within its range; the hour stays counted, and a missing ozone missing.
 fn one_changed(rng: &mut Rng, number: i64, readings: &Readings) -> Readings {
     let mut changed = *readings;
     let movable = [OZONE, PPFD, TEMPERATURE, VPD, WIND, SOIL, PRESSURE]; // all but radiation
-    let reading = rng.pick(&movable[..readings_of(readings.kind) - 1]);
+    let reading = rng.pick(&movable[readings.lacks_ozone() as usize..readings_of(readings.kind) - 1]);
     let (least, most) = range(number, readings.kind, reading);
     let far = rng.pick(&[1, 3, 10, 100, 1000]);
     changed[reading] = (changed[reading] + rng.between(-far, far)).clamp(least, most);

@@ -23,7 +23,7 @@ fn opening_in(rng: &mut Rng, kind: i64, number: i64) -> (Season, Lines) {
         season.hours.iter_mut().for_each(|readings| put_to_corners(rng, number, readings));
     }
     let mut lines = season.lines();
-    lines.truncate(rng.pick(&[2, 2, 3, 25]));
+    lines.truncate(season.line_of(rng.pick(&[1, 1, 2, 24])));
     (season, lines)
 }
 
@@ -69,7 +69,7 @@ pub fn every_reading(rng: &mut Rng, turn: u64) -> Vec<u8> {
     let (least, most) = range(number, kind, reading);
     let (mut season, mut lines) = opening_in(rng, kind, number);
     season.hours[0][reading] = [least, most, least - 1, most + 1][place];
-    lines[1] = hour_line(season.header.first, 0, &season.hours[0]).into_bytes();
+    lines[season.line_of(0)] = hour_line(season.header.first, 0, &season.hours[0]).into_bytes();
     text(rng, &lines)
 }
 
@@ -79,7 +79,7 @@ pub fn every_field(rng: &mut Rng, turn: u64) -> Vec<u8> {
     let (season, mut lines) = opening(rng, number as i64);
     let header = changed(&season.header, turn / 6);
     lines[0] = header_line(&header).into_bytes();
-    lines[1] = hour_line(header.first, 0, &season.hours[0]).into_bytes();
+    lines[season.line_of(0)] = hour_line(header.first, 0, &season.hours[0]).into_bytes();
     text(rng, &lines)
 }
 
@@ -128,7 +128,7 @@ pub fn every_temperature(rng: &mut Rng, turn: u64) -> Vec<u8> {
     few_lit(rng, &mut season, &[day]);
     let (of_three, off) = (turn / 6 % 3, (turn / 18 % 3) as i64 - 1);
     let temperature = (tree(number).temperature[of_three as usize] + off).min(600);
-    for readings in season.hours.iter_mut().filter(|readings| readings[RADIATION] > 50) {
+    for readings in season.hours.iter_mut().filter(|readings| readings.is_counted()) {
         readings[TEMPERATURE] = temperature;
         readings[OZONE] = rng.between(2000, 5000); // above 1 nmol m⁻² s⁻¹ even at f_min
         readings[PPFD] = rng.between(300, 3000);
@@ -191,7 +191,7 @@ pub fn every_mixture(rng: &mut Rng, turn: u64) -> Vec<u8> {
         7 => lines.insert(0, line),
         8 => lines.insert(lines.len() - 1, line),
         9 => lines.push(line),
-        _ => lines[n + 1] = line,
+        _ => lines[season.line_of(n)] = line,
     }
     text(rng, &lines)
 }
@@ -223,11 +223,85 @@ pub fn every_tenth(rng: &mut Rng, turn: u64) -> Vec<u8> {
     let day = rng.between(header.first, header.last);
     few_lit(rng, &mut season, &[day]);
     let [best, worst] = tree(number).vpd;
-    for readings in season.hours.iter_mut().filter(|readings| readings[RADIATION] > 50) {
+    for readings in season.hours.iter_mut().filter(|readings| readings.is_counted()) {
         readings[TEMPERATURE] = temperature;
         readings[HUMIDITY] = humidity(temperature, rng.between(best, worst) as f64).max(0);
         readings[OZONE] = rng.between(2000, 5000);
         readings[SOIL] = tree(number).soil[0];
     }
     text(rng, &season.lines())
+}
+
+/// A season of the trees without ramps, all its ozone read and no ceiling.
+fn whole_ozone(rng: &mut Rng) -> Season {
+    let number = rng.pick(&[3, 6]);
+    let header = short_period(rng, number);
+    let mut season = plausible(rng, header);
+    season.ceiling = 0;
+    season.hours.iter_mut().for_each(|readings| *readings = readings.filled(700));
+    season
+}
+
+/// Every ceiling at the ends of its range and past them, in its place with no, some and all ozone missing, and in every other place: row 4 comes before
+/// row 17.
+pub fn every_ceiling(rng: &mut Rng, turn: u64) -> Vec<u8> {
+    const CEILINGS: [i64; 14] = [0, 1, 2, 399, 400, 401, 4999, 5000, 5001, 5002, 0x7FFF, 0x8000, 0xFFFE, 0xFFFF];
+    let ceiling = CEILINGS[turn as usize % CEILINGS.len()];
+    let mut season = whole_ozone(rng);
+    let place = turn as usize / CEILINGS.len() % 10;
+    match place {
+        0..3 => {
+            lose_ozone(rng, &mut season);
+            season.ceiling = 0; // the line is put in below
+        }
+        3 | 4 => season.ceiling = any_ceiling(rng), // a second ceiling follows
+        _ => {}
+    }
+    let mut lines = season.lines();
+    let end = lines.len() - 1;
+    let at = match place {
+        0..=3 => 1,
+        4 => rng.between(2, lines.len() as i64) as usize,
+        5 => 0,
+        6 => 2,
+        7 => rng.between(2, end as i64) as usize,
+        8 => end,
+        _ => end + 1,
+    };
+    lines.insert(at, ceiling_line(ceiling).into_bytes());
+    text(rng, &lines)
+}
+
+/// Ozone FFFF in the first, the last or any hour, under a ceiling and without one, alone and with another fault: rows 2, 15 and 9 come before row 18,
+/// row 10 after it.
+pub fn every_gap(rng: &mut Rng, turn: u64) -> Vec<u8> {
+    let mut season = whole_ozone(rng);
+    if turn % 2 == 0 {
+        season.ceiling = any_ceiling(rng);
+    }
+    let last = season.hours.len() - 1;
+    let n = [0, rng.below(last + 1), last][turn as usize / 2 % 3];
+    if rng.one_in(2) {
+        light_up(rng, &mut season.hours[n]);
+    }
+    season.hours[n][OZONE] = MISSING;
+    let mut lines = season.lines();
+    let at = season.line_of(n);
+    match turn as usize / 6 % 12 {
+        0 => {}
+        1 => put(&mut lines[at], 6, "FF"),
+        2 => put(&mut lines[at], 8, "FFFE"),
+        3 => put(&mut lines[at], 8, "7FFF"),
+        4 => put(&mut lines[at], 8, "FFFG"),
+        5 => put(&mut lines[at], 8, "fFFF"),
+        fault @ 6..=9 => put(&mut lines[at], 8 + 4 * (fault - 5), "FFFF"), // PPFD, radiation, temperature (-0.1 degrees), VPD
+        10 => put(&mut lines[at], 28, "FFFFFFFF"), // wind and soil
+        _ => lines[at] = faulty(&season, n, other_than(season.kind()), 0),
+    }
+    text(rng, &lines)
+}
+
+/// Another hour kind.
+fn other_than(kind: i64) -> i64 {
+    HOUR_KINDS.iter().copied().find(|&other| other != kind).unwrap_or(kind)
 }

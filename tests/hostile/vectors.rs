@@ -1,6 +1,6 @@
-//! The account in doubles held to season texts with known answers: NAME.txt and NAME.expect in the folder of vectors and its folders W-204, W-205.
+//! The account in doubles held to season texts with known answers: NAME.txt and NAME.expect in the folder of vectors and in its folders of requests.
 
-use crate::account::{answer, Answer, Figures, Month};
+use crate::account::{answer, Answer, Figures, Month, Sums};
 use std::fs::read_to_string;
 use std::path::{Path, PathBuf};
 
@@ -8,7 +8,7 @@ use std::path::{Path, PathBuf};
 const SLACK: (f64, f64) = (1e-6, 1e-12);
 
 /// The folders of the requests, each with the newest kind that its texts were answered for.
-const FOLDERS: [(&str, i64); 2] = [("W-204", 4), ("W-205", 5)];
+const FOLDERS: [(&str, i64); 3] = [("W-204", 4), ("W-205", 5), ("W-207", 6)];
 
 /// Holds the account to every text; what was held, or the first text whose answer is another.
 pub fn hold(folder: &Path) -> Result<String, String> {
@@ -61,30 +61,41 @@ fn differs(found: &Answer, expected: &str) -> Option<String> {
     }
 }
 
-/// `hours counted dose AOT40 level LEVEL`, or `hours counted missing dose dose AOT40 AOT40 level LEVEL` in a request's folder.
+/// `hours counted dose AOT40 level LEVEL`, or in a request's folder `hours counted missing LOW HIGH AOT40LOW AOT40HIGH level LEVEL`.
 fn season_differs(figures: &Figures, expected: &str) -> Option<String> {
-    let Figures { hours, counted, dose, aot40, level } = figures;
+    let Figures { hours, sums, level } = figures;
     let words: Vec<&str> = expected.split(' ').collect();
     let (exact, right) = match words.len() {
-        6 => (words[2], format!("{hours} {counted} {} {aot40} level {level}", words[2])),
-        9 => (words[3], format!("{hours} {counted} 0 {0} {0} {aot40} {aot40} level {level}", words[3])),
+        6 => ([words[2]; 2], format!("{hours} {} {} {} level {level}", sums.counted, words[2], sums.aot40[0])),
+        9 => ([words[3], words[4]], format!("{hours} {} level {level}", described(sums, [words[3], words[4]]))),
         _ => return Some(format!("a season, not {expected}")),
     };
-    (expected != right || !is_near(*dose, exact)).then(|| format!("{right} with dose {dose}, not {expected}"))
+    differs_in(sums, exact, &right, expected)
 }
 
-/// `month counted missing dose dose AOT40 AOT40` for each month; document 01's own vectors have none.
+/// `month counted missing LOW HIGH AOT40LOW AOT40HIGH` for each month; document 01's own vectors have none.
 fn months_differ(months: &[Month], expected: &str) -> Option<String> {
     let lines: Vec<&str> = expected.lines().collect();
     if !lines.is_empty() && lines.len() != months.len() {
         return Some(format!("{} months, not {}", months.len(), lines.len()));
     }
     months.iter().zip(lines).find_map(|(month, line)| {
-        let Month { number, counted, dose, aot40 } = month;
-        let exact = line.split(' ').nth(3).unwrap_or_default();
-        let right = format!("{number} {counted} 0 {exact} {exact} {aot40} {aot40}");
-        (line != right || !is_near(*dose, exact)).then(|| format!("{right} with dose {dose}, not {line}"))
+        let mut words = line.split(' ').skip(3);
+        let exact = [(); 2].map(|_| words.next().unwrap_or_default());
+        differs_in(&month.sums, exact, &format!("{} {}", month.number, described(&month.sums, exact)), line)
     })
+}
+
+/// The sums in the words of an answer, its doses for their own.
+fn described(sums: &Sums, [low, high]: [&str; 2]) -> String {
+    let Sums { counted, missing, aot40: [least, most], .. } = sums;
+    format!("{counted} {missing} {low} {high} {least} {most}")
+}
+
+/// How the doses or the line differ, if they do.
+fn differs_in(sums: &Sums, exact: [&str; 2], right: &str, expected: &str) -> Option<String> {
+    let is_same = right == expected && (0..2).all(|end| is_near(sums.dose[end], exact[end]));
+    (!is_same).then(|| format!("{right} with doses {:?}, not {expected}", sums.dose))
 }
 
 fn is_near(dose: f64, exact: &str) -> bool {

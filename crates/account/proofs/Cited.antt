@@ -1,4 +1,5 @@
--- Demand 3 over runs that are tied by the contracts of `feed`, of `parse` with `feed_frame` or `refused_by`, and of `read`, as they stand at the functions, and by nothing else.
+-- Demand 3, and what filling gaps brings, over runs that are tied by the contracts of `feed`, of `parse` with `feed_frame` or `refused_by`, and of `read`, as they
+-- stand at the functions, and by nothing else.
 use Prim.Native.Nat.{ℕ}
 use mathlib.Core.Path.{_≡_}
 use mathlib.Core.List.{List, [], _∷_}
@@ -14,6 +15,8 @@ use Rattle.account_spec.specs.Runs.{Event, fed, taken, Run, stop, feeds, reads}
 use Rattle.account_spec.specs.Promise.{Kept, SeasonPromise}
 use Rattle.account_spec.proofs.RuleLaws.{frame-feeds, unread-feeds}
 use Rattle.account_spec.proofs.RunLaws.{season}
+use Rattle.filling_spec.specs.Promise.{acceptedLines, accountAfter, TakesAll, FillingPromise}
+use Rattle.filling_spec.proofs.FillingLaws.{filling-promise}
 use Rattle.account_read.proofs.read.Reads as read-reads
 use Rattle.account.proofs.feed.Reads as feed-reads
 use Rattle.account.proofs.feed_frame.Reads as feed-frame-reads
@@ -61,3 +64,16 @@ tied-kept {es} t = season .kept es (tied-run t)
 
 pub season-cited : SeasonPromise
 season-cited = record { kept = λ es run. tied-kept (run-tied run); exists = season .exists; day = season .day; listed = season .listed; enclosed = season .enclosed }
+
+-- ---- hours without ozone (W-207)
+
+tied-alone : {es : List Event} → Tied freshAccount es → TakesAll freshAccount (acceptedLines es) (accountAfter freshAccount es)
+tied-alone {es} t = filling-promise .alone es (tied-run t)
+
+pub filling-cited : FillingPromise
+filling-cited = record {
+  alone = λ es run. tied-alone (run-tied run);
+  zero = filling-promise .zero;
+  ceiling = filling-promise .ceiling;
+  filled = filling-promise .filled;
+}

@@ -7,16 +7,19 @@ use crate::Sums;
 use exact::Bounds;
 use flux::Dosed;
 use frames::Air;
+use frames::Ceiling;
 use frames::Header;
 use frames::Hour;
+use frames::Ozone;
 use frames::Record;
-ghost use Prim.Native.Nat.{_<_};
+ghost use Prim.Native.Nat.{_-_, _<_};
 ghost use mathlib.Core.Path.{_≡_};
-ghost use mathlib.Core.Bool.{true};
+ghost use mathlib.Core.Bool.{true, cond};
+ghost use Rattle.records.specs.Ozone.{isMissing, readAs};
 ghost use Rattle.flux_spec.specs.Dose.{isCounted, excess};
 ghost use Rattle.account_spec.specs.HourKinds.{hourKind};
 ghost use Rattle.account_spec.specs.Hours.{standIn, noneCarried, pairOf};
-ghost use Rattle.account_spec.specs.Rules.{opened, withHour, ended, entered};
+ghost use Rattle.account_spec.specs.Rules.{opened, withHour, ended, ceilingEntered, entered};
 ghost use Rattle.account_spec.specs.Steps.{Dosable, RecordDosable, Room};
 
 // The pair of a counted hour; `hour_dose` refuses none that the rows let in.
@@ -26,7 +29,7 @@ fn pair_of(season: Season, h: Hour) -> Bounds
     ensures { λ r. ⌜ r ≡ pairOf (standIn season) noneCarried h ⌝ }
 {
     let header = season.header;
-    let dose = flux::hour_dose(header.tree, header.first, header.last, h);
+    let dose = flux::hour_dose(header.tree, header.first, header.last, season.ceiling, h);
     match dose {
         Dosed::Pair(pair) => pair,
         Dosed::Refused(_) => Bounds { lower: 0, upper: 0 },
@@ -34,14 +37,42 @@ fn pair_of(season: Season, h: Hour) -> Bounds
 }
 
 // max(ozone - 400, 0)
-fn excess(h: Hour) -> u32
-    ensures is { λ r. ⌜ r ≡ excess h ⌝ }
+fn excess(ozone: u16) -> u32
+    ensures is { λ r. ⌜ r ≡ ozone - 400 ⌝ }
     ensures small { λ r. ⌜ r < 65536 ⌝ }
 {
-    if 400 < h.ozone {
-        (h.ozone - 400) as u32
-    } else {
-        0
+    if 400 < ozone { (ozone - 400) as u32 } else { 0 }
+}
+
+// What a counted hour's ozone adds: to AOT40's two numbers, and to the hours without.
+struct OzoneSums {
+    least: u32,
+    most: u32,
+    missing: u16,
+}
+
+// A missing ozone is read as 0 for the lower number, as the ceiling for the upper one.
+fn ozone_sums(ceiling: u16, h: Hour) -> OzoneSums
+    ensures least { λ r. ⌜ r .least ≡ excess (readAs 0 h) ⌝ }
+    ensures most { λ r. ⌜ r .most ≡ excess (readAs ceiling h) ⌝ }
+    ensures missing { λ r. ⌜ r .missing ≡ cond (isMissing (h .ozone)) 1 0 ⌝ }
+    ensures small { λ r. ⌜ (r .least < 65536) × (r .most < 65536) × (r .missing < 2) ⌝ }
+{
+    let ozone = h.ozone;
+    match ozone {
+        Ozone::Tenths(n) => {
+            let over = excess(n);
+            OzoneSums {
+                least: over,
+                most: over,
+                missing: 0,
+            }
+        },
+        Ozone::Missing => OzoneSums {
+            least: 0,
+            most: excess(ceiling),
+            missing: 1,
+        },
     }
 }
 
@@ -63,14 +94,19 @@ fn open(header: Header) -> Account
 {
     Account {
         phase: Phase::Open,
-        season: Season { header: header },
+        season: Season {
+            header: header,
+            ceiling: 0,
+        },
         kind: HourKind::None,
         sums: Sums {
             hours: 0,
             counted: 0,
+            missing: 0,
             lower: 0,
             upper: 0,
-            aot40: 0,
+            least: 0,
+            most: 0,
         },
     }
 }
@@ -92,7 +128,10 @@ fn add_hour(a: Account, h: Hour) -> Account
         sums.counted = sums.counted + 1;
         sums.lower = sums.lower + pair.lower;
         sums.upper = sums.upper + pair.upper;
-        sums.aot40 = sums.aot40 + excess(h);
+        let ozone = ozone_sums(season.ceiling, h);
+        sums.least = sums.least + ozone.least;
+        sums.most = sums.most + ozone.most;
+        sums.missing = sums.missing + ozone.missing;
     }
     Account {
         phase: phase,
@@ -116,6 +155,22 @@ fn end(a: Account) -> Account
     }
 }
 
+fn set_ceiling(a: Account, c: Ceiling) -> Account
+    ensures { λ r. ⌜ r ≡ ceilingEntered a c ⌝ }
+{
+    let phase = a.phase;
+    let mut season = a.season;
+    season.ceiling = c.ozone;
+    let kind = a.kind;
+    let sums = a.sums;
+    Account {
+        phase: phase,
+        season: season,
+        kind: kind,
+        sums: sums,
+    }
+}
+
 pub(crate) fn enter(a: Account, record: Record) -> Account
     requires room { ⌜ Room a ⌝ }
     requires dosable { ⌜ RecordDosable (a .season) «record» ⌝ }
@@ -125,5 +180,6 @@ pub(crate) fn enter(a: Account, record: Record) -> Account
         Record::Header(h) => open(h),
         Record::Hour(h) => add_hour(a, h),
         Record::End(_) => end(a),
+        Record::Ceiling(c) => set_ceiling(a, c),
     }
 }

@@ -24,11 +24,13 @@ ghost use Rattle.records.specs.Answers.{rowOf};
 ghost use Rattle.account_spec.specs.Account.{freshAccount};
 ghost use Rattle.account_spec.specs.Rules.{stateOf, feedFrameOf, unreadRow, Answers, Feeds};
 ghost use Rattle.account_spec.specs.Promise.{SeasonPromise};
+ghost use Rattle.filling_spec.specs.Promise.{FillingPromise};
 
-// An account before its season: header fields and sums 0.
+// An account before its season: header fields, ceiling and sums 0.
 pub fn fresh() -> Account
     ensures { λ r. ⌜ r ≡ freshAccount ⌝ }
     ensures season { λ _. ⌜ SeasonPromise ⌝ }
+    ensures filling { λ _. ⌜ FillingPromise ⌝ }
 {
     Account {
         phase: Phase::Fresh,
@@ -40,14 +42,17 @@ pub fn fresh() -> Account
                 last: 0,
                 level: 0,
             },
+            ceiling: 0,
         },
         kind: HourKind::None,
         sums: Sums {
             hours: 0,
             counted: 0,
+            missing: 0,
             lower: 0,
             upper: 0,
-            aot40: 0,
+            least: 0,
+            most: 0,
         },
     }
 }
@@ -67,7 +72,7 @@ fn state_of(account: Account) -> State
     }
 }
 
-// The next account of one that takes a frame, which rows 1 to 3 let pass: row 13 first, then rows 4 to 11.
+// The next account of one that takes a frame, which rows 1 to 3 let pass: row 13 first, then rows 4 to 11, 15, 17 and 18.
 pub fn feed_frame(account: Account, frame: Raw) -> Fed
     ensures { λ r. ⌜ Answers account (feedFrameOf account frame) r ⌝ }
 {
@@ -91,7 +96,7 @@ pub fn refused_by(account: Account, refusal: Refusal) -> Refusal
     refusal
 }
 
-// The next account of one that takes a line: row 13 first, then rows 1 to 11.
+// The next account of one that takes a line: row 13 first, then rows 1 to 11, 15, 17 and 18.
 pub fn feed(account: Account, line: &[u8]) -> Fed
     ensures { λ r. ⌜ Feeds account (now (line .entry)) r ⌝ }
 {

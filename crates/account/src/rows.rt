@@ -1,4 +1,4 @@
-// Rows 4 to 11 and 15 for a state: phase, season, kind and number of hours accepted so far (document 01, "Turned-back lines").
+// Rows 4 to 11, 15, 17 and 18 for a state: phase, season, kind and number of hours accepted so far (document 01, "Turned-back lines").
 use crate::Phase;
 use account_spec::HourKind;
 use account_spec::State;
@@ -10,27 +10,43 @@ use frames::Refusal;
 ghost use mathlib.Core.Path.{_≡_};
 ghost use Rattle.records.specs.Answers.{decodedAs};
 ghost use Rattle.account_spec.specs.HourKinds.{kindNumber, isMixed};
-ghost use Rattle.account_spec.specs.Rules.{outOfTurn, isDue, countWrong, dueOf, turnOf};
+ghost use Rattle.account_spec.specs.Rules.{ceilingLate, turnIn, outOfTurn, isDue, countWrong, dueOf, turnOf};
 ghost use Rattle.account_spec.specs.Steps.{refusalIn};
 
-// Row 4: second header; hour or end when fresh; any when closed.
-fn out_of_turn(s: State, frame: Raw) -> bool
-    ensures { λ r. ⌜ r ≡ outOfTurn s frame ⌝ }
+// A ceiling comes directly after the header and once.
+fn ceiling_late(s: State) -> bool
+    ensures { λ r. ⌜ r ≡ ceilingLate s ⌝ }
 {
-    let phase = s.phase;
+    let season = s.season;
+    (season.ceiling != 0) | (s.hours != 0)
+}
+
+// Row 4: second header; hour or end when fresh; any when closed; ceiling out of turn.
+fn turn_in(phase: Phase, late: bool, frame: Raw) -> bool
+    ensures { λ r. ⌜ r ≡ turnIn phase late frame ⌝ }
+{
     match phase {
         Phase::Fresh => match frame {
             Raw::Header(_) => false,
             Raw::Hour(_) => true,
             Raw::End(_) => true,
+            Raw::Ceiling(_) => true,
         },
         Phase::Open => match frame {
             Raw::Header(_) => true,
             Raw::Hour(_) => false,
             Raw::End(_) => false,
+            Raw::Ceiling(_) => late,
         },
         Phase::Closed => true,
     }
+}
+
+fn out_of_turn(s: State, frame: Raw) -> bool
+    ensures { λ r. ⌜ r ≡ outOfTurn s frame ⌝ }
+{
+    let phase = s.phase;
+    turn_in(phase, ceiling_late(s), frame)
 }
 
 // The kind of the season's hour frames, 0 before the first.
@@ -83,7 +99,7 @@ fn count_wrong(s: State, count: u16) -> bool
     !records::all_given(header, s.hours)
 }
 
-// Rows 5 to 8 of a header, 15, 9 and 10 of an hour, 11 of an end. `record_of` is called at one place, where the compiler then writes it out.
+// Rows 5 to 8 of a header, 15, 9, 18 and 10 of an hour, 11 of an end, 17 of a ceiling. `record_of` is called at one place, where the compiler then writes it out.
 fn by_kind(s: State, frame: Raw) -> Decoded
     ensures { λ r. ⌜ decodedAs r ≡ dueOf s frame ⌝ }
 {
@@ -98,12 +114,17 @@ fn by_kind(s: State, frame: Raw) -> Decoded
             if !due(s, raw) {
                 return Decoded::Refused(Refusal::Due);
             }
+            let ceiling = s.season.ceiling;
+            if records::lacks_ceiling(ceiling, frames::ozone_of(raw.ozone)) {
+                return Decoded::Refused(Refusal::NoCeiling);
+            }
         },
         Raw::End(end) => {
             if count_wrong(s, end.hours) {
                 return Decoded::Refused(Refusal::Count);
             }
         },
+        Raw::Ceiling(_) => {},
     }
     let season = s.season;
     let header = season.header;

@@ -1,6 +1,6 @@
-// An account written as 68 capital hexadecimal digits:
-// phase 1 (0 fresh, 1 open, 2 closed) | tree 2 | days 4 | first 4 | last 4 | level 4 | kind of its hours 1 (0 none) | hours 4 | counted 4 | lower 16 |
-// upper 16 | aot40 8
+// An account written as 84 capital hexadecimal digits:
+// phase 1 (0 fresh, 1 open, 2 closed) | tree 2 | days 4 | first 4 | last 4 | level 4 | ceiling 4 | kind of its hours 1 (0 none) | hours 4 | counted 4 |
+// missing 4 | lower 16 | upper 16 | least 8 | most 8
 use account::Account;
 use account::HourKind;
 use account::Phase;
@@ -31,11 +31,11 @@ fn kind_of(c: u8) -> HourKind {
 
 // The fresh account for any other number of digits.
 pub(crate) fn account_of(digits: &[u8]) -> Account {
-    if digits.len() != 68 {
+    if digits.len() != 84 {
         return account::fresh();
     }
     let phase = phase_of(digits[0]);
-    let kind = kind_of(digits[19]);
+    let kind = kind_of(digits[23]);
     let header = Header {
         tree: u8_at(digits, 1),
         days: u16_at(digits, 3),
@@ -44,15 +44,21 @@ pub(crate) fn account_of(digits: &[u8]) -> Account {
         level: u16_at(digits, 15),
     };
     let sums = Sums {
-        lower: u64_at(digits, 28),
-        upper: u64_at(digits, 44),
-        aot40: u32_at(digits, 60),
-        hours: u16_at(digits, 20),
-        counted: u16_at(digits, 24),
+        lower: u64_at(digits, 36),
+        upper: u64_at(digits, 52),
+        least: u32_at(digits, 68),
+        most: u32_at(digits, 76),
+        hours: u16_at(digits, 24),
+        counted: u16_at(digits, 28),
+        missing: u16_at(digits, 32),
+    };
+    let season = Season {
+        header: header,
+        ceiling: u16_at(digits, 19),
     };
     Account {
         phase: phase,
-        season: Season { header: header },
+        season: season,
         kind: kind,
         sums: sums,
     }

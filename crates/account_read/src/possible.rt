@@ -6,24 +6,25 @@ use account_spec::Phase;
 use account_spec::Season;
 use account_spec::Sums;
 use frames::Checked;
+ghost use Prim.Native.Nat.{_≤_};
 ghost use mathlib.Core.Path.{_≡_};
 ghost use mathlib.Core.Bool.{_&&_};
 ghost use Rattle.account_spec.specs.HourKinds.{kindOut};
-ghost use Rattle.account_spec.specs.Account.{isBegun, isBroken, allZero, seasonNumbers, sumsNumbers, isBlank, anyOf, sumsOut, impossible};
+ghost use Rattle.account_spec.specs.Account.{isBegun, isBroken, allZero, seasonNumbers, sumsNumbers, isBlank, anyOf, countsOut, dosesOut, aot40Out, sumsOut, impossible};
 
-// Rows 5 to 8 refuse the header.
+// Rows 5 to 8 refuse the header, or row 17 the ceiling.
 fn broken(season: Season) -> bool
     ensures { λ r. ⌜ r ≡ isBroken season ⌝ }
 {
     let header = season.header;
     let answer = records::check_header(header);
     match answer {
-        Checked::Sound => false,
+        Checked::Sound => records::ceiling_out(season.ceiling),
         Checked::Refused(_) => true,
     }
 }
 
-// Open or closed with a header broken by rows 5 to 8.
+// Open or closed with a header broken by rows 5 to 8, or a ceiling by row 17.
 fn begun_broken(phase: Phase, season: Season) -> bool
     ensures { λ r. ⌜ r ≡ (isBegun phase && isBroken season) ⌝ }
 {
@@ -37,40 +38,27 @@ fn blank_season(season: Season) -> bool
     ensures { λ r. ⌜ r ≡ allZero (seasonNumbers season) ⌝ }
 {
     let h = season.header;
-    if h.tree != 0 {
-        return false;
-    }
-    if h.days != 0 {
-        return false;
-    }
-    if h.first != 0 {
-        return false;
-    }
-    if h.last != 0 {
-        return false;
-    }
-    h.level == 0
+    (h.tree == 0)
+        & (h.days == 0)
+        & (h.first == 0)
+        & (h.last == 0)
+        & (h.level == 0)
+        & (season.ceiling == 0)
 }
 
 fn blank_sums(s: Sums) -> bool
     ensures { λ r. ⌜ r ≡ allZero (sumsNumbers s) ⌝ }
 {
-    if s.hours != 0 {
-        return false;
-    }
-    if s.counted != 0 {
-        return false;
-    }
-    if s.lower != 0 {
-        return false;
-    }
-    if s.upper != 0 {
-        return false;
-    }
-    s.aot40 == 0
+    (s.hours == 0)
+        & (s.counted == 0)
+        & (s.missing == 0)
+        & (s.lower == 0)
+        & (s.upper == 0)
+        & (s.least == 0)
+        & (s.most == 0)
 }
 
-// Header fields and sums 0.
+// Header fields, ceiling and sums 0.
 fn blank(a: Account) -> bool
     ensures { λ r. ⌜ r ≡ isBlank a ⌝ }
 {
@@ -82,24 +70,51 @@ fn blank(a: Account) -> bool
     false
 }
 
+// More counted hours than hours, or more without ozone than counted; any without ozone where there is no ceiling.
+fn counts_out(season: Season, s: Sums) -> bool
+    ensures { λ r. ⌜ r ≡ anyOf (countsOut season s) ⌝ }
+{
+    (s.hours < s.counted) | (s.counted < s.missing) | ((season.ceiling == 0) & (0 < s.missing))
+}
+
+// Dose numbers in the wrong order, too great or too far apart.
+fn doses_out(season: Season, s: Sums) -> bool
+    requires { ⌜ s .missing ≤ s .counted ⌝ }
+    ensures { λ r. ⌜ r ≡ anyOf (dosesOut season s) ⌝ }
+{
+    if s.upper < s.lower {
+        return true;
+    }
+    let counted = s.counted as u64;
+    let missing = s.missing as u64;
+    let most = limits::most_hour(season);
+    let widest = limits::gap_each(season) * (counted - missing) + most * missing;
+    (most * counted < s.upper) | (widest < s.upper - s.lower)
+}
+
+// AOT40's two numbers, likewise.
+fn aot40_out(season: Season, s: Sums) -> bool
+    ensures { λ r. ⌜ r ≡ anyOf (aot40Out season s) ⌝ }
+{
+    if s.most < s.least {
+        return true;
+    }
+    let most = limits::most_aot40(season);
+    (most * (s.counted as u64) < (s.most as u64))
+        | (most * (s.missing as u64) < ((s.most - s.least) as u64))
+}
+
 // Sums that no hours give.
 fn sums_out(season: Season, s: Sums) -> bool
     ensures { λ r. ⌜ r ≡ anyOf (sumsOut season s) ⌝ }
 {
-    let n = s.counted as u64;
-    if s.hours < s.counted {
+    if counts_out(season, s) {
         return true;
     }
-    if s.upper < s.lower {
+    if doses_out(season, s) {
         return true;
     }
-    if limits::most_hour(season) * n < s.upper {
-        return true;
-    }
-    if limits::gap_each(season) * n < s.upper - s.lower {
-        return true;
-    }
-    limits::most_aot40(season) * n < (s.aot40 as u64)
+    aot40_out(season, s)
 }
 
 // Hours without a kind, or a kind without hours.
@@ -114,7 +129,7 @@ fn kind_out(kind: HourKind, hours: u16) -> bool
     }
 }
 
-// Row 13: the account is one that no list of lines gives. The row is one condition of ten, in any order: with the sums first the account is not
+// Row 13: the account is one that no list of lines gives. The row is one condition of fourteen, in any order: with the sums first the account is not
 // copied before its test.
 pub fn impossible(a: Account) -> bool
     ensures { λ r. ⌜ r ≡ impossible a ⌝ }

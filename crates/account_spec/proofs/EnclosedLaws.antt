@@ -1,31 +1,38 @@
--- Sums that enclose their doses enclose them added up; so do the sums of any hours in a row that row 10 lets pass, from what those before them left.
-use Prim.Native.Nat.{ℕ, _+_, _*_, _≤_, max}
-use mathlib.Core.Path.{refl, sym, subst}
+-- Sums that enclose doses and AOT40 enclose them added up; so do the sums of any hours in a row that row 10 lets pass, for every filling, from what those before
+-- them left.
+use Prim.Native.Nat.{ℕ, _+_, _-_, _*_, _≤_, max}
+use mathlib.Core.Path.{_≡_, refl, sym, ap, subst, _∙_}
 use mathlib.Core.List.{List, [], _∷_, _++_}
 use native.Mathlib.Nat.{mul-le-mul-right}
 use native.Mathlib.Omega.{arith}
 use Rattle.exact.specs.Frac.{Frac, _⊕_}
 use Rattle.exact.proofs.FracLaws.{≼-trans, ⊕-mono, ⊕-low, ⊕-high}
+use Rattle.trees.specs.declared.Choice.{Choice}
 use Rattle.trees.specs.Sound.{Sound}
+use Rattle.trees.specs.Figures.{figuresOf}
 use Rattle.records.specs.declared.Hour.{Hour}
 use Rattle.records.specs.Answers.{Outcome, accepted}
+use Rattle.records.specs.Ozone.{allReadAs, Fills, AllFill}
+use Rattle.records.specs.Ranges.{onTree}
+use Rattle.records.proofs.OzoneLaws.{read-is}
 use Rattle.flux_spec.specs.declared.Stand.{Stand}
+use Rattle.flux_spec.specs.HourDose.{standOf}
 use Rattle.flux_spec.specs.Enclosure.{mostDose, gapMost}
 use Rattle.account_spec.specs.declared.Season.{Season}
 use Rattle.account_spec.specs.declared.Sums.{Sums}
 use Rattle.account_spec.specs.Limits.{mostHour, gapEach}
-use Rattle.account_spec.specs.Hours.{noSums, plus, standIn, Carried, carriedAfter, sumsOf, podOf}
-use Rattle.account_spec.specs.Enclosed.{AllChecked, AllDosed, gapHour, Encloses, HoursEnclosed}
-use Rattle.account_spec.proofs.SumsLaws.{counted-le, aot40-le}
+use Rattle.account_spec.specs.Hours.{noSums, plus, standIn, ceilingIn, Carried, carriedAfter, sumsOf, podOf}
+use Rattle.account_spec.specs.Enclosed.{AllChecked, AllDosed, AllRead, gapHour, Encloses, SumsSized, HoursEnclosed}
+use Rattle.account_spec.specs.Book.{countedOf, excessOver}
+use Rattle.account_spec.proofs.SumsLaws.{lower-is, upper-is, counted-le, missing-none}
+use Rattle.account_spec.proofs.Aot40Laws.{excess-cons, least-is, most-is, aot40-in}
 use Rattle.account_spec.proofs.PossibleLaws.{SumsIn}
-use Rattle.account_spec.proofs.HourLaws.{none-encloses, hour-encloses, stand-limited}
+use Rattle.account_spec.proofs.HourLaws.{none-encloses, none-sized, hour-encloses, hour-sized, season-stand}
 
 -- ---- two parts
 
 -- the greater k serves both
-plus-encloses :
-    {apart each : ℕ} {s t : Sums} {p q : ℕ → Frac} → Encloses apart each s p → Encloses apart each t q →
-    Encloses apart each (plus s t) (λ k. p k ⊕ q k)
+plus-encloses : {s t : Sums} {p q : ℕ → Frac} {m n : ℕ} → Encloses s p m → Encloses t q n → Encloses (plus s t) (λ k. p k ⊕ q k) (m + n)
 plus-encloses e f =
     let k = max (e .low .at) (f .low .at) in
     record {
@@ -36,65 +43,147 @@ plus-encloses e f =
                 ⊕-low (≼-trans (e .low .under) (e .grows (e .low .at) k (omega arith))) (≼-trans (f .low .under) (f .grows (f .low .at) k (omega arith)));
           };
       high = record { every = λ j. ⊕-high (e .high .every j) (f .high .every j) };
-      order = omega arith;
-      gap = omega arith;
-      most = omega arith;
+      least = omega (arith, e .least, f .least);
+      most = omega (arith, e .most, f .most);
       grows = λ j l h. ⊕-mono (e .grows j l h) (f .grows j l h);
     }
 
+plus-sized : {apart each : ℕ} {s t : Sums} → SumsSized apart each s → SumsSized apart each t → SumsSized apart each (plus s t)
+plus-sized {apart} {each} {s} {t} e f =
+    let read : s .counted + t .counted - (s .missing + t .missing) ≡ s .counted - s .missing + (t .counted - t .missing) = omega (arith, e .missing, f .missing) in
+    record {
+      missing = omega (arith, e .missing, f .missing);
+      order = omega (arith, e .order, f .order);
+      gap = rw read (omega (arith, e .gap, f .gap));
+      most = omega (arith, e .most, f .most);
+    }
+
 -- by a greater gap and a greater most
-encloses-more : {a b m n : ℕ} {s : Sums} {pod : ℕ → Frac} → a ≤ b → m ≤ n → Encloses a m s pod → Encloses b n s pod
-encloses-more {s = s} wide le e = record {
-  low = e .low;
-  high = e .high;
+sized-more : {a b m n : ℕ} {s : Sums} → a ≤ b → m ≤ n → SumsSized a m s → SumsSized b n s
+sized-more {s = s} wide le e = record {
+  missing = e .missing;
   order = e .order;
-  gap = omega (arith, e .gap, mul-le-mul-right (s .counted) wide);
+  gap = omega (arith, e .gap, mul-le-mul-right (s .counted - s .missing) wide, mul-le-mul-right (s .missing) le);
   most = omega (arith, e .most, mul-le-mul-right (s .counted) le);
-  grows = e .grows;
 }
 
 -- within row 13's gap
-pub encloses-gap :
-    (season : Season) {each : ℕ} {s : Sums} {pod : ℕ → Frac} → Encloses (gapHour season) each s pod → s .upper ≤ s .lower + gapEach season * s .counted
-encloses-gap season {s = s} e =
-    let each : gapHour season ≤ gapEach season = omega arith in
-    omega (arith, e .gap, mul-le-mul-right (s .counted) each)
+pub sized-gap :
+    (season : Season) {s : Sums} → SumsSized (gapHour season) (mostHour season) s →
+    s .upper ≤ s .lower + (gapEach season * (s .counted - s .missing) + mostHour season * s .missing)
+sized-gap season e = let wide : gapHour season ≤ gapEach season = omega arith in sized-more {n = mostHour season} wide (omega arith) e .gap
 
 -- ---- hours in a row
 
-pub list-enclosed :
-    (stand : Stand) → Sound (stand .figures) → (c : Carried) (hs : List Hour) → AllChecked hs →
-    HoursEnclosed (gapMost (stand .figures)) (mostDose (stand .figures .gmax)) (accepted stand) c hs
-unfolding sumsOf podOf
-list-enclosed stand sound c [] all = none-encloses (gapMost (stand .figures)) (mostDose (stand .figures .gmax)) noSums refl refl
-list-enclosed stand sound c (h ∷ hs) all =
-    plus-encloses (hour-encloses stand sound c h (all .0)) (list-enclosed stand sound (carriedAfter (accepted stand) c h) hs (all .1))
+-- what holds whatever the fillings and the sizes
+hours-read :
+    (apart each : ℕ) (stand : Outcome Stand) (c : Carried) (hs : List Hour) →
+    ((fs : List Hour) → AllFill (ceilingIn stand) hs fs → Encloses (sumsOf stand c hs) (podOf stand c fs) (excessOver (countedOf fs))) →
+    SumsSized apart each (sumsOf stand c hs) → HoursEnclosed apart each stand c hs
+hours-read apart each stand c hs filled sized = record {
+  filled = filled;
+  sized = sized;
+  lower = lower-is stand c hs;
+  upper = upper-is stand c hs;
+  least = least-is stand c hs;
+  most = most-is stand c hs;
+}
+
+none-filled :
+    (stand : Outcome Stand) (c : Carried) (fs : List Hour) → AllFill (ceilingIn stand) [] fs →
+    Encloses (sumsOf stand c []) (podOf stand c fs) (excessOver (countedOf fs))
+unfolding sumsOf podOf excessOver countedOf
+none-filled stand c fs AllFill.none = none-encloses noSums refl refl refl
+
+module _ (stand : Stand) (sound : Sound (stand .figures)) (few : stand .ceiling ≤ 5000) where
+  list-filled :
+      (c : Carried) (hs : List Hour) → AllChecked hs → (fs : List Hour) → AllFill (stand .ceiling) hs fs →
+      Encloses (sumsOf (accepted stand) c hs) (podOf (accepted stand) c fs) (excessOver (countedOf fs))
+  unfolding sumsOf podOf
+  list-filled c hs all fs AllFill.none = none-filled (accepted stand) c [] AllFill.none
+  list-filled c hs all fs (AllFill.hours {h} {f} {hs = rest} {fs = more} fill fills) =
+      rw (excess-cons f more)
+      (plus-encloses (hour-encloses stand sound few c h (all .0) f fill) (list-filled (carriedAfter (accepted stand) c h) rest (all .1) more fills))
+
+  list-sized : (c : Carried) (hs : List Hour) → AllChecked hs → SumsSized (gapMost (stand .figures)) (mostDose (stand .figures .gmax)) (sumsOf (accepted stand) c hs)
+  unfolding sumsOf
+  list-sized c [] all = none-sized (gapMost (stand .figures)) (mostDose (stand .figures .gmax)) noSums refl refl refl
+  list-sized c (h ∷ hs) all = plus-sized (hour-sized stand sound few c h (all .0)) (list-sized (carriedAfter (accepted stand) c h) hs (all .1))
+
+  pub list-enclosed :
+      (c : Carried) (hs : List Hour) → AllChecked hs → HoursEnclosed (gapMost (stand .figures)) (mostDose (stand .figures .gmax)) (accepted stand) c hs
+  list-enclosed c hs all = hours-read _ _ (accepted stand) c hs (list-filled c hs all) (list-sized c hs all)
+
+-- ---- of a season
 
 all-checked : (season : Season) (hs : List Hour) → AllDosed season hs → AllChecked hs
 all-checked season [] all = tt
 all-checked season (h ∷ hs) all = (all .0 .2, all-checked season hs (all .1))
 
-pub hours-enclosed : (season : Season) (c : Carried) (hs : List Hour) → AllDosed season hs → HoursEnclosed (gapHour season) (mostHour season) (standIn season) c hs
-unfolding sumsOf podOf
-hours-enclosed season c [] all = none-encloses (gapHour season) (mostHour season) noSums refl refl
-hours-enclosed season c (h ∷ hs) all =
+pub hours-enclosed :
+    (season : Season) → season .ceiling ≤ 5000 → (c : Carried) (hs : List Hour) → AllDosed season hs →
+    HoursEnclosed (gapHour season) (mostHour season) (standIn season) c hs
+unfolding sumsOf
+hours-enclosed season few c [] all =
+    hours-read _ _ (standIn season) c [] (none-filled (standIn season) c) (none-sized (gapHour season) (mostHour season) noSums refl refl refl)
+hours-enclosed season few c (h ∷ hs) all =
     let stand = all .0 .0 in
-    let is = all .0 .1 in
-    let limited = stand-limited season stand is in
-    subst (λ (s : Outcome Stand). HoursEnclosed (gapHour season) (mostHour season) s c (h ∷ hs)) (sym is)
-    (encloses-more (omega (arith, limited .gap)) (omega (arith, limited .gmax)) (list-enclosed stand (limited .sound) c (h ∷ hs) (all-checked season (h ∷ hs) all)))
+    let own = season-stand season stand (all .0 .1) in
+    let e = list-enclosed stand (own .limited .sound) (omega (arith, own .ceiling)) c (h ∷ hs) (all-checked season (h ∷ hs) all) in
+    subst (λ (s : Outcome Stand). HoursEnclosed (gapHour season) (mostHour season) s c (h ∷ hs)) (sym (all .0 .1))
+    (hours-read _ _ (accepted stand) c (h ∷ hs) (e .filled) (sized-more (omega (arith, own .limited .gap)) (omega (arith, own .limited .gmax)) (e .sized)))
+
+-- the season's ceiling is the stand's, where there are hours
+
+ceiling-is : (season : Season) (h : Hour) (hs : List Hour) → AllDosed season (h ∷ hs) → ceilingIn (standIn season) ≡ season .ceiling
+ceiling-is season h hs all = ap ceilingIn (all .0 .1) ∙ season-stand season (all .0 .0) (all .0 .1) .ceiling
+
+pub season-fill :
+    (season : Season) (hs fs : List Hour) → AllDosed season hs → AllFill (season .ceiling) hs fs → AllFill (ceilingIn (standIn season)) hs fs
+season-fill season [] fs all AllFill.none = AllFill.none
+season-fill season (h ∷ hs) fs all fill = subst (λ (n : ℕ). AllFill n (h ∷ hs) fs) (sym (ceiling-is season h hs all)) fill
+
+pub season-read : (season : Season) (hs : List Hour) → AllDosed season hs → allReadAs (ceilingIn (standIn season)) hs ≡ allReadAs (season .ceiling) hs
+season-read season [] all = refl
+season-read season (h ∷ hs) all = ap (λ (n : ℕ). allReadAs n (h ∷ hs)) (ceiling-is season h hs all)
+
+tree-few : (choice : Choice) (season : Season) → season .ceiling ≤ 5000 →
+    ceilingIn (onTree choice (λ f. accepted (standOf f (season .header .first) (season .header .last) (season .ceiling)))) ≤ 5000
+tree-few (Choice.Tree f) season few = few
+tree-few Choice.Unknown season few = omega arith
+
+season-few : (season : Season) → season .ceiling ≤ 5000 → ceilingIn (standIn season) ≤ 5000
+unfolding standIn
+season-few season few = tree-few (figuresOf (season .header .tree)) season few
 
 -- row 13 lets their sums pass
-pub hours-in : (season : Season) (c : Carried) (hs : List Hour) → AllDosed season hs → SumsIn season (sumsOf (standIn season) c hs)
-hours-in season c hs all =
-    let e = hours-enclosed season c hs all in
+pub hours-in :
+    (season : Season) → season .ceiling ≤ 5000 → (c : Carried) (hs : List Hour) → AllDosed season hs → (season .ceiling ≡ 0 → AllRead hs) →
+    SumsIn season (sumsOf (standIn season) c hs)
+hours-in season few c hs all read =
+    let sized = hours-enclosed season few c hs all .sized in
+    let aot40 = aot40-in season (standIn season) (season-few season few) c hs (all-checked season hs all) in
     record {
       counted = counted-le (standIn season) c hs;
-      order = e .order;
-      most = e .most;
-      gap = encloses-gap season e;
-      aot40 = aot40-le (standIn season) season c hs (all-checked season hs all);
+      missing = sized .missing;
+      bounded = λ none. missing-none (standIn season) c hs (read none);
+      order = sized .order;
+      most = sized .most;
+      gap = sized-gap season sized;
+      aot40-order = aot40 .order;
+      aot40-most = aot40 .most;
+      aot40-width = aot40 .width;
     }
+
+-- ---- where ozone is read in every hour, they are their own filling
+
+pub read-fill : (n : ℕ) (hs : List Hour) → AllRead hs → AllFill n hs hs
+read-fill n [] all = AllFill.none
+read-fill n (h ∷ hs) all = AllFill.hours (Fills.given (all .0)) (read-fill n hs (all .1))
+
+pub read-same : (n : ℕ) (hs : List Hour) → AllRead hs → allReadAs n hs ≡ hs
+read-same n [] all = refl
+read-same n (h ∷ hs) all = rw (read-is n h (all .0), read-same n hs (all .1)) refl
 
 -- ---- a part of a season and the next
 

@@ -1,5 +1,5 @@
--- One hour: its sums enclose its dose. All that is used of `flux_spec`'s pair is here: `enclosure .hour` and `enclosure .trees`.
-use Prim.Native.Nat.{ℕ, _≤_}
+-- One hour: its sums enclose the dose and AOT40 of every filling. All that is used of `flux_spec`'s pair is here: `enclosure .pair` and `enclosure .trees`.
+use Prim.Native.Nat.{ℕ, _+_, _-_, _*_, _≤_}
 use mathlib.Core.Path.{_≡_, refl, sym, ap, subst}
 use mathlib.Core.Bool.{Bool, true, false, cond}
 use native.Mathlib.Nat.{mul-le-mul-right}
@@ -12,12 +12,14 @@ use Rattle.trees.specs.Figures.{figuresOf}
 use Rattle.records.specs.declared.Hour.{Hour}
 use Rattle.records.specs.declared.Record.{Record}
 use Rattle.records.specs.Answers.{accepted}
+use Rattle.records.specs.Ozone.{isMissing, Fills}
 use Rattle.records.specs.Ranges.{checked}
 use Rattle.records.proofs.AnswerLaws.{accepted-same, onTree-passed}
+use Rattle.records.proofs.OzoneLaws.{filling-within}
 use Rattle.flux_spec.specs.declared.Stand.{Stand}
 use Rattle.flux_spec.specs.Dose.{isCounted, excess, doseAt, NotAbove, NotBelow}
 use Rattle.flux_spec.specs.Pair.{hourPair}
-use Rattle.flux_spec.specs.Enclosure.{mostDose, gapMost, Limited}
+use Rattle.flux_spec.specs.Enclosure.{mostDose, gapMost, PairEnclosed, Limited}
 use Rattle.flux_spec.proofs.BudgetLaws.{gapDose-most}
 use Rattle.flux_spec.proofs.HourDoseLaws.{stand-passed}
 use Rattle.flux_spec.proofs.EnclosureLaws.{enclosure}
@@ -25,8 +27,9 @@ use Rattle.account_spec.specs.declared.Season.{Season}
 use Rattle.account_spec.specs.declared.Sums.{Sums}
 use Rattle.account_spec.specs.Limits.{mostHour}
 use Rattle.account_spec.specs.Hours.{standIn, Carried, pairOf, countedSums, uncountedSums, hourSums, hourPod}
-use Rattle.account_spec.specs.Enclosed.{HasDose, Encloses}
+use Rattle.account_spec.specs.Enclosed.{HasDose, Encloses, SumsSized}
 use Rattle.account_spec.specs.Steps.{Dosable}
+use Rattle.account_spec.proofs.SumsLaws.{by-counted}
 
 -- ---- a number below one that is not above the dose, and above one that is not below it
 
@@ -40,71 +43,107 @@ notBelow-le {pod = pod} h high = record { every = λ k. record { cross = omega (
 -- ---- one hour, by any stand
 
 -- nothing encloses nothing, whatever the number of hours
-pub none-encloses : (apart each : ℕ) (s : Sums) → s .lower ≡ 0 → s .upper ≡ 0 → Encloses apart each s (λ k. natural 0)
-none-encloses apart each s l u = record {
+pub none-encloses : (s : Sums) → s .lower ≡ 0 → s .upper ≡ 0 → s .least ≡ 0 → Encloses s (λ k. natural 0) 0
+none-encloses s l u a = record {
   low = record { at = 0; under = rw l (≼-refl (natural 0)) };
   high = record { every = λ k. rw u (≼-refl (natural 0)) };
-  order = omega arith;
-  gap = omega arith;
+  least = omega arith;
   most = omega arith;
   grows = λ k l j. ≼-refl (natural 0);
 }
 
+pub none-sized : (apart each : ℕ) (s : Sums) → s .missing ≡ 0 → s .lower ≡ 0 → s .upper ≡ 0 → SumsSized apart each s
+none-sized apart each s m l u = record { missing = omega arith; order = omega arith; gap = omega arith; most = omega arith }
+
 cond-encloses :
-    (apart each : ℕ) (b : Bool) (s : Sums) (dose : ℕ → Frac) → Encloses apart each s dose →
-    Encloses apart each (cond b s uncountedSums) (λ k. cond b (dose k) (natural 0))
-cond-encloses apart each true s dose e = e
-cond-encloses apart each false s dose e = none-encloses apart each uncountedSums refl refl
+    (t : Bool) (s : Sums) (dose : ℕ → Frac) (aot40 : ℕ) → Encloses s dose aot40 →
+    Encloses (cond t s uncountedSums) (λ k. cond t (dose k) (natural 0)) (cond t aot40 0)
+cond-encloses true s dose aot40 e = e
+cond-encloses false s dose aot40 e = none-encloses uncountedSums refl refl refl
 
-module _ (stand : Stand) (sound : Sound (stand .figures)) (c : Carried) (h : Hour) (passed : checked (Record.Hour h) ≡ accepted tt) where
-  abbrev apart : ℕ
-  apart = gapMost (stand .figures)
+one-le : (t : Bool) → cond t 1 0 ≤ 1
+one-le true = omega arith
+one-le false = omega arith
 
-  abbrev each : ℕ
-  each = mostDose (stand .figures .gmax)
+-- the gap of an hour with ozone, and of one without
+gap-le : (apart each lower upper : ℕ) (t : Bool) → (t ≡ false → upper ≤ lower + apart) → upper ≤ each → upper ≤ lower + (apart * (1 - cond t 1 0) + each * cond t 1 0)
+gap-le apart each lower upper true near most = omega arith
+gap-le apart each lower upper false near most = omega (arith, near refl)
 
-  -- a counted hour adds its pair
-  counted-encloses : Encloses apart each (countedSums (hourPair stand h) (excess h)) (λ k. doseAt k stand h)
-  counted-encloses =
-      let one = enclosure .hour stand sound h passed in
-      record {
-        low = notAbove-le (omega (arith, one .order)) (one .low);
-        high = notBelow-le (omega (arith, one .most)) (one .high);
-        order = omega (arith, one .order);
-        gap = omega (arith, one .gap, gapDose-most (stand .figures) (h .air));
-        most = omega (arith, one .most);
-        grows = one .grows;
-      }
+module _
+    (stand : Stand) (sound : Sound (stand .figures)) (few : stand .ceiling ≤ 5000) (c : Carried) (h : Hour)
+    (passed : checked (Record.Hour h) ≡ accepted tt)
+  where
+    abbrev apart : ℕ
+    apart = gapMost (stand .figures)
 
-  pub hour-encloses : Encloses apart each (hourSums (accepted stand) c h) (hourPod (accepted stand) c h)
-  unfolding hourSums hourPod pairOf
-  hour-encloses = cond-encloses apart each (isCounted h) _ _ counted-encloses
+    abbrev each : ℕ
+    each = mostDose (stand .figures .gmax)
+
+    pair : PairEnclosed stand h
+    pair = enclosure .pair stand sound few h passed
+
+    module _ (f : Hour) (fills : Fills (stand .ceiling) h f) where
+      -- a counted hour adds its pair
+      counted-encloses : Encloses (countedSums (hourPair stand h) (stand .ceiling) h) (λ k. doseAt k stand f) (excess f)
+      counted-encloses =
+          let within = filling-within (stand .ceiling) h f fills in
+          record {
+            low = notAbove-le (omega (arith, pair .order)) (pair .low f fills);
+            high = notBelow-le (omega (arith, pair .most)) (pair .high f fills);
+            least = rw (within .is) (omega (arith, within .above));
+            most = rw (within .is) (omega (arith, within .below));
+            grows = pair .grows f fills;
+          }
+
+    -- G is the filling's too
+    pub hour-encloses :
+        (f : Hour) → Fills (stand .ceiling) h f → Encloses (hourSums (accepted stand) c h) (hourPod (accepted stand) c f) (cond (isCounted f) (excess f) 0)
+    unfolding hourSums hourPod pairOf
+    hour-encloses f (Fills.given e) = cond-encloses (isCounted h) _ _ _ (counted-encloses f (Fills.given e))
+    hour-encloses f (Fills.filled e n le) = cond-encloses (isCounted h) _ _ _ (counted-encloses f (Fills.filled e n le))
+
+    pub hour-sized : SumsSized apart each (hourSums (accepted stand) c h)
+    unfolding hourSums pairOf
+    hour-sized =
+        by-counted (SumsSized apart each) (isCounted h) _
+        (record {
+          missing = one-le (isMissing (h .ozone));
+          order = pair .order;
+          gap = gap-le apart each _ _ (isMissing (h .ozone)) (λ given. omega (arith, pair .gap given, gapDose-most (stand .figures) (h .air))) (pair .most);
+          most = omega (arith, pair .most);
+        })
+        (none-sized apart each uncountedSums refl refl refl)
 
 -- ---- one hour of a season
 
--- the season's stand is its tree's
-pub stand-limited : (season : Season) (stand : Stand) → standIn season ≡ accepted stand → Limited (stand .figures)
+-- the season's stand has its tree's figures and its ceiling
+pub record SeasonStand (season : Season) (stand : Stand) : Type 0 where
+  pub limited : Limited (stand .figures)
+  pub ceiling : stand .ceiling ≡ season .ceiling
+
+pub season-stand : (season : Season) (stand : Stand) → standIn season ≡ accepted stand → SeasonStand season stand
 unfolding standIn
-stand-limited season stand e =
+season-stand season stand e =
     let found = onTree-passed (figuresOf (season .header .tree)) _ stand e in
-    subst (λ (s : Stand). Limited (s .figures)) (accepted-same (found .2)) (enclosure .trees (season .header .tree) (found .0) (found .1))
+    subst (SeasonStand season) (accepted-same (found .2)) (record { limited = enclosure .trees (season .header .tree) (found .0) (found .1); ceiling = refl })
 
 pub record PairSized (season : Season) (pair : Bounds) : Type 0 where
   pub order : pair .lower ≤ pair .upper
   pub most : pair .upper ≤ mostHour season
 
 module _ (season : Season) (h : Hour) where
-  pub pair-sized : (c : Carried) → HasDose season h → PairSized season (pairOf (standIn season) c h)
-  unfolding pairOf
-  pair-sized c has =
-      let limited = stand-limited season (has .0) (has .1) in
-      let one = enclosure .hour (has .0) (limited .sound) h (has .2) in
-      rw (has .1) (record { order = one .order; most = omega (arith, one .most, limited .gmax) })
-
   -- `hour_dose` goes by the season's stand
   pub dosable-stand : (d : Dosable season h) → standIn season ≡ accepted (d .0)
   unfolding standIn
-  dosable-stand d = let p = stand-passed _ _ _ h (d .0) (d .1) in rw (p .named) (ap accepted (sym (p .is)))
+  dosable-stand d = let p = stand-passed _ _ _ _ h (d .0) (d .1) in rw (p .named) (ap accepted (sym (p .is)))
 
   pub dosable-has : Dosable season h → HasDose season h
-  dosable-has d = (d .0, dosable-stand d, stand-passed _ _ _ h (d .0) (d .1) .checks)
+  dosable-has d = (d .0, dosable-stand d, stand-passed _ _ _ _ h (d .0) (d .1) .checks)
+
+  pub pair-sized : season .ceiling ≤ 5000 → (c : Carried) → HasDose season h → PairSized season (pairOf (standIn season) c h)
+  unfolding pairOf
+  pair-sized few c has =
+      let own = season-stand season (has .0) (has .1) in
+      let one = enclosure .pair (has .0) (own .limited .sound) (omega (arith, own .ceiling)) h (has .2) in
+      rw (has .1) (record { order = one .order; most = omega (arith, one .most, own .limited .gmax) })

@@ -1,4 +1,5 @@
 pub mod SumsLaws
+pub mod Aot40Laws
 pub mod PossibleLaws
 pub mod RuleLaws
 pub mod HourLaws
@@ -8,5 +9,6 @@ pub mod BookLaws
 pub mod TurnLaws
 pub mod RowLaws
 pub mod VerdictLaws
+pub mod ReadingLaws
 pub mod SeasonLaws
 pub mod RunLaws

@@ -1,14 +1,14 @@
 -- An account that row 13 lets pass: what each of the row's conditions says of it, and that it has room for another hour.
-use Prim.Native.Nat.{_+_, _-_, _*_, _≤_}
+use Prim.Native.Nat.{ℕ, _+_, _-_, _*_, _≤_}
 use mathlib.Core.Path.{_≡_, refl, sym, ap}
 use mathlib.Core.Bool.{Bool, true, false, not, true≢false, false≢true, or-false, or-true, _&&_, _||_}
 use native.Mathlib.Nat.{mul-le-mul-left}
 use native.Mathlib.Omega.{arith}
 use lib.Dec.{eqb, ltb}
-use borrow.Author.Tests.{ltb-false, le-ltb, eqb-true, not-false}
+use borrow.Author.Tests.{ltb-false, le-ltb, eq-eqb, eqb-true, not-false}
 use Rattle.records.specs.declared.Record.{Record}
 use Rattle.records.specs.Answers.{Outcome, accepted, refused}
-use Rattle.records.specs.Ranges.{checked}
+use Rattle.records.specs.Ranges.{checked, ceilingOut}
 use Rattle.records.specs.Period.{periodHours, allGiven}
 use Rattle.records.proofs.AnswerLaws.{and-both, or-neither}
 use Rattle.frames.proofs.RangeLaws.{period-le}
@@ -24,13 +24,18 @@ use Rattle.account_spec.specs.Steps.{Room}
 -- sums that hours can give
 pub record SumsIn (season : Season) (s : Sums) : Type 0 where
   pub counted : s .counted ≤ s .hours
+  pub missing : s .missing ≤ s .counted
+  pub bounded : season .ceiling ≡ 0 → s .missing ≡ 0
   pub order : s .lower ≤ s .upper
   pub most : s .upper ≤ mostHour season * s .counted
-  pub gap : s .upper ≤ s .lower + gapEach season * s .counted
-  pub aot40 : s .aot40 ≤ mostAot40 season * s .counted
+  pub gap : s .upper ≤ s .lower + (gapEach season * (s .counted - s .missing) + mostHour season * s .missing)
+  pub aot40-order : s .least ≤ s .most
+  pub aot40-most : s .most ≤ mostAot40 season * s .counted
+  pub aot40-width : s .most ≤ s .least + mostAot40 season * s .missing
 
 pub record Possible (a : Account) : Type 0 where
   pub header : isBegun (a .phase) ≡ true → checked (Record.Header (a .season .header)) ≡ accepted tt
+  pub ceiling : isBegun (a .phase) ≡ true → ceilingOut (a .season .ceiling) ≡ false
   pub hours : a .sums .hours ≤ periodHours (a .season .header)
   pub sums : SumsIn (a .season) (a .sums)
   pub kind : kindOut (a .kind) (a .sums .hours) ≡ false
@@ -84,30 +89,45 @@ sums-first a =
 -- ---- row 13, one condition after the other
 
 module _ (season : Season) (s : Sums) where
+  -- the widest gap that the row allows
+  abbrev widest : ℕ
+  widest = gapEach season * (s .counted - s .missing) + mostHour season * s .missing
+
   sums-in : anyOf (sumsOut season s) ≡ false → SumsIn season s
   sums-in e =
       let counted = or-neither (ltb (s .hours) (s .counted)) _ e in
-      let order = or-neither (ltb (s .upper) (s .lower)) _ (counted .1) in
+      let missing = or-neither (ltb (s .counted) (s .missing)) _ (counted .1) in
+      let bounded = or-neither (eqb (season .ceiling) 0 && ltb 0 (s .missing)) _ (missing .1) in
+      let order = or-neither (ltb (s .upper) (s .lower)) _ (bounded .1) in
       let most = or-neither (ltb (mostHour season * s .counted) (s .upper)) _ (order .1) in
-      let gap = or-neither (ltb (gapEach season * s .counted) (s .upper - s .lower)) _ (most .1) in
-      let aot40 = or-neither (ltb (mostAot40 season * s .counted) (s .aot40)) _ (gap .1) in
-      let near = ltb-false (gapEach season * s .counted) (s .upper - s .lower) (gap .0) in
+      let gap = or-neither (ltb widest (s .upper - s .lower)) _ (most .1) in
+      let aot40-order = or-neither (ltb (s .most) (s .least)) _ (gap .1) in
+      let aot40-most = or-neither (ltb (mostAot40 season * s .counted) (s .most)) _ (aot40-order .1) in
+      let aot40-width = or-neither (ltb (mostAot40 season * s .missing) (s .most - s .least)) _ (aot40-most .1) in
       record {
         counted = ltb-false _ _ (counted .0);
+        missing = ltb-false _ _ (missing .0);
+        bounded = λ h. omega (arith, ltb-false 0 (s .missing) (and-false (eqb (season .ceiling) 0) _ (bounded .0) (eq-eqb (season .ceiling) 0 h)));
         order = ltb-false _ _ (order .0);
         most = ltb-false _ _ (most .0);
-        gap = omega (arith, near);
-        aot40 = ltb-false _ _ (aot40 .0);
+        gap = omega (arith, ltb-false widest (s .upper - s .lower) (gap .0));
+        aot40-order = ltb-false _ _ (aot40-order .0);
+        aot40-most = ltb-false _ _ (aot40-most .0);
+        aot40-width = omega (arith, ltb-false (mostAot40 season * s .missing) (s .most - s .least) (aot40-width .0));
       }
 
   in-sums : SumsIn season s → anyOf (sumsOut season s) ≡ false
   in-sums p =
       simp (
         le-ltb (s .hours) (s .counted) (p .counted),
+        le-ltb (s .counted) (s .missing) (p .missing),
+        false-and (eqb (season .ceiling) 0) (ltb 0 (s .missing)) (λ none. le-ltb 0 (s .missing) (omega (arith, p .bounded (eqb-true (season .ceiling) 0 none)))),
         le-ltb (s .upper) (s .lower) (p .order),
         le-ltb (mostHour season * s .counted) (s .upper) (p .most),
-        le-ltb (gapEach season * s .counted) (s .upper - s .lower) (omega arith),
-        le-ltb (mostAot40 season * s .counted) (s .aot40) (p .aot40),
+        le-ltb widest (s .upper - s .lower) (omega (arith, p .gap)),
+        le-ltb (s .most) (s .least) (p .aot40-order),
+        le-ltb (mostAot40 season * s .counted) (s .most) (p .aot40-most),
+        le-ltb (mostAot40 season * s .missing) (s .most - s .least) (omega (arith, p .aot40-width)),
       )
 
 module _ (a : Account) where
@@ -119,8 +139,12 @@ module _ (a : Account) where
       let kind = or-neither _ (kindOut (a .kind) (a .sums .hours)) (blank .0) in
       let sums = or-neither _ (anyOf (sumsOut (a .season) (a .sums))) (kind .0) in
       let hours = or-neither (isBegun (a .phase) && isBroken (a .season)) (ltb (periodHours (a .season .header)) (a .sums .hours)) (sums .0) in
+      let sound : isBegun (a .phase) ≡ true → (isRefused (checked (Record.Header (a .season .header))) ≡ false) × (ceilingOut (a .season .ceiling) ≡ false) =
+      λ h. or-neither (isRefused (checked (Record.Header (a .season .header)))) _ (and-false (isBegun (a .phase)) _ (hours .0) h)
+      in
       record {
-        header = λ h. accepted-is (checked (Record.Header (a .season .header))) (and-false (isBegun (a .phase)) _ (hours .0) h);
+        header = λ h. accepted-is (checked (Record.Header (a .season .header))) (sound h .0);
+        ceiling = λ h. sound h .1;
         hours = ltb-false _ _ (hours .1);
         sums = sums-in (a .season) (a .sums) (sums .1);
         kind = kind .1;
@@ -132,7 +156,7 @@ module _ (a : Account) where
   unfolding impossible
   possible-false p =
       simp (
-        false-and (isBegun (a .phase)) (isBroken (a .season)) (λ h. ap isRefused (p .header h)),
+        false-and (isBegun (a .phase)) (isBroken (a .season)) (λ h. simp (p .header h, p .ceiling h)),
         le-ltb (periodHours (a .season .header)) (a .sums .hours) (p .hours),
         in-sums (a .season) (a .sums) (p .sums),
         p .kind,
@@ -163,7 +187,9 @@ room-is a e =
     record {
       hours = omega arith;
       counted = counted;
+      missing = omega arith;
       lower = omega (arith, mul-le-mul-left (mostHour (a .season)) counted);
       upper = omega (arith, mul-le-mul-left (mostHour (a .season)) counted);
-      aot40 = omega (arith, mul-le-mul-left (mostAot40 (a .season)) counted);
+      least = omega (arith, mul-le-mul-left (mostAot40 (a .season)) counted);
+      most = omega (arith, mul-le-mul-left (mostAot40 (a .season)) counted);
     }

@@ -10,10 +10,12 @@ use lib.ListN.{getD}
 use Rattle.records.specs.declared.Raw.{Raw}
 use Rattle.records.specs.declared.RawHour.{RawHour}
 use Rattle.records.specs.declared.Refusal.{Refusal}
-use Rattle.records.specs.declared.Refusal.the-variants.{Length, Digit, Kind, Turn, Tree, Year, Period, Level, Due, Range, Count, Buffer, Account, Place, Mixed}
+use Rattle.records.specs.declared.Refusal.the-variants.{Length, Digit, Kind, Turn, Tree, Year, Period, Level, Due, Range, Count, Buffer, Account, Place, Mixed, Tried, Ceiling, NoCeiling}
 use Rattle.records.specs.Answers.{refused, rowOf}
 use Rattle.records.proofs.AnswerLaws.{and-both, or-either}
+use Rattle.records.specs.Ranges.{lacksCeiling}
 use Rattle.frames.specs.Digits.{within}
+use Rattle.frames.specs.Layout.{ozoneOf}
 use Rattle.frames.specs.Kinds.{among}
 use Rattle.frames.specs.Frames.{parsedOf}
 use Rattle.frames.specs.Rows.{oneOf}
@@ -23,27 +25,31 @@ use Rattle.account_spec.specs.declared.State.{State}
 use Rattle.account_spec.specs.HourKinds.{isMixed}
 use Rattle.account_spec.specs.Rules.{outOfTurn, isDue, countWrong, dueOf, turnOf, answerOf}
 use Rattle.account_spec.specs.Book.{Book, bookState, bookAnswer}
-use Rattle.account_spec.proofs.RuleLaws.{mixed-out, due-out, due-in}
+use Rattle.account_spec.proofs.RuleLaws.{mixed-out, due-out, lacks-out, due-in}
 
 -- row 10 besides
 abbrev answerRows : List ℕ
-answerRows = 1 ∷ 2 ∷ 3 ∷ 4 ∷ 5 ∷ 6 ∷ 7 ∷ 8 ∷ 9 ∷ 11 ∷ 15 ∷ []
+answerRows = 1 ∷ 2 ∷ 3 ∷ 4 ∷ 5 ∷ 6 ∷ 7 ∷ 8 ∷ 9 ∷ 11 ∷ 15 ∷ 17 ∷ 18 ∷ []
 
 module _ (s : State) where
-  hour-only : (h : RawHour) (m t : Bool) → isMixed (s .kind) (h .air) ≡ m → isDue s h ≡ t → Only answerRows (dueOf s (Raw.Hour h))
+  hour-only :
+      (h : RawHour) (m t l : Bool) → isMixed (s .kind) (h .air) ≡ m → isDue s h ≡ t → lacksCeiling (s .season .ceiling) (ozoneOf (h .ozone)) ≡ l →
+      Only answerRows (dueOf s (Raw.Hour h))
   unfolding among
-  hour-only h true t m e = subst (Only answerRows) (mixed-out s h m) (refused-only 15 0 refl)
-  hour-only h false true m e = subst (Only answerRows) (due-in s h m e) (only-wider refl (record-only _ (Raw.Hour h)))
-  hour-only h false false m e = subst (Only answerRows) (due-out s h m e) (refused-only 9 0 refl)
+  hour-only h true t l m e c = subst (Only answerRows) (mixed-out s h m) (refused-only 15 0 refl)
+  hour-only h false false l m e c = subst (Only answerRows) (due-out s h m e) (refused-only 9 0 refl)
+  hour-only h false true true m e c = subst (Only answerRows) (lacks-out s h m e c) (refused-only 18 0 refl)
+  hour-only h false true false m e c = subst (Only answerRows) (due-in s h m e c) (only-wider refl (record-only _ (Raw.Hour h)))
 
   -- by the frame that rows 1 to 3 let pass
   frame-only : (frame : Raw) → Only answerRows (turnOf s frame)
   unfolding turnOf dueOf among
   frame-only (Raw.Header h) = row-only (outOfTurn s (Raw.Header h)) _ _ _ refl (only-wider refl (record-only _ (Raw.Header h)))
-  frame-only (Raw.Hour h) = row-only (outOfTurn s (Raw.Hour h)) _ _ _ refl (hour-only h (isMixed (s .kind) (h .air)) (isDue s h) refl refl)
+  frame-only (Raw.Hour h) = row-only (outOfTurn s (Raw.Hour h)) _ _ _ refl (hour-only h _ _ _ refl refl refl)
   frame-only (Raw.End x) =
       row-only (outOfTurn s (Raw.End x)) _ _ _ refl
       (row-only (countWrong s (x .hours)) _ _ _ refl (accepted-only _))
+  frame-only (Raw.Ceiling c) = row-only (outOfTurn s (Raw.Ceiling c)) _ _ _ refl (only-wider refl (record-only _ (Raw.Ceiling c)))
 
   answer-only : (l : List ℕ) → Only answerRows (answerOf s l)
   unfolding answerOf among
@@ -57,8 +63,13 @@ pub record RefusalRow (n f : ℕ) : Type 0 where
   pub possible : eqb n 13 ≡ false
 
 -- by its number; no case answers 0, and row 10's has its field
+abbrev refusals : List Refusal
+refusals =
+    Account ∷ Length ∷ Digit ∷ Kind ∷ Turn ∷ Tree ∷ Year ∷ Period ∷ Level ∷ Due ∷ Account ∷ Count ∷ Buffer ∷ Account ∷ Place ∷ Mixed ∷ Tried ∷ Ceiling
+    ∷ NoCeiling ∷ []
+
 abbrev refusalAt : ℕ → Refusal
-refusalAt n = getD (Account ∷ Length ∷ Digit ∷ Kind ∷ Turn ∷ Tree ∷ Year ∷ Period ∷ Level ∷ Due ∷ Account ∷ Count ∷ Buffer ∷ Account ∷ Place ∷ Mixed ∷ []) n Account
+refusalAt n = getD refusals n Account
 
 abbrev isCase : ℕ → Bool
 isCase n = eqb (rowOf (refusalAt n) .0) n && eqb (rowOf (refusalAt n) .1) 0 && not (eqb n 13)

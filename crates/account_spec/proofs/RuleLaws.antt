@@ -12,13 +12,15 @@ use Rattle.records.specs.declared.Header.{Header}
 use Rattle.records.specs.declared.Raw.{Raw}
 use Rattle.records.specs.declared.RawHour.{RawHour}
 use Rattle.records.specs.declared.End.{End}
+use Rattle.records.specs.declared.Ceiling.{Ceiling}
 use Rattle.records.specs.declared.Record.{Record}
 use Rattle.records.specs.declared.Refusal.{Refusal}
 use Rattle.records.specs.declared.Parsed.{Parsed}
 use Rattle.records.specs.declared.Decoded.{Decoded}
 use Rattle.records.specs.Answers.{accepted, refused, rowOf, parsedAs, decodedAs}
-use Rattle.records.specs.Ranges.{checked}
+use Rattle.records.specs.Ranges.{checked, lacksCeiling}
 use Rattle.records.proofs.AnswerLaws.{row-passed}
+use Rattle.frames.specs.Layout.{ozoneOf}
 use Rattle.frames.specs.Frames.{parsedOf, soundOf, recordOf}
 use Rattle.account_spec.specs.declared.Phase.{Phase}
 use Rattle.account_spec.specs.declared.Phase.the-variants.{Fresh, Open, Closed}
@@ -40,7 +42,7 @@ fresh-false Fresh k = ⊎-elim (λ z. absurd (omega arith)) (λ z. absurd (omega
 fresh-false Open k = refl
 fresh-false Closed k = refl
 
--- ---- a header's rows; row 15, then 9, before row 10; row 11
+-- ---- a header's rows; row 15, then 9 and 18, before row 10; row 11; row 17
 
 module _ (s : State) where
   pub header-in : (h : Header) → recordOf (s .season .header .tree) (Raw.Header h) ≡ dueOf s (Raw.Header h)
@@ -57,14 +59,21 @@ module _ (s : State) where
       unfolding dueOf
       due-out e = rw (one, e)
 
-      pub due-in : isDue s raw ≡ true → recordOf (s .season .header .tree) (Raw.Hour raw) ≡ dueOf s (Raw.Hour raw)
-      unfolding dueOf
-      due-in e = rw (one, e)
+      module _ (due : isDue s raw ≡ true) where
+        pub lacks-out : lacksCeiling (s .season .ceiling) (ozoneOf (raw .ozone)) ≡ true → refused (18, 0) ≡ dueOf s (Raw.Hour raw)
+        unfolding dueOf
+        lacks-out e = rw (one, due, e)
+
+        pub due-in :
+            lacksCeiling (s .season .ceiling) (ozoneOf (raw .ozone)) ≡ false → recordOf (s .season .header .tree) (Raw.Hour raw) ≡ dueOf s (Raw.Hour raw)
+        unfolding dueOf
+        due-in e = rw (one, due, e)
 
     -- what an hour that is accepted has passed
     pub record HourPassed (r : Record) : Type 0 where
       pub one-kind : isMixed (s .kind) (raw .air) ≡ false
       pub due : isDue s raw ≡ true
+      pub has : lacksCeiling (s .season .ceiling) (ozoneOf (raw .ozone)) ≡ false
       pub is : recordOf (s .season .header .tree) (Raw.Hour raw) ≡ accepted r
 
     pub hour-passed : (r : Record) → dueOf s (Raw.Hour raw) ≡ accepted r → HourPassed r
@@ -72,7 +81,8 @@ module _ (s : State) where
     hour-passed r e =
         let mixed = row-passed (isMixed (s .kind) (raw .air)) _ _ r e in
         let due = row-passed (not (isDue s raw)) _ _ r (mixed .1) in
-        record { one-kind = mixed .0; due = not-false (isDue s raw) (due .0); is = due .1 }
+        let has = row-passed (lacksCeiling (s .season .ceiling) (ozoneOf (raw .ozone))) _ _ r (due .1) in
+        record { one-kind = mixed .0; due = not-false (isDue s raw) (due .0); has = has .0; is = has .1 }
 
   module _ (x : End) where
     pub count-out : countWrong s (x .hours) ≡ true → refused (11, 0) ≡ dueOf s (Raw.End x)
@@ -82,6 +92,10 @@ module _ (s : State) where
     pub count-in : countWrong s (x .hours) ≡ false → recordOf (s .season .header .tree) (Raw.End x) ≡ dueOf s (Raw.End x)
     unfolding dueOf recordOf soundOf checked
     count-in e = rw e
+
+  pub ceiling-in : (c : Ceiling) → recordOf (s .season .header .tree) (Raw.Ceiling c) ≡ dueOf s (Raw.Ceiling c)
+  unfolding dueOf
+  ceiling-in c = refl
 
 -- ---- feeding
 

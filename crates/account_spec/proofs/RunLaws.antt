@@ -23,7 +23,8 @@ use Rattle.account_spec.specs.Steps.{accountOf, Proper}
 use Rattle.account_spec.proofs.BookLaws.{fresh-same}
 use Rattle.account_spec.proofs.EnclosedLaws.{list-enclosed, hours-enclosed}
 use Rattle.account_spec.proofs.RowLaws.{answer-row}
-use Rattle.account_spec.proofs.SeasonLaws.{feedOf-is, left-is, next-is-proper, readOf-is, fresh-proper, season-kept}
+use Rattle.account_spec.proofs.SeasonLaws.{feedOf-is, left-is, next-is-proper, fresh-proper, season-kept}
+use Rattle.account_spec.proofs.ReadingLaws.{readOf-is}
 
 -- ---- there is a reply to each line
 

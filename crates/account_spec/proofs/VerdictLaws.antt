@@ -4,7 +4,7 @@ use mathlib.Core.Path.{_≡_, refl, ap}
 use mathlib.Core.Bool.{Bool, true, false, cond}
 use native.Mathlib.Omega.{arith}
 use native.Mathlib.Nat.{mul-le-mul-right}
-use borrow.Author.Tests.{ltb-true, leb-true, lt-ltb}
+use borrow.Author.Tests.{ltb-true, leb-true, lt-ltb, le-ltb, le-leb}
 use mathlib.Core.List.{List}
 use lib.Dec.{ltb, leb}
 use lib.ListN.{getD}
@@ -37,11 +37,14 @@ exceeded-tests false false false e = absurd (omega (arith, first-letter e))
 tests-exceeded : (f x y : Bool) → f ≡ false → x ≡ true → cond f noneWord (cond x exceededWord (cond y belowWord undecidedWord)) ≡ exceededWord
 tests-exceeded f x y d e = rw (d, e) refl
 
-below-tests : (f x y : Bool) → cond f noneWord (cond x exceededWord (cond y belowWord undecidedWord)) ≡ belowWord → y ≡ true
+below-tests : (f x y : Bool) → cond f noneWord (cond x exceededWord (cond y belowWord undecidedWord)) ≡ belowWord → (f ≡ false) × (y ≡ true)
 below-tests true x y e = absurd (omega (arith, first-letter e))
 below-tests false true y e = absurd (omega (arith, first-letter e))
-below-tests false false true e = refl
+below-tests false false true e = (refl, refl)
 below-tests false false false e = absurd (omega (arith, first-letter e))
+
+tests-below : (f x y : Bool) → f ≡ false → x ≡ false → y ≡ true → cond f noneWord (cond x exceededWord (cond y belowWord undecidedWord)) ≡ belowWord
+tests-below f x y d e g = rw (d, e, g) refl
 
 pub record IsExceeded (phase : Phase) (season : Season) (lower : ℕ) : Type 0 where
   pub begun : isFresh phase ≡ false
@@ -59,16 +62,25 @@ module _ (phase : Phase) (season : Season) (sums : Sums) where
   pub exceeded-is : verdictWord phase season sums ≡ exceededWord → IsExceeded phase season (sums .lower)
   unfolding verdictWord
   exceeded-is e =
-      let t = exceeded-tests (isFresh phase) _ (leb (sums .upper) level) e in
+      let t = exceeded-tests (isFresh phase) _ (leb _ level) e in
       record { begun = t .0; above = omega (arith, ltb-true _ (sums .lower) (t .1)) }
 
   pub is-exceeded : IsExceeded phase season (sums .lower) → verdictWord phase season sums ≡ exceededWord
   unfolding verdictWord
-  is-exceeded x = tests-exceeded (isFresh phase) _ (leb (sums .upper) level) (x .begun) (lt-ltb _ (sums .lower) (omega (arith, x .above)))
+  is-exceeded x = tests-exceeded (isFresh phase) _ (leb _ level) (x .begun) (lt-ltb _ (sums .lower) (omega (arith, x .above)))
 
   pub below-is : verdictWord phase season sums ≡ belowWord → sums .upper ≤ level
   unfolding verdictWord
-  below-is e = leb-true (sums .upper) level (below-tests (isFresh phase) (ltb level (sums .lower)) (leb (sums .upper) level) e)
+  below-is e = omega (arith, leb-true _ level (below-tests (isFresh phase) (ltb _ (sums .lower)) (leb _ level) e .1))
+
+  pub below-begun : verdictWord phase season sums ≡ belowWord → isFresh phase ≡ false
+  unfolding verdictWord
+  below-begun e = below-tests (isFresh phase) (ltb _ (sums .lower)) (leb _ level) e .0
+
+  pub is-below : isFresh phase ≡ false → sums .lower ≤ level → sums .upper ≤ level → verdictWord phase season sums ≡ belowWord
+  unfolding verdictWord
+  is-below begun lower upper =
+      tests-below (isFresh phase) _ _ begun (le-ltb _ (sums .lower) (omega (arith, lower, upper))) (le-leb _ level (omega (arith, lower, upper)))
 
 -- ---- the exact POD1
 

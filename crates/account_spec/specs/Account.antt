@@ -1,11 +1,11 @@
 -- The account, and row 13 (document 01, "Account" and "Turned-back lines").
-use Prim.Native.Nat.{ℕ, _-_, _*_}
+use Prim.Native.Nat.{ℕ, _+_, _-_, _*_}
 use mathlib.Core.Bool.{Bool, true, false, not, _&&_, _||_}
-use mathlib.Core.List.{List, [], _∷_}
+use mathlib.Core.List.{List, [], _∷_, _++_}
 use lib.Dec.{eqb, ltb}
 use Rattle.records.specs.declared.Record.{Record}
 use Rattle.records.specs.Answers.{Outcome, accepted, refused}
-use Rattle.records.specs.Ranges.{checked}
+use Rattle.records.specs.Ranges.{checked, ceilingOut}
 use Rattle.records.specs.Period.{periodHours, allGiven}
 use Rattle.account_spec.specs.declared.Phase.{Phase}
 use Rattle.account_spec.specs.declared.Phase.the-variants.{Fresh, Open, Closed}
@@ -17,9 +17,9 @@ use Rattle.account_spec.specs.Limits.{mostHour, gapEach, mostAot40}
 use Rattle.account_spec.specs.HourKinds.{kindOut}
 use Rattle.account_spec.specs.Hours.{noSums}
 
--- the fresh account: header fields and figures 0
+-- the fresh account: header fields, ceiling and figures 0
 abbrev pub noSeason : Season
-noSeason = record { header = record { tree = 0; days = 0; first = 0; last = 0; level = 0 } }
+noSeason = record { header = record { tree = 0; days = 0; first = 0; last = 0; level = 0 }; ceiling = 0 }
 
 abbrev pub freshAccount : Account
 freshAccount = record { phase = Fresh; season = noSeason; kind = HourKind.None; sums = noSums }
@@ -42,21 +42,21 @@ abbrev pub isRefused : {A : Type 0} → Outcome A → Bool
 isRefused (accepted a) = false
 isRefused (refused r) = true
 
--- the header is broken by rows 5 to 8
+-- the header is broken by rows 5 to 8, or the ceiling by row 17
 abbrev pub isBroken : Season → Bool
-isBroken season = isRefused (checked (Record.Header (season .header)))
+isBroken season = isRefused (checked (Record.Header (season .header))) || ceilingOut (season .ceiling)
 
 abbrev pub allZero : List ℕ → Bool
 allZero [] = true
 allZero (n ∷ ns) = eqb n 0 && allZero ns
 
 abbrev pub seasonNumbers : Season → List ℕ
-seasonNumbers s = let h = s .header in h .tree ∷ h .days ∷ h .first ∷ h .last ∷ h .level ∷ []
+seasonNumbers s = let h = s .header in h .tree ∷ h .days ∷ h .first ∷ h .last ∷ h .level ∷ s .ceiling ∷ []
 
 abbrev pub sumsNumbers : Sums → List ℕ
-sumsNumbers s = s .hours ∷ s .counted ∷ s .lower ∷ s .upper ∷ s .aot40 ∷ []
+sumsNumbers s = s .hours ∷ s .counted ∷ s .missing ∷ s .lower ∷ s .upper ∷ s .least ∷ s .most ∷ []
 
--- every header field and figure is 0
+-- every header field, the ceiling and every figure is 0
 abbrev pub isBlank : Account → Bool
 isBlank a = allZero (seasonNumbers (a .season)) && allZero (sumsNumbers (a .sums))
 
@@ -64,18 +64,31 @@ abbrev pub anyOf : List Bool → Bool
 anyOf [] = false
 anyOf (b ∷ bs) = b || anyOf bs
 
--- counted > hours; lower > upper; upper > 800000·counted; gap > 4·counted; AOT40 > 4600·counted
-abbrev pub sumsOut : Season → Sums → List Bool
-sumsOut season s =
-    ltb (s .hours) (s .counted)
-    ∷ ltb (s .upper) (s .lower)
+-- counted > hours; without ozone > counted, or any with no ceiling
+abbrev pub countsOut : Season → Sums → List Bool
+countsOut season s = ltb (s .hours) (s .counted) ∷ ltb (s .counted) (s .missing) ∷ (eqb (season .ceiling) 0 && ltb 0 (s .missing)) ∷ []
+
+-- lower > upper; upper > 800000·counted; gap > 4 for each counted hour with ozone and 800000 for each without
+abbrev pub dosesOut : Season → Sums → List Bool
+dosesOut season s =
+    ltb (s .upper) (s .lower)
     ∷ ltb (mostHour season * s .counted) (s .upper)
-    ∷ ltb (gapEach season * s .counted) (s .upper - s .lower)
-    ∷ ltb (mostAot40 season * s .counted) (s .aot40)
+    ∷ ltb (gapEach season * (s .counted - s .missing) + mostHour season * s .missing) (s .upper - s .lower)
     ∷ []
 
--- row 13: open or closed with header broken by 5 to 8; hours past the period; sums that no hours give; hours without a kind or a kind without hours;
--- fresh with a header field or figure not 0; closed with hours due
+-- AOT40's lower > its upper; upper > 4600·counted; width > 4600 for each hour without
+abbrev pub aot40Out : Season → Sums → List Bool
+aot40Out season s =
+    ltb (s .most) (s .least)
+    ∷ ltb (mostAot40 season * s .counted) (s .most)
+    ∷ ltb (mostAot40 season * s .missing) (s .most - s .least)
+    ∷ []
+
+abbrev pub sumsOut : Season → Sums → List Bool
+sumsOut season s = countsOut season s ++ dosesOut season s ++ aot40Out season s
+
+-- row 13: open or closed with header broken by 5 to 8 or ceiling by 17; hours past the period; sums that no hours give; hours without a kind or a kind without hours;
+-- fresh with a header field, ceiling or figure not 0; closed with hours due
 unfoldable pub impossible : Account → Bool
 impossible a =
     (isBegun (a .phase) && isBroken (a .season))

@@ -1,5 +1,5 @@
 -- Demand 3: one claim about every list of lines fed and readings taken from a fresh account on (document 01, "The book of demand 3").
-use Prim.Native.Nat.{ℕ, zero, suc, _+_, _*_, _≤_}
+use Prim.Native.Nat.{ℕ, zero, suc, _+_, _-_, _*_, _≤_}
 use mathlib.Core.Path.{_≡_}
 use mathlib.Core.Bool.{cond}
 use mathlib.Core.List.{List, [], _∷_, _++_}
@@ -8,6 +8,7 @@ use lib.ListN.{length}
 use Rattle.trees.specs.Sound.{Sound}
 use Rattle.records.specs.declared.Hour.{Hour}
 use Rattle.records.specs.declared.Record.{Record}
+use Rattle.records.specs.Ozone.{allReadAs, AllFill}
 use Rattle.records.specs.Answers.{Outcome, accepted, refused}
 use Rattle.frames.specs.Digits.{byte, number}
 use Rattle.flux_spec.specs.declared.Stand.{Stand}
@@ -18,13 +19,13 @@ use Rattle.account_spec.specs.declared.Account.{Account}
 use Rattle.account_spec.specs.declared.Totals.{Totals}
 use Rattle.account_spec.specs.declared.Fed.{Fed}
 use Rattle.account_spec.specs.declared.Reading.{Reading}
-use Rattle.account_spec.specs.Limits.{mostHour, gapEach}
+use Rattle.account_spec.specs.Limits.{mostHour, gapEach, mostAot40}
 use Rattle.account_spec.specs.Hours.{standIn, Carried}
-use Rattle.account_spec.specs.Enclosed.{AllChecked, AllDosed, gapHour, HoursEnclosed}
+use Rattle.account_spec.specs.Enclosed.{AllChecked, AllDosed, AllRead, gapHour, HoursEnclosed}
 use Rattle.account_spec.specs.Account.{freshAccount}
 use Rattle.account_spec.specs.Rules.{leftBy}
 use Rattle.account_spec.specs.Reading.{exceededWord, belowWord, wordOf, verdictWord}
-use Rattle.account_spec.specs.Book.{Book, emptyBook, bookAnswer, bookNext, countedOf, excessOver, bookPod, Above}
+use Rattle.account_spec.specs.Book.{Book, emptyBook, bookAnswer, bookNext, countedOf, missingOf, excessOver, podIn, bookPod, Above}
 use Rattle.account_spec.specs.Runs.{Event, fed, taken, Run, Call, line, reading, RunOf, replyIn, repliesOf}
 
 -- ---- a line
@@ -41,19 +42,40 @@ pub record LineKept (a : Account) (b : Book) (l : List ℕ) (r : Fed) : Type 0 w
 
 -- ---- a reading
 
--- the book's hours, counted hours and AOT40; two numbers that enclose the exact POD1, at most 4 apart for each counted hour;
--- the verdict by the rule, and true
+-- of a filling of the book's hours (W-207): two numbers that enclose its exact POD1, two that enclose its AOT40, and a verdict that is true of it
+pub record FillingKept (b : Book) (t : Totals) (fs : List Hour) : Type 0 where
+  pub low : NotAbove (t .sums .lower) (podIn b fs)
+  pub high : NotBelow (t .sums .upper) (podIn b fs)
+  pub least : t .sums .least ≤ excessOver (countedOf fs)
+  pub most : excessOver (countedOf fs) ≤ t .sums .most
+  pub exceeded : wordOf (t .verdict) ≡ exceededWord → Above (b .season .header .level * 10000) (podIn b fs)
+  pub below : wordOf (t .verdict) ≡ belowWord → NotBelow (b .season .header .level * 10000) (podIn b fs)
+
+-- of a book without a missing ozone: its AOT40; two numbers that enclose its exact POD1, at most 4 apart for each counted hour; a verdict that is true of it
+pub record ReadKept (b : Book) (t : Totals) : Type 0 where
+  pub least : t .sums .least ≡ excessOver (countedOf (b .hours))
+  pub most : t .sums .most ≡ excessOver (countedOf (b .hours))
+  pub low : NotAbove (t .sums .lower) (bookPod b)
+  pub high : NotBelow (t .sums .upper) (bookPod b)
+  pub gap : t .sums .upper ≤ t .sums .lower + gapEach (b .season) * t .sums .counted
+  pub exceeded : wordOf (t .verdict) ≡ exceededWord → Above (b .season .header .level * 10000) (bookPod b)
+  pub below : wordOf (t .verdict) ≡ belowWord → NotBelow (b .season .header .level * 10000) (bookPod b)
+
+-- the book's hours, counted hours and those of them without ozone; its AOT40 with a missing ozone read as 0 and as the ceiling; dose numbers at most 4 apart for
+-- each counted hour with ozone and 800000 for each without; the verdict by the rule; all of it right for every filling
 pub record TotalsKept (b : Book) (t : Totals) : Type 0 where
   pub hours : t .sums .hours ≡ length (b .hours)
   pub counted : t .sums .counted ≡ length (countedOf (b .hours))
-  pub aot40 : t .sums .aot40 ≡ excessOver (countedOf (b .hours))
-  pub low : NotAbove (t .sums .lower) (bookPod b)
-  pub high : NotBelow (t .sums .upper) (bookPod b)
+  pub missing : t .sums .missing ≡ length (missingOf (countedOf (b .hours)))
+  pub least : t .sums .least ≡ excessOver (countedOf (allReadAs 0 (b .hours)))
+  pub most : t .sums .most ≡ excessOver (countedOf (allReadAs (b .season .ceiling) (b .hours)))
+  pub width : t .sums .most ≤ t .sums .least + mostAot40 (b .season) * t .sums .missing
   pub order : t .sums .lower ≤ t .sums .upper
-  pub gap : t .sums .upper ≤ t .sums .lower + gapEach (b .season) * t .sums .counted
+  pub gap : t .sums .upper ≤ t .sums .lower + (gapEach (b .season) * (t .sums .counted - t .sums .missing) + mostHour (b .season) * t .sums .missing)
   pub verdict : wordOf (t .verdict) ≡ verdictWord (b .phase) (b .season) (t .sums)
-  pub exceeded : wordOf (t .verdict) ≡ exceededWord → Above (b .season .header .level * 10000) (bookPod b)
-  pub below : wordOf (t .verdict) ≡ belowWord → NotBelow (b .season .header .level * 10000) (bookPod b)
+  pub filled : (fs : List Hour) → AllFill (b .season .ceiling) (b .hours) fs → FillingKept b t fs
+  -- where nothing is missing, what stood before
+  pub read : AllRead (b .hours) → ReadKept b t
 
 -- row 13 never comes up
 abbrev pub ReadingKept : Book → Reading → Type 0
@@ -109,9 +131,11 @@ pub record SeasonPromise : Type 0 where
   pub kept : (es : List Event) → Run freshAccount es → Kept freshAccount emptyBook es
   pub exists : (calls : List Call) → RunOf freshAccount calls
   pub day : (r : RunOf freshAccount dayCalls) → repliesOf (r .events) ≡ accepted tt ∷ refused (1, 0) ∷ acceptances 25
-  -- the sums of any list of hours, for any sound figures and any first and last day
+  -- the sums of any list of hours, for any sound figures, any first and last day and any ceiling
   pub listed :
-      (stand : Stand) → Sound (stand .figures) → (c : Carried) (hs : List Hour) → AllChecked hs →
+      (stand : Stand) → Sound (stand .figures) → stand .ceiling ≤ 5000 → (c : Carried) (hs : List Hour) → AllChecked hs →
       HoursEnclosed (gapMost (stand .figures)) (mostDose (stand .figures .gmax)) (accepted stand) c hs
   -- so those of any part of a season
-  pub enclosed : (season : Season) (c : Carried) (hs : List Hour) → AllDosed season hs → HoursEnclosed (gapHour season) (mostHour season) (standIn season) c hs
+  pub enclosed :
+      (season : Season) → season .ceiling ≤ 5000 → (c : Carried) (hs : List Hour) → AllDosed season hs →
+      HoursEnclosed (gapHour season) (mostHour season) (standIn season) c hs

@@ -17,19 +17,22 @@ pub enum HourKind {
     Humidity,
 }
 
-// What the frames before the first hour said.
+// What the frames before the first hour said: the header, the ozone ceiling in tenths of ppb (0: not fed).
 pub struct Season {
     pub header: Header,
+    pub ceiling: u16,
 }
 
-// What hours add up to: POD1 at least lower and at most upper nmol m⁻², AOT40 in tenths of ppb h, their number, how many are counted.
-// The wide ones stand first, which spares an account eight bytes.
+// What hours add up to: POD1 at least lower and at most upper nmol m⁻², AOT40 at least `least` and at most `most` tenths of ppb h, their number, how many are
+// counted, how many of those are without ozone. The wide ones stand first, which spares an account eight bytes.
 pub struct Sums {
     pub lower: u64,
     pub upper: u64,
-    pub aot40: u32,
+    pub least: u32,
+    pub most: u32,
     pub hours: u16,
     pub counted: u16,
+    pub missing: u16,
 }
 
 // The season so far.

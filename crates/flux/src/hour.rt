@@ -103,12 +103,13 @@ pub(crate) fn dosed(stand: Stand, h: Hour, vpd: Deficits) -> Bounds
     requires tabled { ⌜ Tabled (stand .figures) ⌝ }
     requires checked { ⌜ checked (Record.Hour h) ≡ accepted tt ⌝ }
     requires deficits { ⌜ vpd ≡ airDeficits (h .air) (aboveOf (h .temperature)) ⌝ }
+    requires ceiling { ⌜ stand .ceiling ≤ 5000 ⌝ }
     ensures { λ r. ⌜ r ≡ hourPair stand h ⌝ }
 {
     let f = stand.figures;
     let t = scale::above(h.temperature);
     let o = opening(f, temperature(f, t), vpd, h);
     let s = shares(stand, o, h, t);
-    let c = ozone::concentration(h, t);
+    let c = ozone::concentration(h, stand.ceiling, t);
     pair(f.gmax, f.leaf, h.wind, c, s)
 }

@@ -24,9 +24,10 @@ ghost use Rattle.flux_spec.specs.Enclosure.{Enclosure};
 ghost use Rattle.flux_spec.specs.Facts.{HourFacts};
 ghost use Rattle.flux_spec.specs.HourDose.{hourDoseOf, dosedAs};
 
-// What an hour adds to POD1, for the tree with a number and the first and the last day of the period: its pair where it is counted, else 0 and 0.
-pub fn hour_dose(tree: u8, first: u16, last: u16, h: Hour) -> Dosed
-    ensures { λ r. ⌜ dosedAs r ≡ hourDoseOf (figuresOf tree) first last h ⌝ }
+// What an hour adds to POD1, for the tree with a number, the first and the last day of the period and the ozone ceiling (0: none): its pair
+// where it is counted, else 0 and 0.
+pub fn hour_dose(tree: u8, first: u16, last: u16, ceiling: u16, h: Hour) -> Dosed
+    ensures { λ r. ⌜ dosedAs r ≡ hourDoseOf (figuresOf tree) first last ceiling h ⌝ }
     ensures enclosure { λ _. ⌜ Enclosure ⌝ }
     ensures facts { λ _. ⌜ HourFacts ⌝ }
     ensures bench_cases { λ _. ⌜ BenchCases ⌝ }
@@ -36,6 +37,13 @@ pub fn hour_dose(tree: u8, first: u16, last: u16, h: Hour) -> Dosed
     };
     if rows::days_out(figures, first, last) {
         return Dosed::Refused(Refusal::Period);
+    }
+    if records::ceiling_out(ceiling) {
+        return Dosed::Refused(Refusal::Ceiling);
+    }
+    let ozone = h.ozone;
+    if records::lacks_ceiling(ceiling, ozone) {
+        return Dosed::Refused(Refusal::NoCeiling);
     }
     let measure = figures.measure;
     let soil = h.soil;
@@ -50,6 +58,7 @@ pub fn hour_dose(tree: u8, first: u16, last: u16, h: Hour) -> Dosed
         figures,
         first,
         last,
+        ceiling,
     };
     Dosed::Pair(hour::dosed(stand, h, vapour::deficits(h)))
 }

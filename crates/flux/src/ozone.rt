@@ -1,11 +1,13 @@
-// Ozone's concentration (document 01, "Factors"; W-204), in units of 1/18000 nmol m⁻³, rounded down and up.
+// Ozone's concentration (document 01, "Factors"; W-204, W-207), in units of 1/18000 nmol m⁻³, rounded down and up.
 use exact::Bounds;
 use frames::Air;
 use frames::Hour;
+use frames::Ozone;
 ghost use mathlib.Core.Path.{_≡_};
 ghost use Prim.Native.Nat.{_*_, _<_};
 ghost use Rattle.exact.specs.Frac.{_over_};
 ghost use Rattle.exact.specs.Rounding.{roundUp, roundDown};
+ghost use Rattle.records.specs.Ozone.{tenthsOr, withOzone, readAs};
 ghost use Rattle.flux_spec.specs.Conductance.{aboveOf};
 ghost use Rattle.flux_spec.specs.Pair.{concentrationLow, concentrationUp};
 
@@ -40,13 +42,12 @@ fn plain(ozone: u16) -> Bounds
     Bounds { lower: c, upper: c }
 }
 
-// That of an hour, t tenths of a degree above -50.0 °C.
-pub(crate) fn concentration(h: Hour, t: u16) -> Bounds
+// That of an hour with tenths of ppb, t tenths of a degree above -50.0 °C.
+fn at(ozone: u16, h: Hour, t: u16) -> Bounds
     requires { ⌜ t ≡ aboveOf (h .temperature) ⌝ }
-    ensures lower { λ r. ⌜ r .lower ≡ concentrationLow h ⌝ }
-    ensures upper { λ r. ⌜ r .upper ≡ concentrationUp h ⌝ }
+    ensures lower { λ r. ⌜ r .lower ≡ concentrationLow (withOzone ozone h) ⌝ }
+    ensures upper { λ r. ⌜ r .upper ≡ concentrationUp (withOzone ozone h) ⌝ }
 {
-    let ozone = h.ozone;
     let air = h.air;
     match air {
         Air::Deficit(_) => plain(ozone),
@@ -58,5 +59,32 @@ pub(crate) fn concentration(h: Hour, t: u16) -> Bounds
             GAS * (2 * (t as u64) + COLDEST),
         ),
         Air::Humidity(_) => plain(ozone),
+    }
+}
+
+// Tenths of ppb; a number in the place of a missing reading.
+fn tenths_or(n: u16, ozone: Ozone) -> u16
+    ensures { λ r. ⌜ r ≡ tenthsOr n ozone ⌝ }
+{
+    match ozone {
+        Ozone::Tenths(m) => m,
+        Ozone::Missing => n,
+    }
+}
+
+// That of an hour, a missing ozone read as 0 below and as the ceiling above.
+pub(crate) fn concentration(h: Hour, ceiling: u16, t: u16) -> Bounds
+    requires { ⌜ t ≡ aboveOf (h .temperature) ⌝ }
+    ensures lower { λ r. ⌜ r .lower ≡ concentrationLow (readAs 0 h) ⌝ }
+    ensures upper { λ r. ⌜ r .upper ≡ concentrationUp (readAs ceiling h) ⌝ }
+{
+    let ozone = h.ozone;
+    let c = at(tenths_or(ceiling, ozone), h, t);
+    match ozone {
+        Ozone::Tenths(_) => c,
+        Ozone::Missing => Bounds {
+            lower: 0,
+            upper: c.upper,
+        },
     }
 }

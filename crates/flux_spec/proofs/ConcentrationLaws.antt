@@ -14,9 +14,10 @@ use Rattle.trees.specs.declared.Figures.{Figures}
 use Rattle.records.specs.declared.Air.{Air}
 use Rattle.records.specs.declared.Air.the-variants.{Deficit, Pressure, Humidity}
 use Rattle.records.specs.declared.Hour.{Hour}
+use Rattle.records.specs.Ozone.{tenthsOr, withOzone}
 use Rattle.frames.proofs.RangeLaws.{PressureIn, HourIn}
 use Rattle.flux_spec.specs.Conductance.{aboveOf}
-use Rattle.flux_spec.specs.Dose.{kelvin, perPpb, concentration, withOzone}
+use Rattle.flux_spec.specs.Dose.{kelvin, perPpb, concentration}
 use Rattle.flux_spec.specs.Pair.{concentrationLow, concentrationUp}
 use Rattle.flux_spec.specs.Facts.{OzoneFacts}
 use Rattle.flux_spec.proofs.BudgetLaws.{isSteep, topIn}
@@ -33,24 +34,24 @@ module _ (h : Hour) where
 
   -- where a ppb is 41.56 nmol m⁻³
   module _ (plain : perPpb (h .air) (h .temperature) ≡ 4156 over 100) where
-    plain-down : concentrationLow h ≡ 74808 * h .ozone
+    plain-down : concentrationLow h ≡ 74808 * tenthsOr 0 (h .ozone)
     unfolding concentrationLow concentration timesDown roundDown
     plain-down = rw plain (omega arith)
 
-    plain-up : concentrationUp h ≡ 74808 * h .ozone
+    plain-up : concentrationUp h ≡ 74808 * tenthsOr 0 (h .ozone)
     unfolding concentrationUp concentration timesUp roundUp
     plain-up = rw plain (omega arith)
 
   module _ (vpd p : ℕ) (e : h .air ≡ Pressure vpd p) where
     abbrev pressed : Frac
-    pressed = (4000000000 * h .ozone * p) over (92383 * (2 * x + 4463))
+    pressed = (4000000000 * tenthsOr 0 (h .ozone) * p) over (92383 * (2 * x + 4463))
 
     pressed-is : natural 18000 ⊗ concentration h ≈ pressed
     unfolding concentration
     pressed-is =
         let gas : max 1 ((831447 over 100000 ⊗ kelvin (h .temperature)) .num) ≡ 450 * (92383 * (2 * x + 4463)) = omega (arith, gas-is (h .temperature)) in
         let below : max 1 (92383 * (2 * x + 4463)) ≡ 92383 * (2 * x + 4463) = omega arith in
-        rw e (record { cross = omega (arith, ap (λ (m : ℕ). h .ozone * p * m) gas, ap (λ (m : ℕ). h .ozone * p * m) below) })
+        rw e (record { cross = omega (arith, ap (λ (m : ℕ). tenthsOr 0 (h .ozone) * p * m) gas, ap (λ (m : ℕ). tenthsOr 0 (h .ozone) * p * m) below) })
 
     pub pressed-down : concentrationLow h ≡ roundDown pressed
     unfolding concentrationLow timesDown
@@ -112,7 +113,16 @@ concentrationUp-top f h range (Pressure vpd p) e = concentrationUp-le h range
 concentrationUp-top f h range (Humidity rh) e =
     omega (arith, ozone-facts h .humid rh e .1, range .ozone, topIn-ge (isSteep f (Humidity rh)))
 
--- ---- with a higher reading of ozone
+-- ---- with none, and with a higher reading of ozone
+
+none-le : (h : Hour) → concentration (withOzone 0 h) ≼ natural 0
+unfolding concentration
+none-le h = record { cross = omega arith }
+
+pub concentrationLow-none : (h : Hour) → concentrationLow (withOzone 0 h) ≡ 0
+unfolding concentrationUp
+concentrationLow-none h =
+    omega (arith, concentration-order (withOzone 0 h), timesUp-most 18000 (concentration (withOzone 0 h)) 0 (none-le h))
 
 module _ (h : Hour) {m n : ℕ} (more : m ≤ n) where
   pub concentration-mono : concentration (withOzone m h) ≼ concentration (withOzone n h)

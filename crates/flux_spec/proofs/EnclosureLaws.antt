@@ -1,103 +1,21 @@
--- The hour's pair encloses its dose, for any sound figures.
-use Prim.Native.Nat.{ℕ, _+_, _^_, _≤_}
+-- What the hour's pair is worth: for any sound figures, for the six trees and for what `hour_dose` answers.
+use Prim.Native.Nat.{ℕ, _≤_}
 use mathlib.Core.Path.{_≡_, refl, sym, ap, _∙_}
 use native.Mathlib.Omega.{arith}
 use Rattle.trees.specs.declared.Figures.{Figures}
 use Rattle.trees.specs.declared.Choice.{Choice}
 use Rattle.trees.specs.Figures.{figuresOf}
-use Rattle.trees.specs.Sound.{Sound}
 use Rattle.trees.proofs.SoundLaws.{figures-all, figures-sound}
-use Rattle.flux_spec.specs.declared.Stand.{Stand}
-use Rattle.flux_spec.specs.BoundaryLayer.{windRead}
-use Rattle.flux_spec.specs.Light.{lightAt}
-use Rattle.flux_spec.specs.Deficit.{HasVpd}
-use Rattle.flux_spec.specs.Conductance.{aboveOf, shareAt}
-use Rattle.flux_spec.specs.Dose.{concentration, fluxAt, doseAt}
-use Rattle.flux_spec.specs.Pair.{lowerOf, upperOf, shareLow, shareUp}
-use Rattle.flux_spec.specs.Enclosure.{gapMost, gapDose, Limited, HourEnclosed, Answered, Enclosure}
+use Rattle.flux_spec.specs.Enclosure.{gapMost, Limited, Answered, Enclosure}
 use Rattle.flux_spec.specs.HourDose.{standOf, standFor, addedPair, hourDoseOf}
 use Rattle.exact.specs.declared.Bounds.{Bounds}
-use Rattle.exact.specs.Frac.{natural, _over_, _≼_}
-use Rattle.exact.proofs.FracLaws.{≼-refl}
 use Rattle.records.specs.declared.Hour.{Hour}
-use Rattle.records.specs.declared.Record.{Record}
 use Rattle.records.specs.Answers.{accepted}
-use Rattle.records.specs.Ranges.{checked}
 use Rattle.records.proofs.AnswerLaws.{accepted-same, onward-passed}
-use Rattle.frames.proofs.RangeLaws.{HourIn, checked-passed}
-use Rattle.humidity_spec.specs.Pair.{entryK}
-use Rattle.flux_spec.proofs.BudgetLaws.{isSteep, nearIn, gapDose-le}
-use Rattle.flux_spec.proofs.DeficitLaws.{above-highest, has-vpd}
-use Rattle.flux_spec.proofs.LightLaws.{lightAt-mono, lightTerms, light-low, light-high, light-gap, light-order, lightUp-le}
-use Rattle.flux_spec.proofs.BoundaryLaws.{rootUpAt-anti}
-use Rattle.flux_spec.proofs.FluxLaws.{doseAt-is, dose-mono}
-use Rattle.flux_spec.proofs.ShareLaws.{shareAt-mono, share-low, share-high, share-order, share-gap, shareUp-le}
 use Rattle.flux_spec.proofs.HourDoseLaws.{stand-passed}
-use Rattle.flux_spec.proofs.PairLaws.{lowerOf-under, upperOf-over, lowerOf-le, upperOf-le, upperOf-gap, pair-none, ozone-grows}
-
--- ---- one hour
-
--- a k from which on the lower number is not above the dose
-abbrev hourTerms : ℕ
-hourTerms = lightTerms + entryK
-
-module _ (stand : Stand) (s : Sound (stand .figures)) (h : Hour) where
-  abbrev f : Figures
-  f = stand .figures
-
-  light-mono : (k l : ℕ) → k ≤ l → lightAt k f (h .ppfd) ≼ lightAt l f (h .ppfd)
-  light-mono k l j = lightAt-mono f (h .ppfd) j
-
-  doseAt-mono : HasVpd (h .air) (aboveOf (h .temperature)) → (k l : ℕ) → k ≤ l → doseAt k stand h ≼ doseAt l stand h
-  doseAt-mono has k l j =
-      rw (doseAt-is k stand h, doseAt-is l stand h)
-      (dose-mono (f .gmax) (≼-refl (concentration h)) (shareAt-mono stand s h has light-mono k l j)
-      (rootUpAt-anti (f .leaf) (windRead (h .wind)) (omega arith) j))
-
-  module _ (passed : checked (Record.Hour h) ≡ accepted tt) where
-    range : HourIn h
-    range = checked-passed (Record.Hour h) passed
-
-    has : HasVpd (h .air) (aboveOf (h .temperature))
-    has = has-vpd (h .air) (above-highest (h .temperature) (range .temperature))
-
-    steep : f .lighta ≤ 200
-    steep = s .lighta .1
-
-    share-under : shareLow stand h over 10 ^ 7 ≼ shareAt hourTerms stand h
-    share-under =
-        share-low stand s h has light-mono lightTerms (light-low f (h .ppfd) steep (range .ppfd)) hourTerms (omega arith) (omega arith) (omega arith)
-
-    pub lower-under : natural (lowerOf stand h) ≼ doseAt hourTerms stand h
-    lower-under = lowerOf-under stand h hourTerms (omega arith) share-under
-
-    pub upper-over : (k : ℕ) → doseAt k stand h ≼ natural (upperOf stand h)
-    upper-over k = upperOf-over stand h k (share-high stand s h has (light-high f (h .ppfd) steep (range .ppfd)) k)
-
-    pub shares-order : shareLow stand h ≤ shareUp stand h
-    shares-order = share-order stand s h has (light-order f (h .ppfd))
-
-    pub shares-top : shareUp stand h ≤ 10000003
-    shares-top = omega (arith, shareUp-le stand s h (lightUp-le f (h .ppfd)))
-
-    near : shareUp stand h ≤ shareLow stand h + nearIn (isSteep f (h .air))
-    near = share-gap stand s h (lightUp-le f (h .ppfd)) (light-gap f (h .ppfd)) (light-order f (h .ppfd))
-
-    no-dose :
-        (m : ℕ) → m + gapDose f (h .air) ≤ 3600 → ((k : ℕ) → fluxAt k stand h ≼ m over 3600) → (lowerOf stand h ≡ 0) × (upperOf stand h ≡ 0)
-    no-dose m le few =
-        pair-none stand h (s .gmax .1) range shares-top shares-order near m hourTerms le (omega arith) share-under (few hourTerms)
-
-    pub hour-enclosed : HourEnclosed stand h
-    hour-enclosed = record {
-      low = record { at = hourTerms; under = lower-under };
-      high = record { every = upper-over };
-      order = lowerOf-le stand h shares-order;
-      gap = upperOf-gap stand h (s .gmax .1) range shares-top shares-order near;
-      most = upperOf-le stand h (s .gmax .1) range shares-top;
-      grows = doseAt-mono has;
-      none = no-dose _ (omega (arith, gapDose-le f (h .air)));
-    }
+use Rattle.flux_spec.proofs.PairLaws.{ozone-grows}
+use Rattle.flux_spec.proofs.HourLaws.{hour-enclosed}
+use Rattle.flux_spec.proofs.FillingLaws.{pair-enclosed}
 
 -- ---- the six trees
 
@@ -109,18 +27,23 @@ tree-limited tree f e = record {
   gap = figures-all (λ g. gapMost g ≡ 2) refl refl refl refl refl refl tree f e;
 }
 
-answered : (tree first last : ℕ) (h : Hour) (pair : Bounds) → hourDoseOf (figuresOf tree) first last h ≡ accepted pair → Answered tree first last h pair
+answered :
+    (tree first last ceiling : ℕ) (h : Hour) (pair : Bounds) → hourDoseOf (figuresOf tree) first last ceiling h ≡ accepted pair →
+    Answered tree first last ceiling h pair
 unfolding hourDoseOf
-answered tree first last h pair e =
-    let found = onward-passed (standFor (figuresOf tree) first last h) _ pair e in
+answered tree first last ceiling h pair e =
+    let found = onward-passed (standFor (figuresOf tree) first last ceiling h) _ pair e in
     let stand = found .0 in
-    let p = stand-passed (figuresOf tree) first last h stand (found .1) in
+    let p = stand-passed (figuresOf tree) first last ceiling h stand (found .1) in
+    let own = standOf (stand .figures) first last ceiling in
+    let sound = figures-sound tree (stand .figures) (p .named) in
     record {
       figures = stand .figures;
       named = p .named;
       is = sym (accepted-same (found .2)) ∙ ap (λ s. addedPair s h) (p .is);
-      enclosed = hour-enclosed (standOf (stand .figures) first last) (figures-sound tree (stand .figures) (p .named)) h (p .checks);
+      enclosed = hour-enclosed own sound h (p .checks);
+      filled = pair-enclosed own sound h (p .checks) (p .within);
     }
 
 pub enclosure : Enclosure
-enclosure = record { trees = tree-limited; hour = hour-enclosed; ozone = ozone-grows; answer = answered }
+enclosure = record { trees = tree-limited; hour = hour-enclosed; ozone = ozone-grows; pair = λ stand s few h passed. pair-enclosed stand s h passed few; answer = answered }

@@ -61,6 +61,10 @@ module _ (g : ℕ) (z x r : Frac) where
   unfolding sharedDose dose
   dose-den = omega arith
 
+-- without ozone there is no flux
+pub flux-none : (g : ℕ) (z x r y : Frac) → z .num ≡ 0 → sharedFlux g z x r ≼ y
+flux-none g z x r y e = record { cross = rw (flux-num g z x r, e) (omega arith) }
+
 grows : (g p P s S a b c d : ℕ) → p * b ≤ a * P → c * S ≤ s * d → p * S * denominator g a b c d ≤ a * d * denominator g p P s S
 unfolding denominator
 grows g p P s S a b c d h k = omega (arith, mul-le-mul-left (S * d) h, mul-le-mul-left (a * p * g) k, mul-le-mul h k)

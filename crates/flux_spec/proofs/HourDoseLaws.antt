@@ -15,10 +15,11 @@ use Rattle.records.specs.declared.Hour.{Hour}
 use Rattle.records.specs.declared.RawHour.{RawHour}
 use Rattle.records.specs.declared.Record.{Record}
 use Rattle.records.specs.Answers.{accepted, refused}
-use Rattle.records.specs.Ranges.{vapourOut, soilOut, periodOut, hourChecked, checked}
+use Rattle.records.specs.Ranges.{ozoneOut, vapourOut, soilOut, periodOut, hourChecked, checked, ceilingOut, lacksCeiling}
 use Rattle.records.specs.Temperature.{temperatureOut}
 use Rattle.records.proofs.AnswerLaws.{accepted-same, refused-not-accepted, or-neither, row-passed, onward-passed}
-use Rattle.frames.specs.Layout.{soilOf, hourOf}
+use Rattle.records.proofs.OzoneLaws.{ceiling-le}
+use Rattle.frames.specs.Layout.{ozoneOf, soilOf, hourOf}
 use Rattle.flux_spec.specs.declared.Stand.{Stand}
 use Rattle.flux_spec.specs.Dose.{isCounted}
 use Rattle.flux_spec.specs.Pair.{hourPair}
@@ -26,42 +27,54 @@ use Rattle.flux_spec.specs.HourDose.{standOf, daysOut, otherMeasure, soi
 
 -- ---- refused, by each row
 
-module _ (choice : Choice) (first last : ℕ) (h : Hour) where
-  pub unknown-is : choice ≡ Choice.Unknown → refused (5, 0) ≡ hourDoseOf choice first last h
+module _ (choice : Choice) (first last ceiling : ℕ) (h : Hour) where
+  pub unknown-is : choice ≡ Choice.Unknown → refused (5, 0) ≡ hourDoseOf choice first last ceiling h
   unfolding hourDoseOf standFor
   unknown-is e = rw e
 
   module _ (f : Figures) (e : choice ≡ Choice.Tree f) where
-    pub days-out-is : daysOut f first last ≡ true → refused (7, 0) ≡ hourDoseOf choice first last h
+    pub days-out-is : daysOut f first last ≡ true → refused (7, 0) ≡ hourDoseOf choice first last ceiling h
     unfolding hourDoseOf standFor
     days-out-is out = rw (e, out)
 
     module _ (days : daysOut f first last ≡ false) where
-      pub reading-out-is : (row : ℕ × ℕ) → hourChecked (soilUnfit (f .measure) (h .soil)) h ≡ refused row → refused row ≡ hourDoseOf choice first last h
+      pub ceiling-out-is : ceilingOut ceiling ≡ true → refused (17, 0) ≡ hourDoseOf choice first last ceiling h
       unfolding hourDoseOf standFor
-      reading-out-is row out = rw (e, days, out)
+      ceiling-out-is out = rw (e, days, out)
 
-      -- ---- accepted
+      module _ (within : ceilingOut ceiling ≡ false) where
+        pub lacks-ceiling-is : lacksCeiling ceiling (h .ozone) ≡ true → refused (18, 0) ≡ hourDoseOf choice first last ceiling h
+        unfolding hourDoseOf standFor
+        lacks-ceiling-is lacks = rw (e, days, within, lacks)
 
-      module _ (passed : hourChecked (soilUnfit (f .measure) (h .soil)) h ≡ accepted tt) where
-        pub stand-is : standFor choice first last h ≡ accepted (standOf f first last)
-        unfolding standFor
-        stand-is = rw (e, days, passed)
+        module _ (has : lacksCeiling ceiling (h .ozone) ≡ false) where
+          pub reading-out-is :
+              (row : ℕ × ℕ) → hourChecked (soilUnfit (f .measure) (h .soil)) h ≡ refused row → refused row ≡ hourDoseOf choice first last ceiling h
+          unfolding hourDoseOf standFor
+          reading-out-is row out = rw (e, days, within, has, out)
 
-        pub counted-is : isCounted h ≡ true → (pair : Bounds) → pair ≡ hourPair (standOf f first last) h → accepted pair ≡ hourDoseOf choice first last h
-        unfolding hourDoseOf
-        counted-is counted pair p = rw (stand-is, counted, p)
+          -- ---- accepted
 
-        pub uncounted-is : isCounted h ≡ false → accepted (record { lower = 0; upper = 0 }) ≡ hourDoseOf choice first last h
-        unfolding hourDoseOf
-        uncounted-is dark = rw (stand-is, dark)
+          module _ (passed : hourChecked (soilUnfit (f .measure) (h .soil)) h ≡ accepted tt) where
+            pub stand-is : standFor choice first last ceiling h ≡ accepted (standOf f first last ceiling)
+            unfolding standFor
+            stand-is = rw (e, days, within, has, passed)
+
+            pub counted-is :
+                isCounted h ≡ true → (pair : Bounds) → pair ≡ hourPair (standOf f first last ceiling) h → accepted pair ≡ hourDoseOf choice first last ceiling h
+            unfolding hourDoseOf
+            counted-is counted pair p = rw (stand-is, counted, p)
+
+            pub uncounted-is : isCounted h ≡ false → accepted (record { lower = 0; upper = 0 }) ≡ hourDoseOf choice first last ceiling h
+            unfolding hourDoseOf
+            uncounted-is dark = rw (stand-is, dark)
 
 -- ---- row 10 with the measure, and without it
 
 -- a soil that is unfit is refused
 unfit-out : (h : Hour) → hourChecked true h ≡ accepted tt → ⊥
 unfit-out h e =
-    let ozone = row-passed (ltb 5000 (h .ozone)) _ _ tt e in
+    let ozone = row-passed (ozoneOut (h .ozone)) _ _ tt e in
     let ppfd = row-passed (ltb 3000 (h .ppfd)) _ _ tt (ozone .1) in
     let radiation = row-passed (ltb 1500 (h .radiation)) _ _ tt (ppfd .1) in
     let temperature = row-passed (temperatureOut (h .temperature)) _ _ tt (radiation .1) in
@@ -86,18 +99,24 @@ checked-fit m h own e = rw (own, or-false (soilOut (h .soil))) e
 
 -- ---- what an hour that no row refuses has passed
 
-pub record Passed (choice : Choice) (first last : ℕ) (h : Hour) (stand : Stand) : Type 0 where
+pub record Passed (choice : Choice) (first last ceiling : ℕ) (h : Hour) (stand : Stand) : Type 0 where
   pub named : choice ≡ Choice.Tree (stand .figures)
-  pub is : stand ≡ standOf (stand .figures) first last
+  pub is : stand ≡ standOf (stand .figures) first last ceiling
+  pub within : ceiling ≤ 5000
   pub checks : checked (Record.Hour h) ≡ accepted tt
 
-pub stand-passed : (choice : Choice) (first last : ℕ) (h : Hour) (stand : Stand) → standFor choice first last h ≡ accepted stand → Passed choice first last h stand
+pub stand-passed :
+    (choice : Choice) (first last ceiling : ℕ) (h : Hour) (stand : Stand) → standFor choice first last ceiling h ≡ accepted stand →
+    Passed choice first last ceiling h stand
 unfolding standFor
-stand-passed (Choice.Tree f) first last h stand e =
+stand-passed (Choice.Tree f) first last ceiling h stand e =
     let days = row-passed (daysOut f first last) _ _ stand e in
-    let range = onward-passed (hourChecked (soilUnfit (f .measure) (h .soil)) h) _ stand (days .1) in
-    rw (← accepted-same (range .2)) (record { named = refl; is = refl; checks = fit-checked (f .measure) h (range .1) })
-stand-passed Choice.Unknown first last h stand e = let z : _≡_ {A = ℕ} 0 1 = cc in absurd (omega arith)
+    let within = row-passed (ceilingOut ceiling) _ _ stand (days .1) in
+    let has = row-passed (lacksCeiling ceiling (h .ozone)) _ _ stand (within .1) in
+    let range = onward-passed (hourChecked (soilUnfit (f .measure) (h .soil)) h) _ stand (has .1) in
+    rw (← accepted-same (range .2))
+    (record { named = refl; is = refl; within = ceiling-le ceiling (within .0); checks = fit-checked (f .measure) h (range .1) })
+stand-passed Choice.Unknown first last ceiling h stand e = let z : _≡_ {A = ℕ} 0 1 = cc in absurd (omega arith)
 
 -- ---- an hour frame, read in the tree's measure, of a season whose header row 7 lets pass
 
@@ -113,9 +132,11 @@ own-measure Measure.Suction n = refl
 own-measure Measure.Water n = refl
 
 pub frame-stand :
-    (header : Header) (f : Figures) (raw : RawHour) → figuresOf (header .tree) ≡ Choice.Tree f →
-    periodOut header (f .f1 + f .f4) ≡ false → header .days ≤ 366 → checked (Record.Hour (hourOf raw (f .measure))) ≡ accepted tt →
-    standFor (figuresOf (header .tree)) (header .first) (header .last) (hourOf raw (f .measure)) ≡ accepted (standOf f (header .first) (header .last))
+    (header : Header) (ceiling : ℕ) (f : Figures) (raw : RawHour) → figuresOf (header .tree) ≡ Choice.Tree f →
+    periodOut header (f .f1 + f .f4) ≡ false → header .days ≤ 366 → ceilingOut ceiling ≡ false → lacksCeiling ceiling (ozoneOf (raw .ozone)) ≡ false →
+    checked (Record.Hour (hourOf raw (f .measure))) ≡ accepted tt →
+    standFor (figuresOf (header .tree)) (header .first) (header .last) ceiling (hourOf raw (f .measure)) ≡ accepted (standOf f (header .first) (header .last) ceiling)
 unfolding hourOf
-frame-stand header f raw e period most passed =
-    stand-is _ (header .first) (header .last) _ f e (days-in header f period most) (checked-fit (f .measure) _ (own-measure (f .measure) (raw .soil)) passed)
+frame-stand header ceiling f raw e period most within has passed =
+    stand-is _ (header .first) (header .last) ceiling _ f e (days-in header f period most) within has
+    (checked-fit (f .measure) _ (own-measure (f .measure) (raw .soil)) passed)

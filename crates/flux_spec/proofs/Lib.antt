@@ -12,5 +12,7 @@ pub mod DecayTests
 pub mod DecayLaws
 pub mod LightLaws
 pub mod HourDoseLaws
+pub mod HourLaws
+pub mod FillingLaws
 pub mod EnclosureLaws
 pub mod BenchCases

@@ -9,11 +9,12 @@ use Rattle.exact.specs.Frac.{natural, _over_, _≼_}
 use Rattle.exact.proofs.FracLaws.{≼-refl, ≼-trans, over-mono}
 use Rattle.trees.specs.declared.Figures.{Figures}
 use Rattle.records.specs.declared.Hour.{Hour}
+use Rattle.records.specs.Ozone.{withOzone}
 use Rattle.frames.proofs.RangeLaws.{HourIn}
 use Rattle.flux_spec.specs.declared.Stand.{Stand}
 use Rattle.flux_spec.specs.BoundaryLayer.{windRead, rootUpAt}
 use Rattle.flux_spec.specs.Conductance.{phenologyIn, openingAt, shareAt}
-use Rattle.flux_spec.specs.Dose.{fluxAt, doseAt, withOzone}
+use Rattle.flux_spec.specs.Dose.{fluxAt, doseAt}
 use Rattle.flux_spec.specs.Pair.{concentrationLow, concentrationUp, openingLow, openingUp, shareLow, shareUp, rootLow, quotient, lowerOf, upperOf}
 use Rattle.flux_spec.specs.Enclosure.{mostDose, gapDose, OzoneGrows}
 use Rattle.flux_spec.proofs.BudgetLaws.{isSteep, nearIn, stepIn, gapDose-is}
@@ -93,16 +94,30 @@ module _ (stand : Stand) (h : Hour) where
           (rw (fluxAt-is k stand h) at few) in
           (omega (arith, gapDose-is f (h .air)), omega (arith, quotients-near, gapDose-is f (h .air)))
 
--- ---- with a higher reading of ozone
+-- ---- with another reading of ozone, and with a higher one
+
+-- the share is the same
+module _ (stand : Stand) (n : ℕ) (h : Hour) where
+  pub shareLow-same : shareLow stand (withOzone n h) ≡ shareLow stand h
+  unfolding shareLow openingLow phenologyIn
+  shareLow-same = refl
+
+  pub shareUp-same : shareUp stand (withOzone n h) ≡ shareUp stand h
+  unfolding shareUp openingUp phenologyIn
+  shareUp-same = refl
 
 module _ (stand : Stand) (h : Hour) {m n : ℕ} (more : m ≤ n) where
   lowerOf-mono : lowerOf stand (withOzone m h) ≤ lowerOf stand (withOzone n h)
-  unfolding lowerOf shareLow openingLow phenologyIn
-  lowerOf-mono = omega (arith, quotient-mono (stand .figures .gmax) (shareLow stand h) (rootLow (stand .figures .leaf) (h .wind) + 1) 1 (concentrationLow-mono h more))
+  unfolding lowerOf
+  lowerOf-mono =
+      rw (shareLow-same stand m h, shareLow-same stand n h)
+      (omega (arith, quotient-mono (stand .figures .gmax) (shareLow stand h) (rootLow (stand .figures .leaf) (h .wind) + 1) 1 (concentrationLow-mono h more)))
 
   upperOf-mono : upperOf stand (withOzone m h) ≤ upperOf stand (withOzone n h)
-  unfolding upperOf shareUp openingUp phenologyIn
-  upperOf-mono = omega (arith, quotient-mono (stand .figures .gmax) (shareUp stand h) (rootLow (stand .figures .leaf) (h .wind)) 0 (concentrationUp-mono h more))
+  unfolding upperOf
+  upperOf-mono =
+      rw (shareUp-same stand m h, shareUp-same stand n h)
+      (omega (arith, quotient-mono (stand .figures .gmax) (shareUp stand h) (rootLow (stand .figures .leaf) (h .wind)) 0 (concentrationUp-mono h more)))
 
   doseAt-more : (k : ℕ) → doseAt k stand (withOzone m h) ≼ doseAt k stand (withOzone n h)
   unfolding shareAt openingAt phenologyIn

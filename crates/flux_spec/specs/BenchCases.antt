@@ -9,6 +9,7 @@ use Rattle.trees.specs.Temperature.{rootAt, temperatureAt}
 use Rattle.trees.specs.Deficit.{deficitOf}
 use Rattle.trees.specs.SoilWater.{soilWaterOf}
 use Rattle.trees.specs.Phenology.{phenologyOf}
+use Rattle.records.specs.declared.Ozone.the-variants.{Tenths}
 use Rattle.records.specs.declared.Hour.{Hour}
 use Rattle.exact.specs.Frac.{Frac, _over_, natural, _≈_}
 use Rattle.flux_spec.specs.Dose.{isCounted, excess}
@@ -50,5 +51,5 @@ pub record BenchCases : Type 0 where
   pub readings : AllSame readingCases
   pub radiation50 : (h : Hour) → h .radiation ≡ 50 → isCounted h ≡ false
   pub radiation51 : (h : Hour) → h .radiation ≡ 51 → isCounted h ≡ true
-  pub ozone400 : (h : Hour) → h .ozone ≡ 400 → excess h ≡ 0
-  pub ozone401 : (h : Hour) → h .ozone ≡ 401 → excess h ≡ 1
+  pub ozone400 : (h : Hour) → h .ozone ≡ Tenths 400 → excess h ≡ 0
+  pub ozone401 : (h : Hour) → h .ozone ≡ Tenths 401 → excess h ≡ 1

@@ -7,6 +7,7 @@ use Rattle.exact.specs.Frac.{Frac, natural, _over_, _⊕_, _⊖_, _⊗_, _⊘_,
 use Rattle.records.specs.declared.Air.{Air}
 use Rattle.records.specs.declared.Air.the-variants.{Deficit, Pressure, Humidity}
 use Rattle.records.specs.declared.Hour.{Hour}
+use Rattle.records.specs.Ozone.{tenthsOr}
 use Rattle.flux_spec.specs.declared.Stand.{Stand}
 use Rattle.flux_spec.specs.BoundaryLayer.{resistanceAt}
 use Rattle.flux_spec.specs.Conductance.{aboveOf, conductanceAt}
@@ -21,9 +22,9 @@ perPpb (Deficit vpd) t = 4156 over 100
 perPpb (Pressure vpd p) t = natural (10 * p) ⊘ (831447 over 100000 ⊗ kelvin t)
 perPpb (Humidity rh) t = 4156 over 100
 
--- ozone in nmol m⁻³: ppb × that, for tenths of ppb
+-- ozone in nmol m⁻³: ppb × that, for tenths of ppb; by itself an hour without ozone is read as one with 0, its fillings say what it may have had
 unfoldable pub concentration : Hour → Frac
-concentration h = h .ozone over 10 ⊗ perPpb (h .air) (h .temperature)
+concentration h = tenthsOr 0 (h .ozone) over 10 ⊗ perPpb (h .air) (h .temperature)
 
 -- F of an ozone concentration, a conductance and a resistance, in nmol m⁻² s⁻¹
 unfoldable pub flux : Frac → Frac → Frac → Frac
@@ -45,21 +46,7 @@ isCounted h = ltb 50 (h .radiation)
 
 -- max(ozone - 400, 0) tenths of ppb h
 abbrev pub excess : Hour → ℕ
-excess h = h .ozone - 400
-
--- the same hour with another reading of ozone
-abbrev pub withOzone : ℕ → Hour → Hour
-withOzone ozone h = record {
-  day = h .day;
-  hour = h .hour;
-  ozone = ozone;
-  ppfd = h .ppfd;
-  radiation = h .radiation;
-  temperature = h .temperature;
-  air = h .air;
-  wind = h .wind;
-  soil = h .soil;
-}
+excess h = tenthsOr 0 (h .ozone) - 400
 
 -- a number is not above the exact dose if it is not above some POD_k, not below it if every POD_k is at most it
 pub record NotAbove (n : ℕ) (pod : ℕ → Frac) : Type 0 where

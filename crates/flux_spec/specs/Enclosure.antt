@@ -1,7 +1,7 @@
 -- What the hour's pair is worth (document 01, "The exact dose"), for any sound figures and any hour that row 10 lets pass.
 use Prim.Native.Nat.{ℕ, _+_, _-_, _*_, _≤_}
 use mathlib.Core.Path.{_≡_}
-use mathlib.Core.Bool.{cond}
+use mathlib.Core.Bool.{true, false, cond}
 use lib.Dec.{ltb}
 use Rattle.exact.specs.declared.Bounds.{Bounds}
 use Rattle.exact.specs.Frac.{_over_, _≼_}
@@ -14,10 +14,11 @@ use Rattle.records.specs.declared.Air.the-variants.{Deficit, Pressure, Humidity
 use Rattle.records.specs.declared.Hour.{Hour}
 use Rattle.records.specs.declared.Record.{Record}
 use Rattle.records.specs.Answers.{accepted}
+use Rattle.records.specs.Ozone.{isMissing, withOzone, Fills}
 use Rattle.records.specs.Ranges.{checked}
 use Rattle.flux_spec.specs.declared.Stand.{Stand}
-use Rattle.flux_spec.specs.Dose.{fluxAt, doseAt, withOzone, NotAbove, NotBelow}
-use Rattle.flux_spec.specs.Pair.{lowerOf, upperOf}
+use Rattle.flux_spec.specs.Dose.{fluxAt, doseAt, NotAbove, NotBelow}
+use Rattle.flux_spec.specs.Pair.{lowerOf, upperOf, hourPair}
 use Rattle.flux_spec.specs.HourDose.{standOf, addedPair, hourDoseOf}
 
 -- nmol m⁻² in an hour at most: 795000 for the six trees, 1500000 for a gmax of 500
@@ -51,6 +52,17 @@ pub record OzoneGrows (stand : Stand) (h : Hour) : Type 0 where
   pub upper : (m n : ℕ) → m ≤ n → upperOf stand (withOzone m h) ≤ upperOf stand (withOzone n h)
   pub dose : (m n : ℕ) → m ≤ n → (k : ℕ) → doseAt k stand (withOzone m h) ≼ doseAt k stand (withOzone n h)
 
+-- the hour's pair encloses the dose of every filling (W-207); where ozone is read it is that of the hour itself, where it is missing the lower number is 0
+pub record PairEnclosed (stand : Stand) (h : Hour) : Type 0 where
+  pub low : (f : Hour) → Fills (stand .ceiling) h f → NotAbove (hourPair stand h .lower) (λ k. doseAt k stand f)
+  pub high : (f : Hour) → Fills (stand .ceiling) h f → NotBelow (hourPair stand h .upper) (λ k. doseAt k stand f)
+  pub order : hourPair stand h .lower ≤ hourPair stand h .upper
+  pub gap : isMissing (h .ozone) ≡ false → hourPair stand h .upper ≤ hourPair stand h .lower + gapDose (stand .figures) (h .air)
+  pub most : hourPair stand h .upper ≤ mostDose (stand .figures .gmax)
+  pub grows : (f : Hour) → Fills (stand .ceiling) h f → (k l : ℕ) → k ≤ l → doseAt k stand f ≼ doseAt l stand f
+  pub read : isMissing (h .ozone) ≡ false → hourPair stand h ≡ record { lower = lowerOf stand h; upper = upperOf stand h }
+  pub none : isMissing (h .ozone) ≡ true → hourPair stand h .lower ≡ 0
+
 -- the six trees: sound, and within their limits; an hour's two numbers are at most 2 apart in every kind
 pub record Limited (f : Figures) : Type 0 where
   pub sound : Sound f
@@ -58,14 +70,17 @@ pub record Limited (f : Figures) : Type 0 where
   pub gap : gapMost f ≡ 2
 
 -- what `hour_dose` answers with a pair: the hour's where it is counted, else 0 and 0
-pub record Answered (tree first last : ℕ) (h : Hour) (pair : Bounds) : Type 0 where
+pub record Answered (tree first last ceiling : ℕ) (h : Hour) (pair : Bounds) : Type 0 where
   pub figures : Figures
   pub named : figuresOf tree ≡ Choice.Tree figures
-  pub is : pair ≡ addedPair (standOf figures first last) h
-  pub enclosed : HourEnclosed (standOf figures first last) h
+  pub is : pair ≡ addedPair (standOf figures first last ceiling) h
+  pub enclosed : HourEnclosed (standOf figures first last ceiling) h
+  pub filled : PairEnclosed (standOf figures first last ceiling) h
 
 pub record Enclosure : Type 0 where
   pub trees : (tree : ℕ) (f : Figures) → figuresOf tree ≡ Choice.Tree f → Limited f
   pub hour : (stand : Stand) → Sound (stand .figures) → (h : Hour) → checked (Record.Hour h) ≡ accepted tt → HourEnclosed stand h
   pub ozone : (stand : Stand) (h : Hour) → OzoneGrows stand h
-  pub answer : (tree first last : ℕ) (h : Hour) (pair : Bounds) → hourDoseOf (figuresOf tree) first last h ≡ accepted pair → Answered tree first last h pair
+  pub pair : (stand : Stand) → Sound (stand .figures) → stand .ceiling ≤ 5000 → (h : Hour) → checked (Record.Hour h) ≡ accepted tt → PairEnclosed stand h
+  pub answer : (tree first last ceiling : ℕ) (h : Hour) (pair : Bounds) → hourDoseOf (figuresOf tree) first last ceiling h ≡ accepted pair
+      → Answered tree first last ceiling h pair

@@ -7,6 +7,7 @@ use Rattle.trees.specs.declared.Figures.{Figures}
 use Rattle.trees.specs.Sound.{Sound}
 use Rattle.records.specs.declared.Air.the-variants.{Deficit, Pressure, Humidity}
 use Rattle.records.specs.declared.Hour.{Hour}
+use Rattle.records.specs.Ozone.{tenthsOr}
 use Rattle.flux_spec.specs.declared.Stand.{Stand}
 use Rattle.flux_spec.specs.Light.{lightAt}
 use Rattle.flux_spec.specs.Deficit.{HasVpd}
@@ -17,12 +18,12 @@ use Rattle.flux_spec.specs.Pair.{concentrationLow, concentrationUp}
 -- ozone's concentration
 pub record OzoneFacts (h : Hour) : Type 0 where
   -- without a pressure, kind 02: exact, 74808 = 18000·4.156
-  pub plain : (vpd : ℕ) → h .air ≡ Deficit vpd → (concentrationLow h ≡ 74808 * h .ozone) × (concentrationUp h ≡ 74808 * h .ozone)
+  pub plain : (vpd : ℕ) → h .air ≡ Deficit vpd → (concentrationLow h ≡ 74808 * tenthsOr 0 (h .ozone)) × (concentrationUp h ≡ 74808 * tenthsOr 0 (h .ozone))
   -- kind 05 too
-  pub humid : (rh : ℕ) → h .air ≡ Humidity rh → (concentrationLow h ≡ 74808 * h .ozone) × (concentrationUp h ≡ 74808 * h .ozone)
+  pub humid : (rh : ℕ) → h .air ≡ Humidity rh → (concentrationLow h ≡ 74808 * tenthsOr 0 (h .ozone)) × (concentrationUp h ≡ 74808 * tenthsOr 0 (h .ozone))
   -- with a pressure, kind 04: in whole numbers, for tenths of a degree above -50.0 °C; 92383 = 831447/9
   pub pressed : (vpd p : ℕ) → h .air ≡ Pressure vpd p →
-      natural 18000 ⊗ concentration h ≈ (4000000000 * h .ozone * p) over (92383 * (2 * aboveOf (h .temperature) + 4463))
+      natural 18000 ⊗ concentration h ≈ (4000000000 * tenthsOr 0 (h .ozone) * p) over (92383 * (2 * aboveOf (h .temperature) + 4463))
 
 -- f_light
 pub record LightFacts (f : Figures) : Type 0 where

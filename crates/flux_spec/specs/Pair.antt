@@ -9,6 +9,7 @@ use Rattle.trees.specs.declared.Figures.{Figures}
 use Rattle.trees.specs.Temperature.{temperaturePair}
 use Rattle.trees.specs.SoilWater.{soilWaterOf}
 use Rattle.records.specs.declared.Hour.{Hour}
+use Rattle.records.specs.Ozone.{readAs}
 use Rattle.frames.specs.Layout.{soilNumber}
 use Rattle.flux_spec.specs.declared.Stand.{Stand}
 use Rattle.flux_spec.specs.Light.{lightLow, lightUp}
@@ -76,5 +77,6 @@ lowerOf stand h = quotient (stand .figures .gmax) (concentrationLow h) (shareLow
 unfoldable pub upperOf : Stand → Hour → ℕ
 upperOf stand h = quotient (stand .figures .gmax) (concentrationUp h) (shareUp stand h) (rootLow (stand .figures .leaf) (h .wind)) 0 - 3599
 
+-- a missing ozone is read as 0 for the lower number, as the ceiling for the upper one (W-207)
 abbrev pub hourPair : Stand → Hour → Bounds
-hourPair stand h = record { lower = lowerOf stand h; upper = upperOf stand h }
+hourPair stand h = record { lower = lowerOf stand (readAs 0 h); upper = upperOf stand (readAs (stand .ceiling) h) }

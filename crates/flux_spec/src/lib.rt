@@ -3,11 +3,12 @@ use exact::Bounds;
 use frames::Refusal;
 use trees::Figures;
 
-// What an hour's dose goes by besides the hour: the tree's figures, the first and the last day of the period.
+// What an hour's dose goes by besides the hour: the tree's figures, the first and the last day of the period, the ozone ceiling (0: none).
 pub struct Stand {
     pub figures: Figures,
     pub first: u16,
     pub last: u16,
+    pub ceiling: u16,
 }
 
 // What an hour adds to POD1, in nmol m⁻².

@@ -17,12 +17,13 @@ use Rattle.records.specs.Temperature.{signedOf}
 use Rattle.frames.specs.Digits.{allDigits, byteAt}
 use Rattle.frames.specs.Kinds.{one, kinds, sizeOf, isLength, lengthOf}
 use Rattle.frames.specs.Fields.{fieldsAt}
-use Rattle.frames.specs.Layout.{airOf, rawHourOf, frameOf, frameAt, soilOf, hourOf}
+use Rattle.frames.specs.Layout.{ozoneOf, airOf, rawHourOf, frameOf, frameAt, soilOf, hourOf}
 use Rattle.frames.specs.Steps.{IsHour, withDeficit, withPressure, withHumidity, Sized}
 use Rattle.frames.specs.Frames.{parsedOf, soundOf, recordOf}
 use Rattle.frames.proofs.KindLaws.{length-ge, kind-within}
 use Rattle.records.specs.declared.Air.{Air}
 use Rattle.records.specs.declared.Hour.{Hour}
+use Rattle.records.specs.declared.Ozone.{Ozone}
 use Rattle.records.specs.declared.Raw.{Raw}
 use Rattle.records.specs.declared.RawHour.{RawHour}
 use Rattle.records.specs.declared.Record.{Record}
@@ -85,11 +86,11 @@ module _ (l : List ℕ) (sized : Sized l) where
 
 module _ (raw : RawHour) (m : Measure) where
   pub hour-is :
-      {temperature : ℤ} {soil : Soil} → temperature ≡ signedOf (raw .temperature) → soil ≡ soilOf m (raw .soil) →
+      {ozone : Ozone} {temperature : ℤ} {soil : Soil} → ozone ≡ ozoneOf (raw .ozone) → temperature ≡ signedOf (raw .temperature) → soil ≡ soilOf m (raw .soil) →
       record {
         day = raw .day;
         hour = raw .hour;
-        ozone = raw .ozone;
+        ozone = ozone;
         ppfd = raw .ppfd;
         radiation = raw .radiation;
         temperature = temperature;
@@ -98,7 +99,7 @@ module _ (raw : RawHour) (m : Measure) where
         soil = soil;
       } ≡ hourOf raw m
   unfolding hourOf
-  hour-is e₁ e₂ = rw (e₁, e₂)
+  hour-is e₁ e₂ e₃ = rw (e₁, e₂, e₃)
 
 module _ (tree : ℕ) (raw : RawHour) where
   pub no-tree : figuresOf tree ≡ Choice.Unknown → refused (5, 0) ≡ recordOf tree (Raw.Hour raw)

@@ -103,6 +103,7 @@ pub data KindCase (b : ℕ) : Type 0 where
   header : b ≡ 1 → KindCase b
   hour : IsHour b → KindCase b
   end : b ≡ 3 → KindCase b
+  ceiling : b ≡ 6 → KindCase b
 
 pub kind-cases : (b : ℕ) → (1 ≤ b) × (b ≤ length kinds) → KindCase b
 kind-cases zero h = absurd (omega arith)
@@ -111,12 +112,14 @@ kind-cases (suc (suc zero)) h = hour (withDeficit refl)
 kind-cases (suc (suc (suc zero))) h = end refl
 kind-cases (suc (suc (suc (suc zero)))) h = hour (withPressure refl)
 kind-cases (suc (suc (suc (suc (suc zero))))) h = hour (withHumidity refl)
-kind-cases (suc (suc (suc (suc (suc (suc b)))))) h = absurd (omega arith)
+kind-cases (suc (suc (suc (suc (suc (suc zero)))))) h = ceiling refl
+kind-cases (suc (suc (suc (suc (suc (suc (suc b))))))) h = absurd (omega arith)
 
-pub hour-left : (b : ℕ) → KindCase b → (b ≡ 1 → ⊥) → (b ≡ 3 → ⊥) → IsHour b
-hour-left b (header e) p q = absurd (p e)
-hour-left b (hour is) p q = is
-hour-left b (end e) p q = absurd (q e)
+pub hour-left : (b : ℕ) → KindCase b → (b ≡ 1 → ⊥) → (b ≡ 3 → ⊥) → (b ≡ 6 → ⊥) → IsHour b
+hour-left b (header e) p q r = absurd (p e)
+hour-left b (hour is) p q r = is
+hour-left b (end e) p q r = absurd (q e)
+hour-left b (ceiling e) p q r = absurd (r e)
 
 pub deficit-left : (b : ℕ) → IsHour b → (b ≡ 4 → ⊥) → (b ≡ 5 → ⊥) → b ≡ 2
 deficit-left b (withDeficit e) p q = e

@@ -1,4 +1,4 @@
--- A record that rows 5 to 8 and 10 let pass is in range.
+-- A record that rows 5 to 8, 10 and 17 let pass is in range.
 use Prim.Native.Nat.{ℕ, zero, suc, _≤_, _<_}
 use mathlib.Core.Path.{_≡_, sym, _∙_}
 use mathlib.Core.Bool.{false, _||_}
@@ -13,9 +13,13 @@ use Rattle.trees.specs.Figures.{figuresOf}
 use Rattle.records.specs.Answers.{accepted}
 use Rattle.records.specs.Temperature.{temperatureOut}
 use Rattle.frames.specs.Layout.{vapourNumber, soilNumber}
-use Rattle.records.specs.Ranges.{isOutside, vapourOut, soilOut, pressureOut, periodOut, checked}
+use Rattle.records.specs.Ozone.{tenthsOr}
+use Rattle.records.specs.Ranges.{isOutside, ozoneOut, vapourOut, soilOut, pressureOut, periodOut, checked}
 use Rattle.records.specs.Period.{periodHours}
 use Rattle.records.specs.declared.Header.{Header}
+use Rattle.records.specs.declared.Ozone.{Ozone}
+use Rattle.records.specs.declared.Ozone.the-variants.{Tenths, Missing}
+use Rattle.records.specs.declared.Ceiling.{Ceiling}
 use Rattle.records.specs.declared.Air.{Air}
 use Rattle.records.specs.declared.Air.the-variants.{Deficit, Pressure, Humidity}
 use Rattle.records.specs.declared.Soil.{Soil}
@@ -47,7 +51,7 @@ PressureIn (Pressure n p) = Inside 5000 11000 p
 PressureIn (Humidity n) = Unit
 
 pub record HourIn (h : Hour) : Type 0 where
-  pub ozone : h .ozone ≤ 5000
+  pub ozone : tenthsOr 0 (h .ozone) ≤ 5000
   pub ppfd : h .ppfd ≤ 3000
   pub radiation : h .radiation ≤ 1500
   pub temperature : temperatureOut (h .temperature) ≡ false
@@ -61,6 +65,11 @@ abbrev pub InRange : Record → Type 0
 InRange (Record.Header h) = HeaderIn h
 InRange (Record.Hour h) = HourIn h
 InRange (Record.End e) = Unit
+InRange (Record.Ceiling c) = Inside 1 5000 (c .ozone)
+
+ozone-le : (o : Ozone) → ozoneOut o ≡ false → tenthsOr 0 o ≤ 5000
+ozone-le (Tenths n) e = ltb-false 5000 n e
+ozone-le Missing e = omega arith
 
 vapour-le : (a : Air) → vapourOut a ≡ false → vapourNumber a ≤ 10000
 vapour-le (Deficit n) e = ltb-false 10000 n e
@@ -120,7 +129,7 @@ header-passed h e =
 hour-passed : (h : Hour) → checked (Record.Hour h) ≡ accepted tt → HourIn h
 unfolding checked
 hour-passed h e =
-    let ozone = row-passed (ltb 5000 (h .ozone)) _ _ tt e in
+    let ozone = row-passed (ozoneOut (h .ozone)) _ _ tt e in
     let ppfd = row-passed (ltb 3000 (h .ppfd)) _ _ tt (ozone .1) in
     let radiation = row-passed (ltb 1500 (h .radiation)) _ _ tt (ppfd .1) in
     let temperature = row-passed (temperatureOut (h .temperature)) _ _ tt (radiation .1) in
@@ -129,7 +138,7 @@ hour-passed h e =
     let soil = row-passed (soilOut (h .soil)) _ _ tt (wind .1) in
     let pressure = row-passed (pressureOut (h .air)) _ _ tt (soil .1) in
     record {
-      ozone = ltb-false 5000 (h .ozone) (ozone .0);
+      ozone = ozone-le (h .ozone) (ozone .0);
       ppfd = ltb-false 3000 (h .ppfd) (ppfd .0);
       radiation = ltb-false 1500 (h .radiation) (radiation .0);
       temperature = temperature .0;
@@ -140,6 +149,10 @@ hour-passed h e =
       pressure = pressure-in (h .air) (pressure .0);
     }
 
+ceiling-passed : (c : Ceiling) → checked (Record.Ceiling c) ≡ accepted tt → Inside 1 5000 (c .ozone)
+unfolding checked
+ceiling-passed c e = inside-is 1 5000 (c .ozone) (row-passed (isOutside 1 5000 (c .ozone)) _ _ tt e .0)
+
 -- a period has the hours of a year at most
 pub period-le : (h : Header) → checked (Record.Header h) ≡ accepted tt → periodHours h ≤ 8784
 period-le h e = let range = header-passed h e in omega arith
@@ -148,3 +161,4 @@ pub checked-passed : (r : Record) → checked r ≡ accepted tt → InRange r
 checked-passed (Record.Header h) e = header-passed h e
 checked-passed (Record.Hour h) e = hour-passed h e
 checked-passed (Record.End end) e = tt
+checked-passed (Record.Ceiling c) e = ceiling-passed c e

@@ -1,4 +1,4 @@
--- The reader answers rows 1 to 3, 5 to 8 and 10 and no other.
+-- The reader answers rows 1 to 3, 5 to 8, 10 and 17 and no other.
 use Prim.Native.Nat.{ℕ}
 use mathlib.Core.Path.{_≡_, refl, sym, subst}
 use mathlib.Core.Bool.{Bool, true, false, cond, _&&_, or-true}
@@ -13,7 +13,7 @@ use Rattle.records.specs.Answers.{Outcome, accepted, refused, onward}
 use Rattle.frames.specs.Digits.{within, allDigits, byteAt}
 use Rattle.frames.specs.Kinds.{among, isLength, lengthOf}
 use Rattle.records.specs.Temperature.{temperatureOut}
-use Rattle.records.specs.Ranges.{isOutside, onTree, periodOut, vapourOut, soilOut, pressureOut, checked}
+use Rattle.records.specs.Ranges.{isOutside, onTree, periodOut, ozoneOut, vapourOut, soilOut, pressureOut, checked}
 use Rattle.frames.specs.Frames.{parsedOf, soundOf, recordOf, readFrameOf}
 use Rattle.frames.specs.Rows.{oneOf, readerRows, ReaderRows}
 use Rattle.records.specs.declared.Raw.{Raw}
@@ -59,12 +59,13 @@ only-wider {rows = rows} {more = more} all o = record {
 field-in : (rows : List ℕ) (f : ℕ) → within 1 8 f ≡ true → oneOf rows 10 f ≡ true
 field-in rows f e = rw e (or-true (among rows 10 && eqb f 0))
 
--- rows 5 to 8 are in the list
+-- rows 5 to 8 and 17 are in the list
 pub record Ranged (rows : List ℕ) : Type 0 where
   pub tree : oneOf rows 5 0 ≡ true
   pub year : oneOf rows 6 0 ≡ true
   pub period : oneOf rows 7 0 ≡ true
   pub level : oneOf rows 8 0 ≡ true
+  pub ceiling : oneOf rows 17 0 ≡ true
 
 pub checked-only : {rows : List ℕ} → Ranged rows → (r : Record) → Only rows (checked r)
 unfolding checked
@@ -75,7 +76,7 @@ checked-only a (Record.Header h) =
     (row-only (isOutside 1 10000 (h .level)) _ _ _ (a .level)
     (accepted-only _))))
 checked-only {rows} a (Record.Hour h) =
-    row-only (ltb 5000 (h .ozone)) _ _ _ (field-in rows 1 refl)
+    row-only (ozoneOut (h .ozone)) _ _ _ (field-in rows 1 refl)
     (row-only (ltb 3000 (h .ppfd)) _ _ _ (field-in rows 2 refl)
     (row-only (ltb 1500 (h .radiation)) _ _ _ (field-in rows 3 refl)
     (row-only (temperatureOut (h .temperature)) _ _ _ (field-in rows 4 refl)
@@ -85,12 +86,13 @@ checked-only {rows} a (Record.Hour h) =
     (row-only (pressureOut (h .air)) _ _ _ (field-in rows 8 refl)
     (accepted-only _))))))))
 checked-only a (Record.End e) = accepted-only _
+checked-only a (Record.Ceiling c) = row-only (isOutside 1 5000 (c .ozone)) _ _ _ (a .ceiling) (accepted-only _)
 
 -- ---- the reader
 
 read-ranged : Ranged readerRows
 unfolding among
-read-ranged = record { tree = refl; year = refl; period = refl; level = refl }
+read-ranged = record { tree = refl; year = refl; period = refl; level = refl; ceiling = refl }
 
 module _ (l : List ℕ) where
   by-kind : isLength (length l) ≡ true → allDigits l ≡ true → (t : Bool) → eqb (lengthOf (byteAt 0 l)) (length l) ≡ t → Only readerRows (parsedOf l)
@@ -120,6 +122,7 @@ unfolding recordOf among
 record-only tree (Raw.Header h) = sound-only (Record.Header h)
 record-only tree (Raw.Hour raw) = onTree-only (figuresOf tree) _ refl (λ f. sound-only _)
 record-only tree (Raw.End e) = sound-only (Record.End e)
+record-only tree (Raw.Ceiling c) = sound-only (Record.Ceiling c)
 
 read-only : (tree : ℕ) (l : List ℕ) → Only readerRows (readFrameOf tree l)
 unfolding readFrameOf

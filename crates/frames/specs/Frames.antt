@@ -29,6 +29,7 @@ unfoldable pub recordOf : ℕ → Raw → Outcome Record
 recordOf tree (Raw.Header h) = soundOf (Record.Header h)
 recordOf tree (Raw.Hour raw) = onTree (figuresOf tree) (λ f. soundOf (Record.Hour (hourOf raw (f .measure))))
 recordOf tree (Raw.End e) = soundOf (Record.End e)
+recordOf tree (Raw.Ceiling c) = soundOf (Record.Ceiling c)
 
 unfoldable pub readFrameOf : ℕ → List ℕ → Outcome Record
 readFrameOf tree l = onward (parsedOf l) (recordOf tree)

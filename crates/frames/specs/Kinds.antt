@@ -29,9 +29,13 @@ pressureWidths = hourWidths ++ two ∷ []
 abbrev humidityWidths : List Width
 humidityWidths = hourWidths
 
+-- 06: ozone ceiling (W-207)
+abbrev ceilingWidths : List Width
+ceilingWidths = two ∷ []
+
 -- the table, from kind 01 on: the widths of the fields that follow the kind's byte
 abbrev pub kinds : List (List Width)
-kinds = headerWidths ∷ hourWidths ∷ endWidths ∷ pressureWidths ∷ humidityWidths ∷ []
+kinds = headerWidths ∷ hourWidths ∷ endWidths ∷ pressureWidths ∷ humidityWidths ∷ ceilingWidths ∷ []
 
 -- the widths of a kind's fields, none where there is no such kind
 abbrev pub widthsOf : ℕ → List Width

@@ -10,6 +10,8 @@ use Rattle.frames.specs.Kinds.{one, widthsOf}
 use Rattle.frames.specs.Fields.{digitsOf, fieldsAt}
 use Rattle.records.specs.Temperature.{signedOf, complementOf}
 use Rattle.records.specs.declared.Header.{Header}
+use Rattle.records.specs.declared.Ozone.{Ozone}
+use Rattle.records.specs.declared.Ozone.the-variants.{Tenths, Missing}
 use Rattle.records.specs.declared.Air.{Air}
 use Rattle.records.specs.declared.Air.the-variants.{Deficit, Pressure, Humidity}
 use Rattle.records.specs.declared.Soil.{Soil}
@@ -17,6 +19,7 @@ use Rattle.records.specs.declared.Soil.the-variants.{Suction, Water}
 use Rattle.records.specs.declared.Hour.{Hour}
 use Rattle.records.specs.declared.RawHour.{RawHour}
 use Rattle.records.specs.declared.End.{End}
+use Rattle.records.specs.declared.Ceiling.{Ceiling}
 use Rattle.records.specs.declared.Raw.{Raw}
 use Rattle.records.specs.declared.Record.{Record}
 
@@ -32,6 +35,14 @@ abbrev pub soilNumber : Soil → ℕ
 soilNumber (Suction n) = n
 soilNumber (Water n) = n
 
+-- FFFF is missing (W-207)
+abbrev pub ozoneNumber : Ozone → ℕ
+ozoneNumber (Tenths n) = n
+ozoneNumber Missing = 65535
+
+abbrev pub ozoneOf : ℕ → Ozone
+ozoneOf n = cond (eqb n 65535) Missing (Tenths n)
+
 -- what the air says in VPD's place, and past soil
 abbrev pub vapourNumber : Air → ℕ
 vapourNumber (Deficit n) = n
@@ -44,7 +55,7 @@ pastSoil (Pressure n p) = p ∷ []
 pastSoil (Humidity n) = []
 
 abbrev pub hourNumbers : Hour → List ℕ
-hourNumbers h = h .day ∷ h .hour ∷ h .ozone ∷ h .ppfd ∷ h .radiation ∷ complementOf (h .temperature) ∷ vapourNumber (h .air) ∷ h .wind ∷ soilNumber (h .soil) ∷ pastSoil (h .air)
+hourNumbers h = h .day ∷ h .hour ∷ ozoneNumber (h .ozone) ∷ h .ppfd ∷ h .radiation ∷ complementOf (h .temperature) ∷ vapourNumber (h .air) ∷ h .wind ∷ soilNumber (h .soil) ∷ pastSoil (h .air)
 
 -- the air of an hour frame's numbers, by its kind, 04, 05 or 02
 abbrev pub airOf : ℕ → List ℕ → Air
@@ -67,6 +78,9 @@ rawHourOf air ns = record {
 abbrev pub endOf : List ℕ → End
 endOf ns = record { hours = getD ns 0 0 }
 
+abbrev pub ceilingOf : List ℕ → Ceiling
+ceilingOf ns = record { ozone = getD ns 0 0 }
+
 -- the soil number n in a measure, and the hour of a frame's numbers, its soil in that measure
 abbrev pub soilOf : Measure → ℕ → Soil
 soilOf Measure.Suction n = Suction n
@@ -76,7 +90,7 @@ unfoldable pub hourOf : RawHour → Measure → Hour
 hourOf raw m = record {
   day = raw .day;
   hour = raw .hour;
-  ozone = raw .ozone;
+  ozone = ozoneOf (raw .ozone);
   ppfd = raw .ppfd;
   radiation = raw .radiation;
   temperature = signedOf (raw .temperature);
@@ -87,12 +101,13 @@ hourOf raw m = record {
 
 -- ---- a kind's frame and its line: a case for each kind
 
--- the frame of a kind with these numbers: a header, an end, else an hour
+-- the frame of a kind with these numbers: a header, an end, a ceiling, else an hour
 unfoldable pub frameOf : ℕ → List ℕ → Raw
 frameOf kind ns =
     cond (eqb kind 1) (Raw.Header (headerOf ns))
     (cond (eqb kind 3) (Raw.End (endOf ns))
-    (Raw.Hour (rawHourOf (airOf kind ns) ns)))
+    (cond (eqb kind 6) (Raw.Ceiling (ceilingOf ns))
+    (Raw.Hour (rawHourOf (airOf kind ns) ns))))
 
 unfoldable pub frameAt : List ℕ → Raw
 frameAt l = frameOf (byteAt 0 l) (fieldsAt (byteAt 0 l) l)
@@ -107,11 +122,13 @@ abbrev pub kindOf : Record → ℕ
 kindOf (Record.Header h) = 1
 kindOf (Record.Hour h) = airKind (h .air)
 kindOf (Record.End e) = 3
+kindOf (Record.Ceiling c) = 6
 
 abbrev pub numbersOf : Record → List ℕ
 numbersOf (Record.Header h) = headerNumbers h
 numbersOf (Record.Hour h) = hourNumbers h
 numbersOf (Record.End e) = e .hours ∷ []
+numbersOf (Record.Ceiling c) = c .ozone ∷ []
 
 -- the line of a record
 unfoldable pub frameLine : Record → List ℕ

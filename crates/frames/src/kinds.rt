@@ -1,4 +1,5 @@
 // The number of digits of a line of each kind (rows 1 and 3), by the kind's number: a later kind is one more arm.
+use crate::widths::CeilingLine;
 use crate::widths::EndLine;
 use crate::widths::HeaderLine;
 use crate::widths::HourLine;
@@ -17,6 +18,7 @@ pub(crate) fn length_of(kind: u8) -> usize
         3 => EndLine::DIGITS,
         4 => PressureLine::DIGITS,
         5 => HourLine::DIGITS,
+        6 => CeilingLine::DIGITS,
         _ => 0,
     }
 }

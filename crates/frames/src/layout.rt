@@ -1,14 +1,17 @@
 // The fields of a line, by their places, and the hour that an hour frame's numbers say.
 use crate::Air;
+use crate::Ceiling;
 use crate::End;
 use crate::Header;
 use crate::Hour;
+use crate::Ozone;
 use crate::Raw;
 use crate::RawHour;
 use crate::Soil;
 use crate::digits::byte_at;
 use crate::digits::number_at;
 use crate::temperature;
+use crate::widths::CeilingLine;
 use crate::widths::EndLine;
 use crate::widths::HeaderLine;
 use crate::widths::HourLine;
@@ -19,7 +22,7 @@ ghost use mathlib.Core.Path.{_≡_};
 ghost use mathlib.Core.List.{List};
 ghost use Prim.Native.Nat.{ℕ};
 ghost use Rattle.frames.specs.Steps.{Values, Says, IsHour, Makes, Sized};
-ghost use Rattle.frames.specs.Layout.{vapourNumber, soilNumber, headerOf, airOf, rawHourOf, endOf, frameAt, airKind, soilOf, hourOf};
+ghost use Rattle.frames.specs.Layout.{ozoneNumber, ozoneOf, vapourNumber, soilNumber, headerOf, airOf, rawHourOf, endOf, ceilingOf, frameAt, airKind, soilOf, hourOf};
 
 fn header_at(values: &[u8]) -> Header
     requires { ⌜ Values (now values) ⌝ }
@@ -77,6 +80,15 @@ fn end_at(values: &[u8]) -> End
     }
 }
 
+fn ceiling_at(values: &[u8]) -> Ceiling
+    requires { ⌜ Values (now values) ⌝ }
+    ensures { λ r. ⌜ Makes (now (values .entry)) 6 r ceilingOf ⌝ }
+{
+    Ceiling {
+        ozone: number_at(values, CeilingLine::OZONE),
+    }
+}
+
 // The frame of a line that rows 1 to 3 let pass, by its kind. One call of `hour_at` for every kind of hour: called once it costs no call.
 pub(crate) fn frame_at(values: &[u8]) -> Raw
     requires { ⌜ Values (now values) ⌝ }
@@ -86,6 +98,7 @@ pub(crate) fn frame_at(values: &[u8]) -> Raw
     match kind {
         1 => Raw::Header(header_at(values)),
         3 => Raw::End(end_at(values)),
+        6 => Raw::Ceiling(ceiling_at(values)),
         _ => Raw::Hour(hour_at(kind, values)),
     }
 }
@@ -97,6 +110,27 @@ fn soil_of(measure: Measure, n: u16) -> Soil
     match measure {
         Measure::Suction => Soil::Suction(n),
         Measure::Water => Soil::Water(n),
+    }
+}
+
+// A reading of ozone, out of the number in its place.
+pub fn ozone_of(n: u16) -> Ozone
+    ensures { λ r. ⌜ r ≡ ozoneOf n ⌝ }
+{
+    if n == 65535 {
+        Ozone::Missing
+    } else {
+        Ozone::Tenths(n)
+    }
+}
+
+// The number in ozone's place.
+pub fn ozone_number(ozone: Ozone) -> u16
+    ensures { λ r. ⌜ r ≡ ozoneNumber ozone ⌝ }
+{
+    match ozone {
+        Ozone::Tenths(n) => n,
+        Ozone::Missing => 65535,
     }
 }
 
@@ -143,11 +177,12 @@ pub(crate) fn hour_of(raw: RawHour, measure: Measure) -> Hour
     ensures { λ r. ⌜ r ≡ hourOf raw measure ⌝ }
 {
     let air = raw.air;
+    let ozone = ozone_of(raw.ozone);
     let soil = soil_of(measure, raw.soil);
     Hour {
         day: raw.day,
         hour: raw.hour,
-        ozone: raw.ozone,
+        ozone: ozone,
         ppfd: raw.ppfd,
         radiation: raw.radiation,
         temperature: temperature::signed(raw.temperature),

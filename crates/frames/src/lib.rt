@@ -1,5 +1,5 @@
 // Frames (document 01, "Frames"): a line of capital hexadecimal digits, and the record that it says.
-// A line goes to a frame (rows 1 to 3), a frame to a record (rows 5 to 8 and 10). The crate `writer` has the way back.
+// A line goes to a frame (rows 1 to 3), a frame to a record (rows 5 to 8, 10 and 17). The crate `writer` has the way back.
 mod digits;
 mod kinds;
 mod layout;
@@ -7,14 +7,18 @@ mod temperature;
 pub mod widths;
 
 pub use layout::air_kind;
+pub use layout::ozone_number;
+pub use layout::ozone_of;
 pub use layout::soil_number;
 pub use layout::vapour_number;
 pub use records::Air;
+pub use records::Ceiling;
 pub use records::Checked;
 pub use records::Decoded;
 pub use records::End;
 pub use records::Header;
 pub use records::Hour;
+pub use records::Ozone;
 pub use records::Parsed;
 pub use records::Raw;
 pub use records::RawHour;
@@ -91,6 +95,7 @@ pub fn record_of(tree: u8, frame: Raw) -> Decoded
         Raw::Header(h) => answered(Record::Header(h), records::check_header(h)),
         Raw::Hour(h) => hour_record(tree, h),
         Raw::End(e) => Decoded::Read(Record::End(e)),
+        Raw::Ceiling(c) => answered(Record::Ceiling(c), records::check_ceiling(c)),
     }
 }
 

@@ -72,7 +72,16 @@ impl PressureLine {
     pub const DIGITS: usize = PressureLine::PRESSURE + NUMBER;
 }
 
+// 06 | ozone ceiling 2
+pub struct CeilingLine;
+
+impl CeilingLine {
+    pub const OZONE: usize = FIELDS;
+
+    pub const DIGITS: usize = CeilingLine::OZONE + NUMBER;
+}
+
 // The number of kinds, and the digits of the longest lines.
-pub const KINDS: u8 = 5;
+pub const KINDS: u8 = 6;
 
 pub const LONGEST: usize = PressureLine::DIGITS;

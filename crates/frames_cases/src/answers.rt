@@ -5,6 +5,7 @@ use cases::print;
 use frames::Air;
 use frames::Decoded;
 use frames::Hour;
+use frames::Ozone;
 use frames::Record;
 use frames::Refusal;
 use frames::Soil;
@@ -15,6 +16,13 @@ pub(crate) fn print_refusal(refusal: Refusal) {
     if let Refusal::Range(field) = refusal {
         print(b" field");
         print_next(field as u16);
+    }
+}
+
+fn print_ozone(ozone: Ozone) {
+    match ozone {
+        Ozone::Tenths(n) => print_next(n),
+        Ozone::Missing => print(b" missing"),
     }
 }
 
@@ -35,7 +43,8 @@ fn print_soil(soil: Soil) {
 fn print_fields(h: Hour) {
     print_next(h.day);
     print_next(h.hour as u16);
-    print_next(h.ozone);
+    let ozone = h.ozone;
+    print_ozone(ozone);
     print_next(h.ppfd);
     print_next(h.radiation);
     print_signed(h.temperature);
@@ -85,6 +94,10 @@ pub(crate) fn print_record(record: Record) {
             print_next(3);
             print_next(e.hours);
         },
+        Record::Ceiling(c) => {
+            print_next(6);
+            print_next(c.ozone);
+        },
     }
 }
 
@@ -97,13 +110,13 @@ pub(crate) fn print_reading(tree: u8, line: &[u8]) {
     }
 }
 
-// `.` for a line that is read, else `1` to `8` for the row, `a` to `h` for row 10 with field 1 to 8.
+// `.` for a line that is read, else `1` to `8` for the row, `A` for row 17, `a` to `h` for row 10 with field 1 to 8.
 pub(crate) fn mark(decoded: Decoded) -> u8 {
     match decoded {
         Decoded::Read(_) => b'.',
         Decoded::Refused(refusal) => match refusal {
             Refusal::Range(field) => 96 + field % 32,
-            _ => 48 + frames::row_of(refusal) % 16,
+            _ => 48 + frames::row_of(refusal) % 32,
         },
     }
 }

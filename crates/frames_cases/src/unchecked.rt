@@ -1,5 +1,6 @@
-// A frame's numbers as a record that nothing has checked.
+// A frame's numbers as a record that nothing has checked; its ozone, where `numeric`, a number even if that is FFFF.
 use frames::Hour;
+use frames::Ozone;
 use frames::Raw;
 use frames::RawHour;
 use frames::Record;
@@ -14,12 +15,20 @@ fn soil_of(tree: u8, n: u16) -> Soil {
     }
 }
 
-fn hour_of(tree: u8, raw: RawHour) -> Hour {
+fn ozone_of(numeric: bool, n: u16) -> Ozone {
+    if numeric {
+        Ozone::Tenths(n)
+    } else {
+        frames::ozone_of(n)
+    }
+}
+
+fn hour_of(tree: u8, numeric: bool, raw: RawHour) -> Hour {
     let air = raw.air;
     Hour {
         day: raw.day,
         hour: raw.hour,
-        ozone: raw.ozone,
+        ozone: ozone_of(numeric, raw.ozone),
         ppfd: raw.ppfd,
         radiation: raw.radiation,
         temperature: frames::signed(raw.temperature),
@@ -29,10 +38,11 @@ fn hour_of(tree: u8, raw: RawHour) -> Hour {
     }
 }
 
-pub(crate) fn record_of(tree: u8, raw: Raw) -> Record {
+pub(crate) fn record_of(tree: u8, numeric: bool, raw: Raw) -> Record {
     match raw {
         Raw::Header(h) => Record::Header(h),
-        Raw::Hour(h) => Record::Hour(hour_of(tree, h)),
+        Raw::Hour(h) => Record::Hour(hour_of(tree, numeric, h)),
         Raw::End(e) => Record::End(e),
+        Raw::Ceiling(c) => Record::Ceiling(c),
     }
 }

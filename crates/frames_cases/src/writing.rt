@@ -44,8 +44,8 @@ fn print_written(tree: u8, record: Record, buf: &mut [u8], room: usize) {
     }
 }
 
-fn print_frame(tree: u8, raw: Raw, room: usize) {
-    let record = record_of(tree, raw);
+fn print_frame(tree: u8, numeric: bool, raw: Raw, room: usize) {
+    let record = record_of(tree, numeric, raw);
     print_record(record);
     print_checked(record);
     let mut buf = [b'.'; ROOM];
@@ -55,10 +55,10 @@ fn print_frame(tree: u8, raw: Raw, room: usize) {
 }
 
 // Rows 1 to 3, else the frame.
-pub(crate) fn print_writing(tree: u8, line: &[u8], room: usize) {
+pub(crate) fn print_writing(tree: u8, numeric: bool, line: &[u8], room: usize) {
     let parsed = frames::parse(line);
     match parsed {
-        Parsed::Frame(raw) => print_frame(tree, raw, room),
+        Parsed::Frame(raw) => print_frame(tree, numeric, raw, room),
         Parsed::Refused(refusal) => print_refusal(refusal),
     }
 }

@@ -16,7 +16,7 @@ ghost use Rattle.account_spec.specs.Reading.{wordOf};
 ghost use Rattle.report_spec.specs.Line.{totalsLine};
 ghost use Rattle.report_spec.specs.Months.{monthLine};
 ghost use Rattle.report_spec.specs.Season.{refusalLine};
-ghost use Rattle.report_spec.specs.Steps.{textIn, Whole};
+ghost use Rattle.report_spec.specs.Steps.{textIn, Whole, figuresBefore};
 
 // A word before the text.
 fn word_before(t: Text, word: &[u8]) -> Text
@@ -36,7 +36,7 @@ fn word_before(t: Text, word: &[u8]) -> Text
 // The verdict's word, and the line feed.
 fn of_verdict(verdict: Verdict) -> Text
     ensures text { λ r. ⌜ textIn r ≡ wordOf verdict ++ lineFeed ∷ [] ⌝ }
-    ensures room { λ r. ⌜ Whole r × (118 ≤ r .at) ⌝ }
+    ensures room { λ r. ⌜ Whole r × (150 ≤ r .at) ⌝ }
 {
     let end = byte_before(empty(), b'\n');
     match verdict {
@@ -56,7 +56,19 @@ fn column_before(t: Text, n: u64) -> Text
     number_before(byte_before(t, b' '), n)
 }
 
-// Hours, counted hours, lower, upper, AOT40 and verdict.
+// Counted hours, lower, upper and AOT40's lower number before the text.
+fn figures_before(t: Text, sums: Sums) -> Text
+    requires room { ⌜ Whole t × (84 ≤ t .at) ⌝ }
+    ensures text { λ r. ⌜ textIn r ≡ figuresBefore sums (textIn t) ⌝ }
+    ensures room { λ r. ⌜ Whole r × (t .at ≤ r .at + 84) ⌝ }
+{
+    let least = column_before(t, sums.least as u64);
+    let upper = column_before(least, sums.upper);
+    let lower = column_before(upper, sums.lower);
+    column_before(lower, sums.counted as u64)
+}
+
+// Hours, counted hours, lower, upper, AOT40's lower and upper, and verdict.
 pub(crate) fn of_totals(t: Totals) -> Text
     ensures text { λ r. ⌜ textIn r ≡ totalsLine t ⌝ }
     ensures room { λ r. ⌜ Whole r ⌝ }
@@ -64,24 +76,18 @@ pub(crate) fn of_totals(t: Totals) -> Text
     let verdict = t.verdict;
     let sums = t.sums;
     let end = of_verdict(verdict);
-    let aot40 = column_before(end, sums.aot40 as u64);
-    let upper = column_before(aot40, sums.upper);
-    let lower = column_before(upper, sums.lower);
-    let counted = column_before(lower, sums.counted as u64);
-    column_before(counted, sums.hours as u64)
+    let most = column_before(end, sums.most as u64);
+    column_before(figures_before(most, sums), sums.hours as u64)
 }
 
-// Month number, counted hours, lower, upper and AOT40.
+// Month number, counted hours, lower, upper, AOT40's lower and upper.
 pub(crate) fn of_month(month: u16, sums: Sums) -> Text
     ensures text { λ r. ⌜ textIn r ≡ monthLine month sums ⌝ }
     ensures room { λ r. ⌜ Whole r ⌝ }
 {
     let end = byte_before(empty(), b'\n');
-    let aot40 = number_before(end, sums.aot40 as u64);
-    let upper = column_before(aot40, sums.upper);
-    let lower = column_before(upper, sums.lower);
-    let counted = column_before(lower, sums.counted as u64);
-    column_before(counted, month as u64)
+    let most = number_before(end, sums.most as u64);
+    column_before(figures_before(most, sums), month as u64)
 }
 
 // `refused N line L`

@@ -1,4 +1,4 @@
-// Text of up to 128 bytes, made from its end, and put into a lent buffer.
+// Text of up to 160 bytes, made from its end, and put into a lent buffer.
 use frames::Refusal;
 use frames::Written;
 use report_spec::Text;
@@ -14,11 +14,11 @@ ghost use Rattle.report_spec.specs.Steps.{textIn, Whole};
 
 pub(crate) fn empty() -> Text
     ensures text { λ r. ⌜ textIn r ≡ [] ⌝ }
-    ensures room { λ r. ⌜ Whole r × (r .at ≡ 128) ⌝ }
+    ensures room { λ r. ⌜ Whole r × (r .at ≡ 160) ⌝ }
 {
     Text {
-        bytes: [0; 128],
-        at: 128,
+        bytes: [0; 160],
+        at: 160,
     }
 }
 
@@ -57,7 +57,7 @@ pub(crate) fn put(t: Text, buf: &mut [u8]) -> Written
     requires room { ⌜ Whole t ⌝ }
     ensures { λ r. ⌜ Prints (accepted (textIn t)) (now (buf .entry)) r (now (buf .exit)) ⌝ }
 {
-    let n = 128 - t.at;
+    let n = 160 - t.at;
     if buf.len() < n {
         return Written::Refused(Refusal::Buffer);
     }
@@ -88,7 +88,7 @@ pub(crate) fn put_both(t: Text, more: &[u8], buf: &mut [u8]) -> Written
     ensures { λ r. ⌜ Prints (accepted (textIn t ++ now (more .entry))) (now (buf .entry)) r (now (buf .exit)) ⌝ }
 {
     let at = t.at;
-    let n = 128 - at;
+    let n = 160 - at;
     let all = n + more.len();
     if buf.len() < all {
         return Written::Refused(Refusal::Buffer);

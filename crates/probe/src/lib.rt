@@ -33,7 +33,7 @@ fn season(held: Account, text: &[u8], starts: &[usize], ends: &[usize]) -> Accou
     next
 }
 
-// A figure: 0 hours, 1 counted hours, 2 lower, 3 upper, 4 AOT40.
+// A figure: 0 hours, 1 counted hours, 2 lower, 3 upper, 4 AOT40's lower, 5 its upper.
 fn figure(a: Account, which: u64) -> u64 {
     let s = a.sums;
     match which {
@@ -41,7 +41,8 @@ fn figure(a: Account, which: u64) -> u64 {
         1 => s.counted as u64,
         2 => s.lower,
         3 => s.upper,
-        _ => s.aot40 as u64,
+        4 => s.least as u64,
+        _ => s.most as u64,
     }
 }
 
@@ -102,7 +103,7 @@ fn air_of(kind: u8, vapour: u16, pressure: u16) -> Air {
     }
 }
 
-// Day, hour, ozone, PPFD, radiation, deficit, wind, soil, pressure.
+// Day, hour, ozone (FFFF: missing), PPFD, radiation, deficit, wind, soil, pressure.
 fn hour_of(tree: u8, kind: u8, row: &[u16], temperature: i16) -> Hour
     requires { ⌜ 8 < length (now row) ⌝ }
 {
@@ -110,7 +111,7 @@ fn hour_of(tree: u8, kind: u8, row: &[u16], temperature: i16) -> Hour
     Hour {
         day: row[0],
         hour: 0,
-        ozone: row[2],
+        ozone: frames::ozone_of(row[2]),
         ppfd: row[3],
         radiation: row[4],
         temperature,
@@ -134,6 +135,7 @@ pub extern "C" fn pairs(
     kind: u8,
     first: u16,
     last: u16,
+    ceiling: u16,
     fields: &[u16],
     temperatures: &[i16],
 ) -> u64 {
@@ -144,7 +146,7 @@ pub extern "C" fn pairs(
             return sum;
         }
         let h = hour_of(tree, kind, &fields[9 * i..], temperatures[i]);
-        sum = std::num::wrapping_add_u64(sum, both(flux::hour_dose(tree, first, last, h)));
+        sum = std::num::wrapping_add_u64(sum, both(flux::hour_dose(tree, first, last, ceiling, h)));
         i += 1;
     }
     sum

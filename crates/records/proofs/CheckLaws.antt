@@ -1,4 +1,4 @@
--- A header by the first of rows 5 to 8 that refuses it.
+-- A header by the first of rows 5 to 8 that refuses it, a ceiling by row 17.
 use mathlib.Core.Path.{_≡_}
 use mathlib.Core.Bool.{true, false}
 use Rattle.trees.specs.declared.Figures.{Figures}
@@ -7,6 +7,7 @@ use Rattle.trees.specs.Figures.{figuresOf, rampDays}
 use Rattle.records.specs.Answers.{accepted, refused}
 use Rattle.records.specs.Ranges.{isOutside, periodOut, checked}
 use Rattle.records.specs.declared.Header.{Header}
+use Rattle.records.specs.declared.Ceiling.{Ceiling}
 use Rattle.records.specs.declared.Record.{Record}
 
 module _ (h : Header) where
@@ -32,3 +33,12 @@ module _ (h : Header) where
         pub level-in : isOutside 1 10000 (h .level) ≡ false → accepted tt ≡ checked (Record.Header h)
         unfolding checked
         level-in level = rw (tree, year, period, level)
+
+module _ (c : Ceiling) where
+  pub ceiling-out : isOutside 1 5000 (c .ozone) ≡ true → refused (17, 0) ≡ checked (Record.Ceiling c)
+  unfolding checked
+  ceiling-out e = rw e
+
+  pub ceiling-in : isOutside 1 5000 (c .ozone) ≡ false → accepted tt ≡ checked (Record.Ceiling c)
+  unfolding checked
+  ceiling-in e = rw e

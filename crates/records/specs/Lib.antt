@@ -1,5 +1,6 @@
 pub mod Answers
 pub mod Temperature
+pub mod Ozone
 pub mod Ranges
 pub mod Buffer
 pub mod Period

@@ -1,13 +1,16 @@
--- The rows that a record meets by itself (document 01, "Turned-back lines"): 5 to 8 for a header, 10 for an hour.
+-- The rows that a record meets by itself (document 01, "Turned-back lines"): 5 to 8 for a header, 10 for an hour, 17 for a ceiling; and row 18.
 use Prim.Native.Nat.{ℕ, _-_}
-use mathlib.Core.Bool.{Bool, false, _||_}
-use lib.Dec.{ltb}
+use mathlib.Core.Bool.{Bool, false, not, _&&_, _||_}
+use lib.Dec.{eqb, ltb}
 use Rattle.trees.specs.declared.Figures.{Figures}
 use Rattle.trees.specs.declared.Choice.{Choice}
 use Rattle.trees.specs.Figures.{figuresOf, rampDays}
 use Rattle.records.specs.Answers.{Outcome, accepted, refused, row, field}
 use Rattle.records.specs.Temperature.{temperatureOut}
+use Rattle.records.specs.Ozone.{isMissing}
 use Rattle.records.specs.declared.Header.{Header}
+use Rattle.records.specs.declared.Ozone.{Ozone}
+use Rattle.records.specs.declared.Ozone.the-variants.{Tenths, Missing}
 use Rattle.records.specs.declared.Air.{Air}
 use Rattle.records.specs.declared.Air.the-variants.{Deficit, Pressure, Humidity}
 use Rattle.records.specs.declared.Soil.{Soil}
@@ -23,6 +26,11 @@ isOutside low high n = ltb n low || ltb high n
 abbrev pub onTree : {A : Type 0} → Choice → (Figures → Outcome A) → Outcome A
 onTree (Choice.Tree f) next = next f
 onTree Choice.Unknown next = refused (5, 0)
+
+-- ozone 0 to 5000 tenths of ppb; missing is in range (W-207)
+abbrev pub ozoneOut : Ozone → Bool
+ozoneOut (Tenths n) = ltb 5000 n
+ozoneOut Missing = false
 
 -- VPD 0 to 10000 Pa, or in its place humidity 0 to 1000 tenths of a percent (W-205)
 abbrev pub vapourOut : Air → Bool
@@ -48,7 +56,7 @@ periodOut h ramps = ltb (h .first) 1 || ltb (h .last) (h .first) || ltb (h .days
 -- row 10: the first reading out of range, given whether the soil is unfit
 abbrev pub hourChecked : Bool → Hour → Outcome Unit
 hourChecked unfit h =
-    field 1 (ltb 5000 (h .ozone))
+    field 1 (ozoneOut (h .ozone))
     (field 2 (ltb 3000 (h .ppfd))
     (field 3 (ltb 1500 (h .radiation))
     (field 4 (temperatureOut (h .temperature))
@@ -67,3 +75,12 @@ checked (Record.Header h) =
     (accepted tt))))
 checked (Record.Hour h) = hourChecked (soilOut (h .soil)) h
 checked (Record.End e) = accepted tt
+checked (Record.Ceiling c) = row 17 (isOutside 1 5000 (c .ozone)) (accepted tt)
+
+-- row 17 refuses a season's ceiling, which is 0 where none was fed (W-207)
+abbrev pub ceilingOut : ℕ → Bool
+ceilingOut ceiling = not (eqb ceiling 0) && isOutside 1 5000 ceiling
+
+-- row 18: ozone missing, and no ceiling (W-207)
+abbrev pub lacksCeiling : ℕ → Ozone → Bool
+lacksCeiling ceiling ozone = isMissing ozone && eqb ceiling 0

@@ -6,8 +6,11 @@ mod ranges;
 
 pub use period::all_given;
 pub use period::period_hours;
+pub use ranges::ceiling_out;
+pub use ranges::check_ceiling;
 pub use ranges::check_header;
 pub use ranges::check_hour;
+pub use ranges::lacks_ceiling;
 pub use ranges::outside;
 pub use ranges::soil_out;
 ghost use mathlib.Core.Path.{_≡_};
@@ -29,6 +32,12 @@ pub enum Soil {
     Water(u16),
 }
 
+// A reading of ozone in tenths of ppb, or none: FFFF in a line (W-207).
+pub enum Ozone {
+    Tenths(u16),
+    Missing,
+}
+
 // What an hour says of the air besides its ozone and temperature, by the kind of its frame: vapour pressure deficit in Pa (02);
 // deficit, and pressure in tenths of hPa (04); relative humidity in tenths of a percent (05).
 pub enum Air {
@@ -37,12 +46,12 @@ pub enum Air {
     Humidity(u16),
 }
 
-// An hour's readings: ozone in tenths of ppb, PPFD in µmol m⁻² s⁻¹, global radiation in W m⁻², temperature in tenths of °C,
+// An hour's readings: ozone, PPFD in µmol m⁻² s⁻¹, global radiation in W m⁻², temperature in tenths of °C,
 // the air's, wind in cm/s, soil in its measure's unit.
 pub struct Hour {
     pub day: u16,
     pub hour: u8,
-    pub ozone: u16,
+    pub ozone: Ozone,
     pub ppfd: u16,
     pub radiation: u16,
     pub temperature: i16,
@@ -56,14 +65,20 @@ pub struct End {
     pub hours: u16,
 }
 
+// The most that a missing ozone can have been, in tenths of ppb (W-207).
+pub struct Ceiling {
+    pub ozone: u16,
+}
+
 // What a line says, by its kind.
 pub enum Record {
     Header(Header),
     Hour(Hour),
     End(End),
+    Ceiling(Ceiling),
 }
 
-// The numbers of an hour frame as they stand in its line: temperature in two's complement, soil in the measure of a tree not yet named.
+// The numbers of an hour frame as they stand in its line: ozone with FFFF for none, temperature in two's complement, soil in the measure of a tree not yet named.
 pub struct RawHour {
     pub day: u16,
     pub hour: u8,
@@ -81,6 +96,7 @@ pub enum Raw {
     Header(Header),
     Hour(RawHour),
     End(End),
+    Ceiling(Ceiling),
 }
 
 // Why a call is refused: a case for each row, document 01's 1 to 13 and the requests' from 14 on, in that order. Range names the field, 1 to 8.
@@ -102,6 +118,8 @@ pub enum Refusal {
     Place,
     Mixed,
     Tried,
+    Ceiling,
+    NoCeiling,
 }
 
 // The answer to a line by rows 1 to 3: its frame, or the row that refuses it.
@@ -128,7 +146,7 @@ pub enum Written {
     Refused(Refusal),
 }
 
-// A refusal's row, 1 to 16.
+// A refusal's row, 1 to 18.
 pub fn row_of(refusal: Refusal) -> u8
     ensures { λ r. ⌜ r ≡ rowOf «refusal» .0 ⌝ }
 {
@@ -149,10 +167,12 @@ pub fn row_of(refusal: Refusal) -> u8
         Refusal::Place => 14,
         Refusal::Mixed => 15,
         Refusal::Tried => 16,
+        Refusal::Ceiling => 17,
+        Refusal::NoCeiling => 18,
     }
 }
 
-// A record's own rows: 5 to 8 for a header, 10 for an hour.
+// A record's own rows: 5 to 8 for a header, 10 for an hour, 17 for a ceiling.
 pub fn check(record: Record) -> Checked
     ensures { λ r. ⌜ checkedAs r ≡ checked «record» ⌝ }
 {
@@ -163,5 +183,6 @@ pub fn check(record: Record) -> Checked
             check_hour(h, soil_out(soil))
         },
         Record::End(_) => Checked::Sound,
+        Record::Ceiling(c) => check_ceiling(c),
     }
 }

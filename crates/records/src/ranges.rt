@@ -1,14 +1,16 @@
-// The rows that a record meets by itself: 5 to 8 for a header, 10 with its first field out of range for an hour.
+// The rows that a record meets by itself: 5 to 8 for a header, 10 with its first field out of range for an hour, 17 for a ceiling; and row 18.
 use crate::Air;
+use crate::Ceiling;
 use crate::Checked;
 use crate::Header;
 use crate::Hour;
+use crate::Ozone;
 use crate::Refusal;
 use crate::Soil;
 use trees::Choice;
 ghost use mathlib.Core.Path.{_≡_};
 ghost use Rattle.records.specs.Answers.{checkedAs};
-ghost use Rattle.records.specs.Ranges.{isOutside, periodOut, vapourOut, soilOut, pressureOut, hourChecked, checked};
+ghost use Rattle.records.specs.Ranges.{isOutside, periodOut, ozoneOut, vapourOut, soilOut, pressureOut, hourChecked, checked, ceilingOut, lacksCeiling};
 ghost use Rattle.records.specs.Temperature.{temperatureOut};
 ghost use Rattle.records.specs.declared.Record.{Record};
 
@@ -66,6 +68,16 @@ fn temperature_out(t: i16) -> bool
     false
 }
 
+// Field 1.
+fn ozone_out(ozone: Ozone) -> bool
+    ensures { λ r. ⌜ r ≡ ozoneOut ozone ⌝ }
+{
+    match ozone {
+        Ozone::Tenths(n) => 5000 < n,
+        Ozone::Missing => false,
+    }
+}
+
 // Field 5.
 fn vapour_out(air: Air) -> bool
     ensures { λ r. ⌜ r ≡ vapourOut air ⌝ }
@@ -108,7 +120,8 @@ pub fn soil_out(soil: Soil) -> bool
 pub fn check_hour(h: Hour, unfit: bool) -> Checked
     ensures { λ r. ⌜ checkedAs r ≡ hourChecked unfit h ⌝ }
 {
-    if 5000 < h.ozone {
+    let ozone = h.ozone;
+    if ozone_out(ozone) {
         return Checked::Refused(Refusal::Range(1));
     }
     if 3000 < h.ppfd {
@@ -134,4 +147,34 @@ pub fn check_hour(h: Hour, unfit: bool) -> Checked
         return Checked::Refused(Refusal::Range(8));
     }
     Checked::Sound
+}
+
+// Row 17.
+pub fn check_ceiling(c: Ceiling) -> Checked
+    ensures { λ r. ⌜ checkedAs r ≡ checked (Record.Ceiling c) ⌝ }
+{
+    if outside(1, 5000, c.ozone) {
+        return Checked::Refused(Refusal::Ceiling);
+    }
+    Checked::Sound
+}
+
+// Row 17 refuses a season's ceiling, which is 0 where none was fed.
+pub fn ceiling_out(ceiling: u16) -> bool
+    ensures { λ r. ⌜ r ≡ ceilingOut ceiling ⌝ }
+{
+    if ceiling == 0 {
+        return false;
+    }
+    outside(1, 5000, ceiling)
+}
+
+// Row 18: ozone missing, and no ceiling.
+pub fn lacks_ceiling(ceiling: u16, ozone: Ozone) -> bool
+    ensures { λ r. ⌜ r ≡ lacksCeiling ceiling ozone ⌝ }
+{
+    match ozone {
+        Ozone::Tenths(_) => false,
+        Ozone::Missing => ceiling == 0,
+    }
 }

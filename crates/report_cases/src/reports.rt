@@ -30,10 +30,10 @@ fn print_into(text: &[u8], room: usize, buf: &mut [u8]) {
     print(b"\n");
 }
 
-// A text that fills the buffer; its report goes into a buffer of 512 marks.
+// A text that fills the buffer; its report goes into a buffer of 600 marks.
 fn print_text(text: &mut [u8], room: usize) {
     cases::read(text);
-    let mut buf = [b'#'; 512];
+    let mut buf = [b'#'; 600];
     print_into(text, room, &mut buf);
 }
 

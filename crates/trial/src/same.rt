@@ -28,6 +28,7 @@ fn same_season(a: Season, b: Season) -> bool
         & (x.first == y.first)
         & (x.last == y.last)
         & (x.level == y.level)
+        & (a.ceiling == b.ceiling)
 }
 
 fn same_sums(a: Sums, b: Sums) -> bool
@@ -35,9 +36,11 @@ fn same_sums(a: Sums, b: Sums) -> bool
 {
     (a.hours == b.hours)
         & (a.counted == b.counted)
+        & (a.missing == b.missing)
         & (a.lower == b.lower)
         & (a.upper == b.upper)
-        & (a.aot40 == b.aot40)
+        & (a.least == b.least)
+        & (a.most == b.most)
 }
 
 pub(crate) fn same(a: Account, b: Account) -> bool

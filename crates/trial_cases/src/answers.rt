@@ -34,9 +34,11 @@ fn print_reading(reading: Reading) {
             let verdict = totals.verdict;
             print_number(sums.hours as u64);
             print_next(sums.counted as u64);
+            print_next(sums.missing as u64);
             print_next(sums.lower);
             print_next(sums.upper);
-            print_next(sums.aot40 as u64);
+            print_next(sums.least as u64);
+            print_next(sums.most as u64);
             print_verdict(verdict);
         },
         Reading::Refused(refusal) => print_refusal(refusal),

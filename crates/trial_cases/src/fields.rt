@@ -1,5 +1,5 @@
-// An account's fields by their numbers: 0 phase (0 fresh, 1 open, 2 closed), 1 to 5 the header's in their order, 6 kind of its hours (0 none), 7 hours, 8 counted,
-// 9 lower, 10 upper, 11 AOT40.
+// An account's fields by their numbers: 0 phase (0 fresh, 1 open, 2 closed), 1 to 5 the header's in their order, 6 ceiling, 7 kind of its hours (0 none), 8 hours,
+// 9 counted, 10 missing, 11 lower, 12 upper, 13 least, 14 most.
 use account::Account;
 use account::HourKind;
 use account::Phase;
@@ -42,6 +42,7 @@ pub(crate) fn with_field(a: Account, digits: &[u8]) -> Account {
     let mut phase = a.phase;
     let season = a.season;
     let mut header = season.header;
+    let mut ceiling = season.ceiling;
     let mut kind = a.kind;
     let mut sums = a.sums;
     match u8_at(digits, 0) {
@@ -51,17 +52,23 @@ pub(crate) fn with_field(a: Account, digits: &[u8]) -> Account {
         3 => header.first = u16_at(digits, 2),
         4 => header.last = u16_at(digits, 2),
         5 => header.level = u16_at(digits, 2),
-        6 => kind = kind_of(u8_at(digits, 2)),
-        7 => sums.hours = u16_at(digits, 2),
-        8 => sums.counted = u16_at(digits, 2),
-        9 => sums.lower = u64_at(digits, 2),
-        10 => sums.upper = u64_at(digits, 2),
-        11 => sums.aot40 = u32_at(digits, 2),
+        6 => ceiling = u16_at(digits, 2),
+        7 => kind = kind_of(u8_at(digits, 2)),
+        8 => sums.hours = u16_at(digits, 2),
+        9 => sums.counted = u16_at(digits, 2),
+        10 => sums.missing = u16_at(digits, 2),
+        11 => sums.lower = u64_at(digits, 2),
+        12 => sums.upper = u64_at(digits, 2),
+        13 => sums.least = u32_at(digits, 2),
+        14 => sums.most = u32_at(digits, 2),
         _ => {},
     }
     Account {
         phase: phase,
-        season: Season { header: header },
+        season: Season {
+            header: header,
+            ceiling: ceiling,
+        },
         kind: kind,
         sums: sums,
     }
@@ -80,10 +87,13 @@ pub(crate) fn print_account(a: Account) {
     print_next(header.first as u64);
     print_next(header.last as u64);
     print_next(header.level as u64);
+    print_next(season.ceiling as u64);
     print_next(kind_number(kind) as u64);
     print_next(sums.hours as u64);
     print_next(sums.counted as u64);
+    print_next(sums.missing as u64);
     print_next(sums.lower);
     print_next(sums.upper);
-    print_next(sums.aot40 as u64);
+    print_next(sums.least as u64);
+    print_next(sums.most as u64);
 }

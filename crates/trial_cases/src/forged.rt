@@ -24,7 +24,9 @@ fn refusal_of(row: u8, field: u8) -> Refusal {
         13 => Refusal::Account,
         14 => Refusal::Place,
         15 => Refusal::Mixed,
-        _ => Refusal::Tried,
+        16 => Refusal::Tried,
+        17 => Refusal::Ceiling,
+        _ => Refusal::NoCeiling,
     }
 }
 

@@ -1,5 +1,5 @@
 -- An account that is possible stays possible: what an accepted line makes of it is possible too.
-use Prim.Native.Nat.{ℕ, suc, _+_}
+use Prim.Native.Nat.{ℕ, suc, _+_, _≤_}
 use mathlib.Core.Path.{_≡_, refl, sym, subst}
 use mathlib.Core.Bool.{false, false≢true}
 use mathlib.Core.List.{List, [], _∷_}
@@ -7,13 +7,15 @@ use native.Mathlib.Omega.{arith}
 use borrow.Author.Tests.{eqb-false}
 use Rattle.records.specs.declared.Hour.{Hour}
 use Rattle.records.specs.declared.Record.{Record}
+use Rattle.records.specs.Ozone.{isMissing}
 use Rattle.records.specs.Answers.{accepted}
 use Rattle.records.specs.Period.{periodHours}
 use Rattle.records.proofs.AnswerLaws.{accepted-same, row-passed, onward-passed}
+use Rattle.records.proofs.OzoneLaws.{ceiling-le}
 use Rattle.account_spec.specs.declared.Season.{Season}
 use Rattle.account_spec.specs.declared.Sums.{Sums}
 use Rattle.account_spec.specs.declared.Account.{Account}
-use Rattle.account_spec.specs.Hours.{plus, standIn, Carried, hourSums, sumsOf}
+use Rattle.account_spec.specs.Hours.{noSums, plus, standIn, Carried, hourSums, sumsOf}
 use Rattle.account_spec.specs.HourKinds.{hourKind, kindOut}
 use Rattle.account_spec.specs.Enclosed.{HasDose}
 use Rattle.account_spec.specs.Account.{impossible}
@@ -23,21 +25,61 @@ use Rattle.account_spec.proofs.HourLaws.{dosable-has}
 use Rattle.account_spec.proofs.EnclosedLaws.{hours-in}
 use Rattle.account_spec.proofs.PossibleLaws.{SumsIn, Possible, possible-is, possible-false}
 use Rattle.account_spec.proofs.KindLaws.{some-kind}
-use Rattle.account_spec.proofs.BookLaws.{TakenIn}
+use Rattle.account_spec.proofs.BookLaws.{TakenIn, has-ozone}
 use Rattle.account_spec.proofs.TurnLaws.{answer-taken}
 
 -- ---- sums that hours can give, added up
 
-plus-in : {season : Season} {s t : Sums} → SumsIn season s → SumsIn season t → SumsIn season (plus s t)
-plus-in p q = record { counted = omega arith; order = omega arith; most = omega arith; gap = omega arith; aot40 = omega arith }
+none-in : {season : Season} → SumsIn season noSums
+none-in = record {
+  counted = omega arith;
+  missing = omega arith;
+  bounded = λ _. refl;
+  order = omega arith;
+  most = omega arith;
+  gap = omega arith;
+  aot40-order = omega arith;
+  aot40-most = omega arith;
+  aot40-width = omega arith;
+}
 
-hour-in : (season : Season) (c : Carried) (h : Hour) → HasDose season h → SumsIn season (hourSums (standIn season) c h)
+plus-in : {season : Season} {s t : Sums} → SumsIn season s → SumsIn season t → SumsIn season (plus s t)
+plus-in p q = record {
+  counted = omega arith;
+  missing = omega arith;
+  bounded = λ none. omega (arith, p .bounded none, q .bounded none);
+  order = omega arith;
+  most = omega arith;
+  gap = omega arith;
+  aot40-order = omega arith;
+  aot40-most = omega arith;
+  aot40-width = omega arith;
+}
+
+hour-in :
+    (season : Season) → season .ceiling ≤ 5000 → (c : Carried) (h : Hour) → HasDose season h → (season .ceiling ≡ 0 → isMissing (h .ozone) ≡ false) →
+    SumsIn season (hourSums (standIn season) c h)
 unfolding sumsOf
-hour-in season c h has = subst (SumsIn season) (plus-none (hourSums (standIn season) c h)) (hours-in season c (h ∷ []) (has, tt))
+hour-in season few c h has read =
+    subst (SumsIn season) (plus-none (hourSums (standIn season) c h)) (hours-in season few c (h ∷ []) (has, tt) (λ none. (read none, tt)))
 
 hour-one : (season : Season) (c : Carried) (h : Hour) → hourSums (standIn season) c h .hours ≡ 1
 unfolding sumsOf
 hour-one season c h = omega (arith, hours-is (standIn season) c (h ∷ []))
+
+-- before the first hour there is none without ozone
+ceiling-in : {season next : Season} {s : Sums} → SumsIn season s → s .hours ≡ 0 → SumsIn next s
+ceiling-in p none = record {
+  counted = p .counted;
+  missing = p .missing;
+  bounded = λ _. omega (arith, p .counted, p .missing);
+  order = p .order;
+  most = p .most;
+  gap = p .gap;
+  aot40-order = p .aot40-order;
+  aot40-most = p .aot40-most;
+  aot40-width = p .aot40-width;
+}
 
 -- ---- an accepted record
 
@@ -45,8 +87,9 @@ entered-possible : (a : Account) (r : Record) → Possible a → TakenIn (stateO
 unfolding entered
 entered-possible a (Record.Header h) p t = record {
   header = λ _. t .1;
+  ceiling = λ _. refl;
   hours = omega arith;
-  sums = record { counted = omega arith; order = omega arith; most = omega arith; gap = omega arith; aot40 = omega arith };
+  sums = none-in;
   kind = refl;
   blank = λ e. absurd (false≢true e);
   given = λ e. absurd (false≢true e);
@@ -54,21 +97,34 @@ entered-possible a (Record.Header h) p t = record {
 entered-possible a (Record.Hour h) p t =
     let one = hour-one (a .season) (carriedIn a) h in
     let next : a .sums .hours + hourSums (standIn (a .season)) (carriedIn a) h .hours ≡ suc (a .sums .hours) = omega (arith, one) in
+    let begun = p .ceiling (rw (t .0) refl) in
+    let has = dosable-has (a .season) h (t .2 (p .header (rw (t .0) refl)) begun) in
     record {
       header = p .header;
+      ceiling = p .ceiling;
       hours = omega (arith, p .hours, one, eqb-false (a .sums .hours) (periodHours (a .season .header)) (t .1));
-      sums = plus-in (p .sums) (hour-in (a .season) (carriedIn a) h (dosable-has (a .season) h (t .2 (p .header (rw (t .0) refl)))));
+      sums = plus-in (p .sums) (hour-in (a .season) (ceiling-le _ begun) (carriedIn a) h has (has-ozone (a .season .ceiling) (h .ozone) (t .4)));
       kind = subst (λ (n : ℕ). kindOut (hourKind (h .air)) n ≡ false) (sym next) (some-kind (h .air) (a .sums .hours));
       blank = λ e. absurd (false≢true (rw (t .0) at e));
       given = λ e. absurd (false≢true (rw (t .0) at e));
     }
 entered-possible a (Record.End e) p t = record {
   header = λ _. p .header (rw (t .0) refl);
+  ceiling = λ _. p .ceiling (rw (t .0) refl);
   hours = p .hours;
   sums = p .sums;
   kind = p .kind;
   blank = λ e. absurd (false≢true e);
   given = λ _. t .1;
+}
+entered-possible a (Record.Ceiling c) p t = record {
+  header = p .header;
+  ceiling = λ _. t .3;
+  hours = p .hours;
+  sums = ceiling-in (p .sums) (t .2);
+  kind = p .kind;
+  blank = λ e. absurd (false≢true (rw (t .0) at e));
+  given = λ e. absurd (false≢true (rw (t .0) at e));
 }
 
 pub next-possible : (a b : Account) (l : List ℕ) → feedOf a l ≡ accepted b → impossible b ≡ false

@@ -38,13 +38,21 @@ kind-back Pressure = refl
 kind-back Humidity = refl
 
 abbrev seasonAt : List ℕ → Season
-seasonAt l = record { header = headerOf l }
+seasonAt l = record { header = headerOf l; ceiling = getD l 5 0 }
 
 season-back : (s : Season) → seasonAt (seasonNumbers s) ≡ s
 season-back s = refl
 
 abbrev sumsAt : List ℕ → Sums
-sumsAt l = record { hours = getD l 0 0; counted = getD l 1 0; lower = getD l 2 0; upper = getD l 3 0; aot40 = getD l 4 0 }
+sumsAt l = record {
+  hours = getD l 0 0;
+  counted = getD l 1 0;
+  missing = getD l 2 0;
+  lower = getD l 3 0;
+  upper = getD l 4 0;
+  least = getD l 5 0;
+  most = getD l 6 0;
+}
 
 sums-back : (s : Sums) → sumsAt (sumsNumbers s) ≡ s
 sums-back s = refl

@@ -12,9 +12,8 @@ use Rattle.trees.specs.declared.Choice.{Choice}
 use Rattle.trees.specs.declared.Measure.{Measure}
 use Rattle.records.specs.Answers.{accepted}
 use Rattle.frames.specs.Digits.{byteAt}
-use Rattle.records.specs.Temperature.{temperatureOut}
 use Rattle.frames.specs.Fields.{fieldsAt}
-use Rattle.frames.specs.Layout.{soilNumber, hourNumbers, headerOf, airOf, rawHourOf, endOf, soilOf, hourOf, frameOf, frameAt, airKind, kindOf, numbersOf, frameLine}
+use Rattle.frames.specs.Layout.{soilNumber, hourNumbers, headerOf, airOf, rawHourOf, endOf, ceilingOf, soilOf, hourOf, frameOf, frameAt, airKind, kindOf, numbersOf, frameLine}
 use Rattle.records.specs.Ranges.{onTree, checked}
 use Rattle.frames.specs.Steps.{IsHour, withDeficit, withPressure, withHumidity}
 use Rattle.frames.specs.Frames.{parsedOf, soundOf, recordOf, readFrameOf}
@@ -31,13 +30,14 @@ use Rattle.records.specs.declared.RawHour.{RawHour}
 use Rattle.records.specs.declared.Record.{Record}
 use Rattle.writer.proofs.DigitLaws.{number-lt}
 use Rattle.records.proofs.AnswerLaws.{accepted-same, row-passed, onward-passed}
+use Rattle.writer.proofs.OzoneLaws.{ozone-back, ozone-number}
 use Rattle.writer.proofs.TemperatureLaws.{complement-signed, signed-complement}
-use Rattle.frames.proofs.RangeLaws.{InRange, checked-passed}
+use Rattle.frames.proofs.RangeLaws.{HourIn, InRange, checked-passed}
 use Rattle.frames.proofs.ReadLaws.{parsed-passed, SoundRead, sound-read, hour-read}
 use Rattle.writer.proofs.WidthLaws.{range-fits}
 use Rattle.frames.proofs.FrameLaws.{frame-is, hour-framed, sized-within}
 use Rattle.writer.proofs.LineLaws.{line-parsed, line-frame, line-written}
-use Rattle.frames.proofs.KindLaws.{KindCase, header, hour, end, kind-cases}
+use Rattle.frames.proofs.KindLaws.{KindCase, header, hour, end, ceiling, kind-cases}
 use Rattle.writer.proofs.RowLaws.{write-only}
 
 -- ---- written, then read
@@ -46,15 +46,15 @@ soil-back : (s : Soil) → soilOf (measureIn s) (soilNumber s) ≡ s
 soil-back (Suction n) = refl
 soil-back (Water n) = refl
 
-hour-back : (h : Hour) (m : Measure) → m ≡ measureIn (h .soil) → temperatureOut (h .temperature) ≡ false
+hour-back : (h : Hour) (m : Measure) → m ≡ measureIn (h .soil) → HourIn h
     → hourOf (rawHourOf (h .air) (hourNumbers h)) m ≡ h
 unfolding hourOf
-hour-back h m e t = rw (e, signed-complement (h .temperature) t, soil-back (h .soil))
+hour-back h m e i = rw (e, ozone-back (h .ozone) (i .ozone), signed-complement (h .temperature) (i .temperature), soil-back (h .soil))
 
-hour-measured : (choice : Choice) (h : Hour) → HasMeasure choice (measureIn (h .soil)) → temperatureOut (h .temperature) ≡ false
+hour-measured : (choice : Choice) (h : Hour) → HasMeasure choice (measureIn (h .soil)) → HourIn h
     → onTree choice (λ f. soundOf (Record.Hour (hourOf (rawHourOf (h .air) (hourNumbers h)) (f .measure)))) ≡ soundOf (Record.Hour h)
-hour-measured (Choice.Tree f) h m t = rw (hour-back h (f .measure) m t)
-hour-measured Choice.Unknown h m t = absurd m
+hour-measured (Choice.Tree f) h m i = rw (hour-back h (f .measure) m i)
+hour-measured Choice.Unknown h m i = absurd m
 
 hour-frame : (h : Hour) (a : Air) → h .air ≡ a → frameOf (airKind (h .air)) (hourNumbers h) ≡ Raw.Hour (rawHourOf (h .air) (hourNumbers h))
 unfolding frameOf
@@ -65,10 +65,11 @@ hour-frame h (Humidity n) e = rw e
 record-back : (tree : ℕ) (r : Record) → OfMeasure tree r → InRange r → recordOf tree (frameOf (kindOf r) (numbersOf r)) ≡ soundOf r
 unfolding recordOf frameOf
 record-back tree (Record.Header h) m i = refl
-record-back tree (Record.Hour h) m i = ap (recordOf tree) (hour-frame h (h .air) refl) ∙ hour-measured (figuresOf tree) h m (i .temperature)
+record-back tree (Record.Hour h) m i = ap (recordOf tree) (hour-frame h (h .air) refl) ∙ hour-measured (figuresOf tree) h m i
 record-back tree (Record.End e) m i = refl
+record-back tree (Record.Ceiling c) m i = refl
 
-read-line : (tree : ℕ) (r : Record) → InWidth r → OfMeasure tree r → checked r ≡ accepted tt → readFrameOf tree (frameLine r) ≡ accepted r
+pub read-line : (tree : ℕ) (r : Record) → InWidth r → OfMeasure tree r → checked r ≡ accepted tt → readFrameOf tree (frameLine r) ≡ accepted r
 unfolding readFrameOf soundOf
 read-line tree r w m e =
     let i = checked-passed r e in
@@ -110,9 +111,9 @@ module _ (l : List ℕ) where
 
   hour-numbers : (kind : ℕ) → IsHour kind → (m : Measure) → hourNumbers (hourOf (hourIn kind) m) ≡ fieldsAt kind l
   unfolding hourOf
-  hour-numbers kind (withDeficit e) m = rw e (simp (complement-signed (hourIn 2 .temperature) (number-lt _ l), soil-number m))
-  hour-numbers kind (withPressure e) m = rw e (simp (complement-signed (hourIn 4 .temperature) (number-lt _ l), soil-number m))
-  hour-numbers kind (withHumidity e) m = rw e (simp (complement-signed (hourIn 5 .temperature) (number-lt _ l), soil-number m))
+  hour-numbers kind (withDeficit e) m = rw e (simp (ozone-number (hourIn 2 .ozone), complement-signed (hourIn 2 .temperature) (number-lt _ l), soil-number m))
+  hour-numbers kind (withPressure e) m = rw e (simp (ozone-number (hourIn 4 .ozone), complement-signed (hourIn 4 .temperature) (number-lt _ l), soil-number m))
+  hour-numbers kind (withHumidity e) m = rw e (simp (ozone-number (hourIn 5 .ozone), complement-signed (hourIn 5 .temperature) (number-lt _ l), soil-number m))
 
 -- a record that passes, with the kind and the numbers of the line
 record ReadFrom (l : List ℕ) (r : Record) : Type 0 where
@@ -136,8 +137,9 @@ module _ (tree : ℕ) (l : List ℕ) (r : Record) (e : recordOf tree (frameAt l)
       let kind = air-kind k (fieldsAt k l) is in
       read-from l (Record.Hour (hourOf (hourIn l k) (h .figures .measure))) r kind (rw (← kind) (hour-numbers l k is (h .figures .measure))) (h .is)
   line-from (end k) = read-from l (Record.End (endOf (fieldsAt 3 l))) r k refl (sound-read _ r (by-kind k))
+  line-from (ceiling k) = read-from l (Record.Ceiling (ceilingOf (fieldsAt 6 l))) r k refl (sound-read _ r (by-kind k))
 
-line-read : (tree : ℕ) (l : List ℕ) (r : Record) → readFrameOf tree l ≡ accepted r → (checked r ≡ accepted tt) × (frameLine r ≡ l)
+pub line-read : (tree : ℕ) (l : List ℕ) (r : Record) → readFrameOf tree l ≡ accepted r → (checked r ≡ accepted tt) × (frameLine r ≡ l)
 unfolding readFrameOf
 line-read tree l r e =
     let p = onward-passed (parsedOf l) (recordOf tree) r e in

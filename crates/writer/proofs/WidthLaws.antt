@@ -12,6 +12,7 @@ use Rattle.frames.proofs.RangeLaws.{HourIn, InRange}
 use Rattle.writer.specs.RoundTrip.{InWidth}
 use Rattle.writer.proofs.FieldLaws.{FitsWidths}
 use Rattle.writer.proofs.TemperatureLaws.{complement-lt}
+use Rattle.writer.proofs.OzoneLaws.{ozone-lt}
 
 -- the kind and the numbers
 abbrev pub FitsLine : Record → Type 0
@@ -20,15 +21,18 @@ FitsLine r = FitsWidths (one ∷ widthsOf (kindOf r)) (kindOf r ∷ numbersOf r)
 hour-fits : (h : Hour) → HourIn h → InWidth (Record.Hour h) → (a : Air) → h .air ≡ a → FitsLine (Record.Hour h)
 hour-fits h i w (Deficit n) e =
     let t = complement-lt (h .temperature) (i .temperature) in
+    let o = ozone-lt (h .ozone) (i .ozone) in
     let v = rw e at (i .vapour) in
     rw e (omega arith)
 hour-fits h i w (Pressure n p) e =
     let t = complement-lt (h .temperature) (i .temperature) in
+    let o = ozone-lt (h .ozone) (i .ozone) in
     let v = rw e at (i .vapour) in
     let q = rw e at (i .pressure) in
     rw e (omega arith)
 hour-fits h i w (Humidity n) e =
     let t = complement-lt (h .temperature) (i .temperature) in
+    let o = ozone-lt (h .ozone) (i .ozone) in
     let v = rw e at (i .vapour) in
     rw e (omega arith)
 
@@ -36,3 +40,4 @@ pub range-fits : (r : Record) → InRange r → InWidth r → FitsLine r
 range-fits (Record.Header h) i w = omega arith
 range-fits (Record.Hour h) i w = hour-fits h i w (h .air) refl
 range-fits (Record.End e) i w = omega arith
+range-fits (Record.Ceiling c) i w = omega arith

@@ -22,6 +22,7 @@ abbrev pub InWidth : Record → Type 0
 InWidth (Record.Header h) = Unit
 InWidth (Record.Hour h) = (h .day < 65536) × (h .hour < 256)
 InWidth (Record.End e) = e .hours < 65536
+InWidth (Record.Ceiling c) = Unit
 
 abbrev pub measureIn : Soil → Measure
 measureIn (Suction n) = Measure.Suction
@@ -32,15 +33,16 @@ abbrev pub HasMeasure : Choice → Measure → Type 0
 HasMeasure (Choice.Tree f) m = f .measure ≡ m
 HasMeasure Choice.Unknown m = ⊥
 
--- a tree of the record's soil measure; for a header or an end any number will do
+-- a tree of the hour's soil measure; for any other record any number will do
 abbrev pub OfMeasure : ℕ → Record → Type 0
 OfMeasure tree (Record.Header h) = Unit
 OfMeasure tree (Record.Hour h) = HasMeasure (figuresOf tree) (measureIn (h .soil))
 OfMeasure tree (Record.End e) = Unit
+OfMeasure tree (Record.Ceiling c) = Unit
 
 -- the rows that refuse a record to be written, row 10 besides
 abbrev pub writerRows : List ℕ
-writerRows = 5 ∷ 6 ∷ 7 ∷ 8 ∷ 12 ∷ []
+writerRows = 5 ∷ 6 ∷ 7 ∷ 8 ∷ 12 ∷ 17 ∷ []
 
 pub record RoundTrip : Type 0 where
   -- a record that the writer accepts is read back as itself

@@ -5,16 +5,16 @@ use crate::digits::put_number;
 use crate::digits::put_two;
 use crate::temperature;
 use frames::Air;
-use frames::End;
 use frames::Header;
 use frames::Hour;
 use frames::Record;
 use frames::Refusal;
 use frames::Written;
-use frames::widths::EndLine;
+use frames::widths::FIELDS;
 use frames::widths::HeaderLine;
 use frames::widths::HourLine;
 use frames::widths::KIND;
+use frames::widths::NUMBER;
 use frames::widths::PressureLine;
 ghost use mathlib.Core.Path.{_≡_};
 ghost use mathlib.Core.List.{[], _∷_, _++_};
@@ -22,7 +22,7 @@ ghost use Prim.Native.Nat.{_≤_};
 ghost use lib.ListN.{length};
 ghost use lib.Seq.{sets};
 ghost use Rattle.frames.specs.Digits.{number};
-ghost use Rattle.frames.specs.Kinds.{one, widthsOf, digitsIn};
+ghost use Rattle.frames.specs.Kinds.{one, two, widthsOf, digitsIn};
 ghost use Rattle.frames.specs.Fields.{digitsOf};
 ghost use Rattle.frames.specs.Layout.{hourNumbers, frameLine};
 ghost use Rattle.records.specs.Answers.{accepted};
@@ -47,6 +47,8 @@ fn put_hour_fields(kind: u8, h: Hour, buf: &mut [u8])
     ensures { λ _. ⌜ now (buf .exit) ≡ sets (now (buf .entry)) 0 (digitsOf (one ∷ widthsOf 2) (kind ∷ hourNumbers h)) ⌝ }
 {
     let t = temperature::complement(h.temperature);
+    let reading = h.ozone;
+    let ozone = frames::ozone_number(reading);
     let air = h.air;
     let vapour = frames::vapour_number(air);
     let soil = h.soil;
@@ -54,7 +56,7 @@ fn put_hour_fields(kind: u8, h: Hour, buf: &mut [u8])
     put_byte(buf, KIND, kind);
     put_number(buf, HourLine::DAY, h.day);
     put_byte(buf, HourLine::HOUR, h.hour);
-    put_four(buf, HourLine::OZONE, h.ozone, h.ppfd, h.radiation, t);
+    put_four(buf, HourLine::OZONE, ozone, h.ppfd, h.radiation, t);
     put_two(buf, HourLine::VAPOUR, vapour, h.wind);
     put_number(buf, HourLine::SOIL, n);
 }
@@ -96,15 +98,18 @@ fn put_hour(h: Hour, buf: &mut [u8]) -> Written
     }
 }
 
-fn put_end(e: End, buf: &mut [u8]) -> Written
-    ensures { λ r. ⌜ Prints (accepted (frameLine (Record.End e))) (now (buf .entry)) r (now (buf .exit)) ⌝ }
+const ONE_NUMBER: usize = FIELDS + NUMBER;
+
+// A line of a kind with one number: 03 and 06.
+fn put_number_line(kind: u8, n: u16, buf: &mut [u8]) -> Written
+    ensures { λ r. ⌜ Prints (accepted (digitsOf (one ∷ two ∷ []) (kind ∷ n ∷ []))) (now (buf .entry)) r (now (buf .exit)) ⌝ }
 {
-    if buf.len() < EndLine::DIGITS {
+    if buf.len() < ONE_NUMBER {
         return Written::Refused(Refusal::Buffer);
     }
-    put_byte(buf, KIND, 3);
-    put_number(buf, EndLine::HOURS, e.hours);
-    Written::Bytes(EndLine::DIGITS)
+    put_byte(buf, KIND, kind);
+    put_number(buf, FIELDS, n);
+    Written::Bytes(ONE_NUMBER)
 }
 
 // A record's line, whatever its kind.
@@ -114,6 +119,7 @@ pub(crate) fn put(record: Record, buf: &mut [u8]) -> Written
     match record {
         Record::Header(h) => put_header(h, buf),
         Record::Hour(h) => put_hour(h, buf),
-        Record::End(e) => put_end(e, buf),
+        Record::End(e) => put_number_line(3, e.hours, buf),
+        Record::Ceiling(c) => put_number_line(6, c.ozone, buf),
     }
 }

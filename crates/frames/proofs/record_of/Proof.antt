@@ -23,6 +23,15 @@ hour-record-requires c κs = search needs
 enum-known-frame-3 : tie.Need-enum-known-frame-3
 enum-known-frame-3 c = search needs
 
+enum-known-frame-4 : tie.Need-enum-known-frame-4
+enum-known-frame-4 c = search needs
+
+check-ceiling-requires : tie.Need-check-ceiling-requires
+check-ceiling-requires c κs = search needs
+
+answered-requires-2 : tie.Need-answered-requires-2
+answered-requires-2 c κs = search needs
+
 returns : tie.Need-returns
 unfolding recordOf soundOf
 returns c = rw (c .before .before .before .frame .given .1) (rw (c .before .check-header .ensures) at (c .answered .ensures))
@@ -34,6 +43,10 @@ returns-3 : tie.Need-returns-3
 unfolding recordOf soundOf checked
 returns-3 c = rw (c .before .frame3 .given .1)
 
+returns-4 : tie.Need-returns-4
+unfolding recordOf soundOf
+returns-4 c = rw (c .before .before .before .frame4 .given .1) (rw (c .before .check-ceiling .ensures) at (c .answered2 .ensures))
+
 pub record-of-spec : {M : Type 1} → statement M
 record-of-spec =
     tie.close
@@ -44,6 +57,10 @@ record-of-spec =
     enum-known-frame-2
     hour-record-requires
     enum-known-frame-3
+    enum-known-frame-4
+    check-ceiling-requires
+    answered-requires-2
     returns
     returns-2
-    returns-3)
+    returns-3
+    returns-4)

@@ -7,10 +7,10 @@ use Rattle.probe.proofs.pairs.Statement.{statement}
 use Rattle.probe.proofs.pairs.Tie as tie
 
 abbrev Inv-loop : tie.InvT-loop
-Inv-loop tree kind first last fields temperatures sum₀ i₀ sum i = i ≤ length temperatures
+Inv-loop tree kind first last ceiling fields temperatures sum₀ i₀ sum i = i ≤ length temperatures
 
 abbrev μ-loop : tie.MeasureT-loop
-μ-loop tree kind first last fields temperatures sum₀ i₀ sum i = length temperatures - i
+μ-loop tree kind first last ceiling fields temperatures sum₀ i₀ sum i = length temperatures - i
 
 loop-holds : tie.Need-loop-holds Inv-loop μ-loop
 loop-holds c = search needs

@@ -22,6 +22,12 @@ check-hour-requires c κs = search needs
 enum-told : tie.Need-enum-told
 enum-told c = search needs
 
+enum-known-record-3 : tie.Need-enum-known-record-3
+enum-known-record-3 c = search needs
+
+check-ceiling-requires : tie.Need-check-ceiling-requires
+check-ceiling-requires c κs = search needs
+
 returns : tie.Need-returns
 returns c = rw (c .before .before .«record» .given .1) (c .check-header .ensures)
 
@@ -33,6 +39,9 @@ returns-3 : tie.Need-returns-3
 unfolding checked
 returns-3 c = rw (c .enum-told .given .1)
 
+returns-4 : tie.Need-returns-4
+returns-4 c = rw (c .before .before .record3 .given .1) (c .check-ceiling .ensures)
+
 pub check-spec : {M : Type 1} → statement M
 check-spec =
     tie.close
@@ -43,6 +52,9 @@ check-spec =
     soil-out-requires
     check-hour-requires
     enum-told
+    enum-known-record-3
+    check-ceiling-requires
     returns
     returns-2
-    returns-3)
+    returns-3
+    returns-4)

@@ -26,6 +26,12 @@ enum-told c = search needs
 end-requires : tie.Need-end-requires
 end-requires c κs = search needs
 
+enum-known-record-3 : tie.Need-enum-known-record-3
+enum-known-record-3 c = search needs
+
+set-ceiling-requires : tie.Need-set-ceiling-requires
+set-ceiling-requires c κs = search needs
+
 returns : tie.Need-returns
 unfolding entered
 returns c = rw (c .before .before .«record» .given .1) (c .«open» .ensures)
@@ -38,6 +44,10 @@ returns-3 : tie.Need-returns-3
 unfolding entered
 returns-3 c = rw (c .before .enum-told .given .1) (c .end .ensures)
 
+returns-4 : tie.Need-returns-4
+unfolding entered
+returns-4 c = rw (c .before .before .record3 .given .1) (c .set-ceiling .ensures)
+
 pub enter-spec : {M : Type 1} → statement M
 enter-spec =
     tie.close
@@ -48,6 +58,9 @@ enter-spec =
     add-hour-requires
     enum-told
     end-requires
+    enum-known-record-3
+    set-ceiling-requires
     returns
     returns-2
-    returns-3)
+    returns-3
+    returns-4)

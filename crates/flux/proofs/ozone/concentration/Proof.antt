@@ -1,60 +1,43 @@
--- `flux::ozone::concentration` meets its contract; no product passes 64 bits, whatever the readings.
-use Prim.Native.Nat.{ℕ, _+_, _*_}
-use mathlib.Core.Path.{sym, ap, _∙_}
-use native.Mathlib.Nat.{mul-le-mul}
-use native.Mathlib.Omega.{arith}
+-- `flux::ozone::concentration` meets its contract.
+use Prim.Native.Nat.{ℕ}
+use mathlib.Core.Path.{_≡_, refl, sym, ap, _∙_}
 use borrow.Author.Needs.{needs}
-use mir.Syntax.{w16, w64}
-use mir.Val.{Fits}
-use Rattle.exact.specs.Frac.{Frac, _over_}
-use Rattle.exact.specs.Rounding.{roundUp, roundDown}
-use Rattle.flux_spec.proofs.ConcentrationLaws.{ozone-facts, pressed-down, pressed-up}
+use Rattle.records.specs.declared.Ozone.{Ozone}
+use Rattle.records.specs.declared.Hour.{Hour}
+use Rattle.records.specs.Ozone.{tenthsOr, withOzone, readAs}
+use Rattle.flux_spec.specs.Pair.{concentrationLow, concentrationUp}
+use Rattle.flux_spec.proofs.ConcentrationLaws.{concentrationLow-none}
 use Rattle.flux.proofs.ozone.concentration.Statement.{statement}
 use Rattle.flux.proofs.ozone.concentration.Tie as tie
 
-product-fits : {o p : ℕ} → Fits w16 o → Fits w16 p → Fits w64 (4000000000 * o * p)
-product-fits f g = record { fits = omega (arith, mul-le-mul (f .fits) (g .fits)) }
+module _ (c : tie.After-at) where
+  abbrev h : Hour
+  h = c .before .before .args .h
 
-mul-rounded-2 : tie.Need-mul-rounded-2
-mul-rounded-2 c = product-fits (search needs) (search needs)
+  abbrev ceiling : ℕ
+  ceiling = c .before .before .args .ceiling
+
+  -- the number that is read
+  tenths : {o : Ozone} → h .ozone ≡ o → c .before .tenths-or .result ≡ tenthsOr ceiling o
+  tenths e = c .before .tenths-or .ensures ∙ ap (λ o. tenthsOr ceiling o) e
+
+  lower-at : {n : ℕ} → c .before .tenths-or .result ≡ n → c .at .result .lower ≡ concentrationLow (withOzone n h)
+  lower-at e = c .at .ensures .0 ∙ ap (λ n. concentrationLow (withOzone n h)) e
+
+  upper-at : c .at .result .upper ≡ concentrationUp (readAs ceiling h)
+  upper-at = c .at .ensures .1 ∙ ap (λ n. concentrationUp (withOzone n h)) (tenths refl)
 
 returns : tie.Need-returns
 returns c =
-    let is = ozone-facts (c .before .before .before .args .h) .plain _ (c .before .enum-told .given .1) in
-    (c .plain .ensures .0 ∙ sym (is .0), c .plain .ensures .1 ∙ sym (is .1))
+    let at = c .before .before in
+    let e = c .enum-told .given .1 in
+    (lower-at at (tenths at e ∙ sym (ap (λ o. tenthsOr 0 o) e)), upper-at at)
 
 returns-2 : tie.Need-returns-2
 returns-2 c =
-    let start = c .before .before .before .before in
-    let h = start .args .h in
-    let air = c .before .before .air .given in
-    let of : ℕ → Frac = λ t. (4000000000 * h .ozone * air .0 .1 .0) over (92383 * (2 * t + 4463)) in (
-      c .rounded .ensures .0 ∙ ap (λ t. roundDown (of t)) (start .pre) ∙ sym (pressed-down h _ _ (air .1)),
-      c .rounded .ensures .1 ∙ ap (λ t. roundUp (of t)) (start .pre) ∙ sym (pressed-up h _ _ (air .1)),
-    )
-
-returns-3 : tie.Need-returns-3
-returns-3 c =
-    let is = ozone-facts (c .before .before .before .args .h) .humid _ (c .before .enum-told2 .given .1) in
-    (c .plain2 .ensures .0 ∙ sym (is .0), c .plain2 .ensures .1 ∙ sym (is .1))
+    let at = c .before .before in
+    let e = c .enum-told2 .given .1 in
+    (sym (concentrationLow-none (h at)) ∙ ap (λ n. concentrationLow (withOzone n (h at))) (sym (ap (λ o. tenthsOr 0 o) e)), upper-at at)
 
 pub concentration-spec : {M : Type 1} → statement M
-concentration-spec =
-    tie.close
-    (tie.spec
-    (λ c. search needs)
-    (λ c κs. search needs)
-    (λ c. search needs)
-    (λ c. search needs)
-    (λ c. search needs)
-    (λ c. search needs)
-    mul-rounded-2
-    (λ c. search needs)
-    (λ c. search needs)
-    (λ c. search needs)
-    (λ c κs. search needs)
-    (λ c. search needs)
-    (λ c κs. search needs)
-    returns
-    returns-2
-    returns-3)
+concentration-spec = tie.close (tie.spec (λ c κs. search needs) (λ c κs. search needs) (λ c. search needs) (λ c. search needs) returns returns-2)

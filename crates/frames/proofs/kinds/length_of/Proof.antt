@@ -27,7 +27,11 @@ unfolding lengthOf
 returns-5 c = rw (c .match .keys5) refl
 
 returns-6 : tie.Need-returns-6
-returns-6 c = kind-none _ (λ h. omega arith)
+unfolding lengthOf
+returns-6 c = rw (c .match .keys6) refl
+
+returns-7 : tie.Need-returns-7
+returns-7 c = kind-none _ (λ h. omega arith)
 
 pub length-of-spec : {M : Type 1} → statement M
-length-of-spec = tie.close (tie.spec returns returns-2 returns-3 returns-4 returns-5 returns-6)
+length-of-spec = tie.close (tie.spec returns returns-2 returns-3 returns-4 returns-5 returns-6 returns-7)

@@ -19,6 +19,9 @@ header-at-requires c κs = search needs
 end-at-requires : tie.Need-end-at-requires
 end-at-requires c κs = search needs
 
+ceiling-at-requires : tie.Need-ceiling-at-requires
+ceiling-at-requires c κs = search needs
+
 hour-at-requires : tie.Need-hour-at-requires
 hour-at-requires c κs = search needs
 
@@ -34,11 +37,17 @@ returns-2 c = λ l says sized.
     let kind = sym (c .before .before .byte-at .ensures l says (sized-ge l sized)) ∙ c .before .match .keys2 in
     ap Raw.End (c .end-at .ensures l says (sized-le l sized kind)) ∙ sym (frame-is l kind)
 
--- the other kinds are those of hours
 returns-3 : tie.Need-returns-3
+unfolding frameOf
 returns-3 c = λ l says sized.
+    let kind = sym (c .before .before .byte-at .ensures l says (sized-ge l sized)) ∙ c .before .match .keys3 in
+    ap Raw.Ceiling (c .ceiling-at .ensures l says (sized-le l sized kind)) ∙ sym (frame-is l kind)
+
+-- the other kinds are those of hours
+returns-4 : tie.Need-returns-4
+returns-4 c = λ l says sized.
     let kind = c .before .before .byte-at .ensures l says (sized-ge l sized) in
-    let hour = hour-left _ (kind-cases (byteAt 0 l) (sized-within l sized)) (λ e. omega arith) (λ e. omega arith) in
+    let hour = hour-left _ (kind-cases (byteAt 0 l) (sized-within l sized)) (λ e. omega arith) (λ e. omega arith) (λ e. omega arith) in
     ap Raw.Hour ((rw kind at (c .hour-at .ensures)) hour l says (sized-le l sized refl)) ∙ sym (hour-framed l hour refl)
 
 pub frame-at-spec : {M : Type 1} → statement M
@@ -48,7 +57,9 @@ frame-at-spec =
     byte-at-requires
     header-at-requires
     end-at-requires
+    ceiling-at-requires
     hour-at-requires
     returns
     returns-2
-    returns-3)
+    returns-3
+    returns-4)

@@ -16,30 +16,19 @@ cast-number-before c = search needs
 number-before-requires : tie.Need-number-before-requires
 number-before-requires c κs = search needs
 
+figures-before-requires : tie.Need-figures-before-requires
+figures-before-requires c κs = search needs
+
 column-before-requires : tie.Need-column-before-requires
 column-before-requires c κs = search needs
 
-column-before-requires-2 : tie.Need-column-before-requires-2
-column-before-requires-2 c κs = search needs
-
-cast-column-before : tie.Need-cast-column-before
-cast-column-before c = search needs
-
-column-before-requires-3 : tie.Need-column-before-requires-3
-column-before-requires-3 c κs = search needs
-
-column-before-requires-4 : tie.Need-column-before-requires-4
-column-before-requires-4 c κs = search needs
-
 returns : tie.Need-returns
 returns c =
-    let counted = c .before in
-    let lower = counted .before .before in
-    let upper = lower .before in
-    let aot40 = upper .before in
-    let feed = aot40 .before .before in (
-      month-is _ _ (feed .before .empty .ensures .0) (feed .byte-before .ensures .0) (aot40 .number-before .ensures .0) (upper .column-before .ensures .0) (lower .column-before2 .ensures .0) (counted .column-before3 .ensures .0) (c .column-before4 .ensures .0),
-      c .column-before4 .ensures .1 .0,
+    let figures = c .before in
+    let most = figures .before in
+    let feed = most .before .before in (
+      month-is _ _ (feed .before .empty .ensures .0) (feed .byte-before .ensures .0) (most .number-before .ensures .0) (figures .figures-before .ensures .0) (c .column-before .ensures .0),
+      c .column-before .ensures .1 .0,
     )
 
 pub of-month-spec : {M : Type 1} → statement M
@@ -50,9 +39,6 @@ of-month-spec =
     byte-before-requires
     cast-number-before
     number-before-requires
+    figures-before-requires
     column-before-requires
-    column-before-requires-2
-    cast-column-before
-    column-before-requires-3
-    column-before-requires-4
     returns)

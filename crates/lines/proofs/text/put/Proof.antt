@@ -61,7 +61,7 @@ same-length c = kept (c .before)
 returns-2 : tie.Need-returns-2 Inv-loop μ-loop
 returns-2 c =
     let a = c .before .before .before .before .before .args in
-    let all : c .before .loop .i ≡ 128 - a .t .at = omega arith in
+    let all : c .before .loop .i ≡ 160 - a .t .at = omega arith in
     prints-done _ _ _ _ (simp length-drop (omega arith)) (omega arith) (c .before .loop .inv .1 ∙ ap (λ k. copied (textIn (a .t)) (a .buf .now) k) all)
 
 pub put-spec : {M : Type 1} → statement M

@@ -41,8 +41,8 @@ same-length c = search needs
 returns-2 : tie.Need-returns-2
 returns-2 c =
     let a = c .before .before .before .before .before .before .before .before .before .before .before .before .before .before .args in
-    both-done (textIn (a .t)) (a .more .now) (a .buf .now) _ (128 - a .t .at) (simp length-drop (omega arith)) (omega arith)
-    (c .before .before .copy2 .ensures ∙ ap (λ (l : List ℕ). paste l (128 - a .t .at) (a .more .now) (length (a .more .now))) (c .before .before .before .before .before .before .copy .ensures ∙ ap (λ (l : List ℕ). paste (a .buf .now) 0 l (length l)) (take-all (128 - a .t .at) (textIn (a .t)) (simp length-drop (omega arith)))))
+    both-done (textIn (a .t)) (a .more .now) (a .buf .now) _ (160 - a .t .at) (simp length-drop (omega arith)) (omega arith)
+    (c .before .before .copy2 .ensures ∙ ap (λ (l : List ℕ). paste l (160 - a .t .at) (a .more .now) (length (a .more .now))) (c .before .before .before .before .before .before .copy .ensures ∙ ap (λ (l : List ℕ). paste (a .buf .now) 0 l (length l)) (take-all (160 - a .t .at) (textIn (a .t)) (simp length-drop (omega arith)))))
 
 pub put-both-spec : {M : Type 1} → statement M
 put-both-spec =

@@ -1,13 +1,13 @@
 -- `records::ranges::check_hour` meets its contract: field by field, what is left of the fields is the answer.
 use mathlib.Core.Path.{_≡_, sym, _∙_}
-use mathlib.Core.Bool.{Bool}
+use mathlib.Core.Bool.{Bool, false}
 use native.Mathlib.Omega.{arith}
 use borrow.Author.Tests.{lt-ltb, le-ltb}
 use borrow.Author.Needs.{needs}
 use lib.Dec.{ltb}
 use Rattle.records.specs.Answers.{Outcome, accepted, field}
 use Rattle.records.specs.Temperature.{temperatureOut}
-use Rattle.records.specs.Ranges.{vapourOut, pressureOut, hourChecked}
+use Rattle.records.specs.Ranges.{ozoneOut, vapourOut, pressureOut, hourChecked}
 use Rattle.records.specs.declared.Hour.{Hour}
 use Rattle.records.proofs.SignedLaws.{at-plain}
 use Rattle.records.proofs.ranges.check_hour.Statement.{statement}
@@ -24,28 +24,39 @@ module _ (out : Bool) where
   abbrev from4 : Hour → Outcome Unit
   from4 h = field 4 (temperatureOut (h .temperature)) (from5 h)
 
+ozone-out-requires : tie.Need-ozone-out-requires
+ozone-out-requires c κs = search needs
+
 returns : tie.Need-returns
-returns c = let h = c .before .before .args .h in simp (lt-ltb 5000 (h .ozone) (omega arith))
+returns c = simp (sym (c .before .ozone-out .ensures) ∙ c .if1 .taken)
+
+module _ (c : tie.Else1) where
+  abbrev hour₁ : Hour
+  hour₁ = c .before .before .args .h
+
+  ozone-in : ozoneOut (hour₁ .ozone) ≡ false
+  ozone-in = sym (c .before .ozone-out .ensures) ∙ c .if1 .left
 
 returns-2 : tie.Need-returns-2
-returns-2 c =
-    let h = c .before .before .before .before .args .h in
-    simp (le-ltb 5000 (h .ozone) (omega arith), lt-ltb 3000 (h .ppfd) (omega arith))
+returns-2 c = let e = c .before .before in simp (ozone-in e, lt-ltb 3000 (hour₁ e .ppfd) (omega arith))
 
 returns-3 : tie.Need-returns-3
 returns-3 c =
-    let h = c .before .before .before .before .before .before .args .h in
-    simp (le-ltb 5000 (h .ozone) (omega arith), le-ltb 3000 (h .ppfd) (omega arith), lt-ltb 1500 (h .radiation) (omega arith))
+    let e = c .before .before .before .before in
+    simp (ozone-in e, le-ltb 3000 (hour₁ e .ppfd) (omega arith), lt-ltb 1500 (hour₁ e .radiation) (omega arith))
 
 module _ (c : tie.Else3) where
+  abbrev else1 : tie.Else1
+  else1 = c .before .before .before .before
+
   abbrev hour : Hour
-  hour = c .before .before .before .before .before .before .args .h
+  hour = hour₁ else1
 
   abbrev unfit : Bool
-  unfit = c .before .before .before .before .before .before .args .unfit
+  unfit = else1 .before .before .args .unfit
 
   past3 : from4 unfit hour ≡ hourChecked unfit hour
-  past3 = simp (le-ltb 5000 (hour .ozone) (omega arith), le-ltb 3000 (hour .ppfd) (omega arith), le-ltb 1500 (hour .radiation) (omega arith))
+  past3 = simp (ozone-in else1, le-ltb 3000 (hour .ppfd) (omega arith), le-ltb 1500 (hour .radiation) (omega arith))
 
 temperature-out-requires : tie.Need-temperature-out-requires
 temperature-out-requires c κs = search needs
@@ -108,6 +119,7 @@ pub check-hour-spec : {M : Type 1} → statement M
 check-hour-spec =
     tie.close
     (tie.spec
+    ozone-out-requires
     returns
     returns-2
     returns-3

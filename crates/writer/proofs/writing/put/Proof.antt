@@ -1,5 +1,6 @@
 -- `writer::writing::put` meets its contract.
 use borrow.Author.Needs.{needs}
+use Rattle.frames.specs.Layout.{frameLine}
 use Rattle.writer.proofs.writing.put.Statement.{statement}
 use Rattle.writer.proofs.writing.put.Tie as tie
 
@@ -18,8 +19,14 @@ put-hour-requires c κs = search needs
 enum-known-record-3 : tie.Need-enum-known-record-3
 enum-known-record-3 c = search needs
 
-put-end-requires : tie.Need-put-end-requires
-put-end-requires c κs = search needs
+put-number-line-requires : tie.Need-put-number-line-requires
+put-number-line-requires c κs = search needs
+
+enum-known-record-4 : tie.Need-enum-known-record-4
+enum-known-record-4 c = search needs
+
+put-number-line-requires-2 : tie.Need-put-number-line-requires-2
+put-number-line-requires-2 c κs = search needs
 
 same-length : tie.Need-same-length
 same-length c = search needs
@@ -37,7 +44,15 @@ same-length-3 : tie.Need-same-length-3
 same-length-3 c = search needs
 
 returns-3 : tie.Need-returns-3
-returns-3 c = rw (c .before .before .before .before .before .record3 .given .1) (c .before .before .put-end .ensures)
+unfolding frameLine
+returns-3 c = rw (c .before .before .before .before .before .record3 .given .1) (c .before .before .put-number-line .ensures)
+
+same-length-4 : tie.Need-same-length-4
+same-length-4 c = search needs
+
+returns-4 : tie.Need-returns-4
+unfolding frameLine
+returns-4 c = rw (c .before .before .before .before .before .record4 .given .1) (c .before .before .put-number-line2 .ensures)
 
 pub put-spec : {M : Type 1} → statement M
 put-spec =
@@ -48,10 +63,14 @@ put-spec =
     enum-known-record-2
     put-hour-requires
     enum-known-record-3
-    put-end-requires
+    put-number-line-requires
+    enum-known-record-4
+    put-number-line-requires-2
     same-length
     returns
     same-length-2
     returns-2
     same-length-3
-    returns-3)
+    returns-3
+    same-length-4
+    returns-4)

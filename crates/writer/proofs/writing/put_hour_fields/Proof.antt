@@ -1,4 +1,5 @@
 -- `writer::writing::put_hour_fields` meets its contract.
+use mathlib.Core.Path.{_≡_}
 use borrow.Author.Needs.{needs}
 use Rattle.records.specs.Temperature.{complementOf}
 use Rattle.records.proofs.SignedLaws.{at-plain}
@@ -7,6 +8,12 @@ use Rattle.writer.proofs.writing.put_hour_fields.Tie as tie
 
 complement-requires : tie.Need-complement-requires
 complement-requires c κs = search needs
+
+temperature : (c : tie.After-complement) → c .complement .result ≡ complementOf (c .before .before .before .args .h .temperature)
+temperature c = at-plain (c .before .before .before .args .h .temperature) (search needs) complementOf (c .complement .ensures)
+
+ozone-number-requires : tie.Need-ozone-number-requires
+ozone-number-requires c κs = search needs
 
 vapour-number-requires : tie.Need-vapour-number-requires
 vapour-number-requires c κs = search needs
@@ -37,18 +44,20 @@ same-length c = search needs
 
 returns : tie.Need-returns
 returns c =
-    let start = c .before .before .before .before .before .before .before .before .before .before .before .before .before .before .before .before .before .before .before .before .before .before .before .before .before .before .before .before .before in
-    let temperature = at-plain (start .args .h .temperature) (search (needs, start .good)) complementOf (c .before .before .before .before .before .before .before .before .before .before .before .before .before .before .before .before .before .before .before .before .before .before .before .before .before .before .complement .ensures) in
+    let fields = c .before .before .before .before .before .before .before .before .before .before in
+    let kind = fields .before .before .before .before .before .before .before .before .before .before .before .before in
+    let soil = kind .before .before in
     rw (
       c .before .before .put-number2 .ensures,
       c .before .before .before .before .before .before .put-two .ensures,
-      c .before .before .before .before .before .before .before .before .before .before .put-four .ensures,
-      c .before .before .before .before .before .before .before .before .before .before .before .before .before .before .put-byte2 .ensures,
-      c .before .before .before .before .before .before .before .before .before .before .before .before .before .before .before .before .before .before .put-number .ensures,
-      c .before .before .before .before .before .before .before .before .before .before .before .before .before .before .before .before .before .before .before .before .before .before .put-byte .ensures,
-      temperature,
-      c .before .before .before .before .before .before .before .before .before .before .before .before .before .before .before .before .before .before .before .before .before .before .before .before .soil-number .ensures,
-      c .before .before .before .before .before .before .before .before .before .before .before .before .before .before .before .before .before .before .before .before .before .before .before .before .before .vapour-number .ensures,
+      fields .put-four .ensures,
+      fields .before .before .before .before .put-byte2 .ensures,
+      fields .before .before .before .before .before .before .before .before .put-number .ensures,
+      kind .put-byte .ensures,
+      temperature (soil .before .before .before),
+      soil .soil-number .ensures,
+      soil .before .vapour-number .ensures,
+      soil .before .before .ozone-number .ensures,
     )
 
 pub put-hour-fields-spec : {M : Type 1} → statement M
@@ -56,6 +65,7 @@ put-hour-fields-spec =
     tie.close
     (tie.spec
     complement-requires
+    ozone-number-requires
     vapour-number-requires
     soil-number-requires
     put-byte-requires
