@@ -3,7 +3,7 @@
 use Prim.Native.Nat.{ℕ, _+_, _-_, _*_, _≤_, max}
 use mathlib.Core.Path.{_≡_, refl, sym, ap, subst, _∙_}
 use mathlib.Core.List.{List, [], _∷_, _++_}
-use native.Mathlib.Nat.{mul-le-mul-right}
+use native.Mathlib.Nat.{le-trans, mul-le-mul-right}
 use native.Mathlib.Omega.{arith}
 use Rattle.exact.specs.Frac.{Frac, _⊕_}
 use Rattle.exact.proofs.FracLaws.{≼-trans, ⊕-mono, ⊕-low, ⊕-high}
@@ -17,12 +17,13 @@ use Rattle.records.specs.Ranges.{onTree}
 use Rattle.records.proofs.OzoneLaws.{read-is}
 use Rattle.flux_spec.specs.declared.Stand.{Stand}
 use Rattle.flux_spec.specs.HourDose.{standOf}
-use Rattle.flux_spec.specs.Enclosure.{mostDose, gapMost}
+use Rattle.flux_spec.specs.Enclosure.{gapMost}
+use Rattle.flux_spec.proofs.BudgetLaws.{mostDose-le}
 use Rattle.account_spec.specs.declared.Season.{Season}
 use Rattle.account_spec.specs.declared.Sums.{Sums}
 use Rattle.account_spec.specs.Limits.{mostHour, gapEach}
 use Rattle.account_spec.specs.Hours.{noSums, plus, standIn, ceilingIn, Carried, carriedAfter, sumsOf, podOf}
-use Rattle.account_spec.specs.Enclosed.{AllChecked, AllDosed, AllRead, gapHour, Encloses, SumsSized, HoursEnclosed}
+use Rattle.account_spec.specs.Enclosed.{AllChecked, AllMost, AllDosed, AllRead, gapHour, Encloses, SumsSized, HoursEnclosed}
 use Rattle.account_spec.specs.Book.{countedOf, excessOver}
 use Rattle.account_spec.proofs.SumsLaws.{lower-is, upper-is, counted-le, missing-none}
 use Rattle.account_spec.proofs.Aot40Laws.{excess-cons, least-is, most-is, aot40-in}
@@ -58,20 +59,20 @@ plus-sized {apart} {each} {s} {t} e f =
       most = omega (arith, e .most, f .most);
     }
 
--- by a greater gap and a greater most
-sized-more : {a b m n : ℕ} {s : Sums} → a ≤ b → m ≤ n → SumsSized a m s → SumsSized b n s
-sized-more {s = s} wide le e = record {
+-- by a greater gap
+sized-more : {a b each : ℕ} {s : Sums} → a ≤ b → SumsSized a each s → SumsSized b each s
+sized-more {s = s} wide e = record {
   missing = e .missing;
   order = e .order;
-  gap = omega (arith, e .gap, mul-le-mul-right (s .counted - s .missing) wide, mul-le-mul-right (s .missing) le);
-  most = omega (arith, e .most, mul-le-mul-right (s .counted) le);
+  gap = omega (arith, e .gap, mul-le-mul-right (s .counted - s .missing) wide);
+  most = e .most;
 }
 
 -- within row 13's gap
 pub sized-gap :
     (season : Season) {s : Sums} → SumsSized (gapHour season) (mostHour season) s →
     s .upper ≤ s .lower + (gapEach season * (s .counted - s .missing) + mostHour season * s .missing)
-sized-gap season e = let wide : gapHour season ≤ gapEach season = omega arith in sized-more {n = mostHour season} wide (omega arith) e .gap
+sized-gap season e = let wide : gapHour season ≤ gapEach season = omega arith in sized-more wide e .gap
 
 -- ---- hours in a row
 
@@ -105,20 +106,30 @@ module _ (stand : Stand) (sound : Sound (stand .figures)) (few : stand .ceiling 
       rw (excess-cons f more)
       (plus-encloses (hour-encloses stand sound few c h (all .0) f fill) (list-filled (carriedAfter (accepted stand) c h) rest (all .1) more fills))
 
-  list-sized : (c : Carried) (hs : List Hour) → AllChecked hs → SumsSized (gapMost (stand .figures)) (mostDose (stand .figures .gmax)) (sumsOf (accepted stand) c hs)
-  unfolding sumsOf
-  list-sized c [] all = none-sized (gapMost (stand .figures)) (mostDose (stand .figures .gmax)) noSums refl refl refl
-  list-sized c (h ∷ hs) all = plus-sized (hour-sized stand sound few c h (all .0)) (list-sized (carriedAfter (accepted stand) c h) hs (all .1))
+  module _ (each : ℕ) where
+    list-sized :
+        (c : Carried) (hs : List Hour) → AllChecked hs → AllMost (stand .figures .gmax) each hs →
+        SumsSized (gapMost (stand .figures)) each (sumsOf (accepted stand) c hs)
+    unfolding sumsOf
+    list-sized c [] all most = none-sized (gapMost (stand .figures)) each noSums refl refl refl
+    list-sized c (h ∷ hs) all most =
+        plus-sized (hour-sized stand sound few c h (all .0) each (most .0)) (list-sized (carriedAfter (accepted stand) c h) hs (all .1) (most .1))
 
-  pub list-enclosed :
-      (c : Carried) (hs : List Hour) → AllChecked hs → HoursEnclosed (gapMost (stand .figures)) (mostDose (stand .figures .gmax)) (accepted stand) c hs
-  list-enclosed c hs all = hours-read _ _ (accepted stand) c hs (list-filled c hs all) (list-sized c hs all)
+    pub list-enclosed :
+        (c : Carried) (hs : List Hour) → AllChecked hs → AllMost (stand .figures .gmax) each hs →
+        HoursEnclosed (gapMost (stand .figures)) each (accepted stand) c hs
+    list-enclosed c hs all most = hours-read _ _ (accepted stand) c hs (list-filled c hs all) (list-sized c hs all most)
 
 -- ---- of a season
 
 all-checked : (season : Season) (hs : List Hour) → AllDosed season hs → AllChecked hs
 all-checked season [] all = tt
 all-checked season (h ∷ hs) all = (all .0 .2, all-checked season hs (all .1))
+
+-- of every kind
+all-most : (gmax each : ℕ) (hs : List Hour) → 3000 * gmax ≤ each → AllMost gmax each hs
+all-most gmax each [] room = tt
+all-most gmax each (h ∷ hs) room = (le-trans (mostDose-le gmax (h .air)) room, all-most gmax each hs room)
 
 pub hours-enclosed :
     (season : Season) → season .ceiling ≤ 5000 → (c : Carried) (hs : List Hour) → AllDosed season hs →
@@ -129,9 +140,10 @@ hours-enclosed season few c [] all =
 hours-enclosed season few c (h ∷ hs) all =
     let stand = all .0 .0 in
     let own = season-stand season stand (all .0 .1) in
-    let e = list-enclosed stand (own .limited .sound) (omega (arith, own .ceiling)) c (h ∷ hs) (all-checked season (h ∷ hs) all) in
+    let most = all-most (stand .figures .gmax) (mostHour season) (h ∷ hs) (omega (arith, own .limited .gmax)) in
+    let e = list-enclosed stand (own .limited .sound) (omega (arith, own .ceiling)) (mostHour season) c (h ∷ hs) (all-checked season (h ∷ hs) all) most in
     subst (λ (s : Outcome Stand). HoursEnclosed (gapHour season) (mostHour season) s c (h ∷ hs)) (sym (all .0 .1))
-    (hours-read _ _ (accepted stand) c (h ∷ hs) (e .filled) (sized-more (omega (arith, own .limited .gap)) (omega (arith, own .limited .gmax)) (e .sized)))
+    (hours-read _ _ (accepted stand) c (h ∷ hs) (e .filled) (sized-more (omega (arith, own .limited .gap)) (e .sized)))
 
 -- the season's ceiling is the stand's, where there are hours
 

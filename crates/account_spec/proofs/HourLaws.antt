@@ -2,7 +2,7 @@
 use Prim.Native.Nat.{ℕ, _+_, _-_, _*_, _≤_}
 use mathlib.Core.Path.{_≡_, refl, sym, ap, subst}
 use mathlib.Core.Bool.{Bool, true, false, cond}
-use native.Mathlib.Nat.{mul-le-mul-right}
+use native.Mathlib.Nat.{le-trans, mul-le-mul-right}
 use native.Mathlib.Omega.{arith}
 use Rattle.exact.specs.declared.Bounds.{Bounds}
 use Rattle.exact.specs.Frac.{Frac, natural}
@@ -20,7 +20,7 @@ use Rattle.flux_spec.specs.declared.Stand.{Stand}
 use Rattle.flux_spec.specs.Dose.{isCounted, excess, doseAt, NotAbove, NotBelow}
 use Rattle.flux_spec.specs.Pair.{hourPair}
 use Rattle.flux_spec.specs.Enclosure.{mostDose, gapMost, PairEnclosed, Limited}
-use Rattle.flux_spec.proofs.BudgetLaws.{gapDose-most}
+use Rattle.flux_spec.proofs.BudgetLaws.{mostDose-le, gapDose-most}
 use Rattle.flux_spec.proofs.HourDoseLaws.{stand-passed}
 use Rattle.flux_spec.proofs.EnclosureLaws.{enclosure}
 use Rattle.account_spec.specs.declared.Season.{Season}
@@ -77,9 +77,6 @@ module _
     abbrev apart : ℕ
     apart = gapMost (stand .figures)
 
-    abbrev each : ℕ
-    each = mostDose (stand .figures .gmax)
-
     pair : PairEnclosed stand h
     pair = enclosure .pair stand sound few h passed
 
@@ -103,15 +100,15 @@ module _
     hour-encloses f (Fills.given e) = cond-encloses (isCounted h) _ _ _ (counted-encloses f (Fills.given e))
     hour-encloses f (Fills.filled e n le) = cond-encloses (isCounted h) _ _ _ (counted-encloses f (Fills.filled e n le))
 
-    pub hour-sized : SumsSized apart each (hourSums (accepted stand) c h)
+    pub hour-sized : (each : ℕ) → mostDose (stand .figures .gmax) (h .air) ≤ each → SumsSized apart each (hourSums (accepted stand) c h)
     unfolding hourSums pairOf
-    hour-sized =
+    hour-sized each room =
         by-counted (SumsSized apart each) (isCounted h) _
         (record {
           missing = one-le (isMissing (h .ozone));
           order = pair .order;
-          gap = gap-le apart each _ _ (isMissing (h .ozone)) (λ given. omega (arith, pair .gap given, gapDose-most (stand .figures) (h .air))) (pair .most);
-          most = omega (arith, pair .most);
+          gap = gap-le apart each _ _ (isMissing (h .ozone)) (λ given. omega (arith, pair .gap given, gapDose-most (stand .figures) (h .air))) (le-trans (pair .most) room);
+          most = omega (arith, pair .most, room);
         })
         (none-sized apart each uncountedSums refl refl refl)
 
@@ -146,4 +143,4 @@ module _ (season : Season) (h : Hour) where
   pair-sized few c has =
       let own = season-stand season (has .0) (has .1) in
       let one = enclosure .pair (has .0) (own .limited .sound) (omega (arith, own .ceiling)) h (has .2) in
-      rw (has .1) (record { order = one .order; most = omega (arith, one .most, own .limited .gmax) })
+      rw (has .1) (record { order = one .order; most = omega (arith, one .most, mostDose-le (has .0 .figures .gmax) (h .air), own .limited .gmax) })

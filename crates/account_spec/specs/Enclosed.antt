@@ -12,6 +12,7 @@ use Rattle.records.specs.Answers.{Outcome, accepted}
 use Rattle.records.specs.Ranges.{checked}
 use Rattle.flux_spec.specs.declared.Stand.{Stand}
 use Rattle.flux_spec.specs.Dose.{NotAbove, NotBelow}
+use Rattle.flux_spec.specs.Enclosure.{mostDose}
 use Rattle.account_spec.specs.declared.Season.{Season}
 use Rattle.account_spec.specs.declared.Sums.{Sums}
 use Rattle.account_spec.specs.Hours.{standIn, ceilingIn, Carried, sumsOf, podOf}
@@ -21,6 +22,11 @@ use Rattle.account_spec.specs.Book.{countedOf, excessOver}
 abbrev pub AllChecked : List Hour → Type 0
 AllChecked [] = Unit
 AllChecked (h ∷ hs) = (checked (Record.Hour h) ≡ accepted tt) × AllChecked hs
+
+-- none brings more than so many nmol m⁻² by its kind
+abbrev pub AllMost : ℕ → ℕ → List Hour → Type 0
+AllMost gmax each [] = Unit
+AllMost gmax each (h ∷ hs) = (mostDose gmax (h .air) ≤ each) × AllMost gmax each hs
 
 -- and the season has a tree
 abbrev pub HasDose : Season → Hour → Type 0

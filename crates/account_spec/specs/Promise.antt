@@ -13,7 +13,7 @@ use Rattle.records.specs.Answers.{Outcome, accepted, refused}
 use Rattle.frames.specs.Digits.{byte, number}
 use Rattle.flux_spec.specs.declared.Stand.{Stand}
 use Rattle.flux_spec.specs.Dose.{NotAbove, NotBelow}
-use Rattle.flux_spec.specs.Enclosure.{mostDose, gapMost}
+use Rattle.flux_spec.specs.Enclosure.{gapMost}
 use Rattle.account_spec.specs.declared.Season.{Season}
 use Rattle.account_spec.specs.declared.Account.{Account}
 use Rattle.account_spec.specs.declared.Totals.{Totals}
@@ -21,7 +21,7 @@ use Rattle.account_spec.specs.declared.Fed.{Fed}
 use Rattle.account_spec.specs.declared.Reading.{Reading}
 use Rattle.account_spec.specs.Limits.{mostHour, gapEach, mostAot40}
 use Rattle.account_spec.specs.Hours.{standIn, Carried}
-use Rattle.account_spec.specs.Enclosed.{AllChecked, AllDosed, AllRead, gapHour, HoursEnclosed}
+use Rattle.account_spec.specs.Enclosed.{AllChecked, AllMost, AllDosed, AllRead, gapHour, HoursEnclosed}
 use Rattle.account_spec.specs.Account.{freshAccount}
 use Rattle.account_spec.specs.Rules.{leftBy}
 use Rattle.account_spec.specs.Reading.{exceededWord, belowWord, wordOf, verdictWord}
@@ -133,8 +133,8 @@ pub record SeasonPromise : Type 0 where
   pub day : (r : RunOf freshAccount dayCalls) → repliesOf (r .events) ≡ accepted tt ∷ refused (1, 0) ∷ acceptances 25
   -- the sums of any list of hours, for any sound figures, any first and last day and any ceiling
   pub listed :
-      (stand : Stand) → Sound (stand .figures) → stand .ceiling ≤ 5000 → (c : Carried) (hs : List Hour) → AllChecked hs →
-      HoursEnclosed (gapMost (stand .figures)) (mostDose (stand .figures .gmax)) (accepted stand) c hs
+      (stand : Stand) → Sound (stand .figures) → stand .ceiling ≤ 5000 → (each : ℕ) (c : Carried) (hs : List Hour) → AllChecked hs →
+      AllMost (stand .figures .gmax) each hs → HoursEnclosed (gapMost (stand .figures)) each (accepted stand) c hs
   -- so those of any part of a season
   pub enclosed :
       (season : Season) → season .ceiling ≤ 5000 → (c : Carried) (hs : List Hour) → AllDosed season hs →

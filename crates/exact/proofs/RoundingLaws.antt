@@ -54,10 +54,10 @@ module _ (x : Frac) where
 
 -- ---- a greater fraction
 
-pub roundDown-mono : {x y : Frac} → x ≼ y → roundDown x ≤ roundDown y
+roundDown-mono : {x y : Frac} → x ≼ y → roundDown x ≤ roundDown y
 roundDown-mono {x} {y} h = roundDown-floor y .greatest (roundDown x) (≼-trans (roundDown-floor x .notAbove) h)
 
-pub roundUp-mono : {x y : Frac} → x ≼ y → roundUp x ≤ roundUp y
+roundUp-mono : {x y : Frac} → x ≼ y → roundUp x ≤ roundUp y
 roundUp-mono {x} {y} h = roundUp-ceiling x .least (roundUp y) (≼-trans h (roundUp-ceiling y .notBelow))
 
 module _ {x y : Frac} (same : x ≈ y) where

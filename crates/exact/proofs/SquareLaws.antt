@@ -14,7 +14,7 @@ square-le {a} {b} h =
     let l : a < b + 1 = square-lt (omega arith) in
     omega arith
 
-pub square-pos : (n r : ℕ) → n < r * r → 1 ≤ r
+square-pos : (n r : ℕ) → n < r * r → 1 ≤ r
 square-pos n zero h = absurd (omega arith)
 square-pos n (suc r) h = omega arith
 

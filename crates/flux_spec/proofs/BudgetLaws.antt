@@ -1,5 +1,5 @@
 -- The error budget of an hour: how far apart its two numbers are at most after each step, where f_VPD out of humidity is steep and in any other hour.
-use Prim.Native.Nat.{ℕ, _+_, _-_, _≤_}
+use Prim.Native.Nat.{ℕ, _+_, _-_, _*_, _≤_}
 use mathlib.Core.Path.{_≡_, refl}
 use mathlib.Core.Bool.{Bool, true, false, cond}
 use native.Mathlib.Omega.{arith}
@@ -7,7 +7,7 @@ use lib.Dec.{ltb}
 use Rattle.trees.specs.declared.Figures.{Figures}
 use Rattle.records.specs.declared.Air.{Air}
 use Rattle.records.specs.declared.Air.the-variants.{Deficit, Pressure, Humidity}
-use Rattle.flux_spec.specs.Enclosure.{gapMost, gapDose}
+use Rattle.flux_spec.specs.Enclosure.{mostDose, gapMost, gapDose}
 
 -- f_VPD falls from 1 to f_min within less than 13 Pa, and the deficit is not exact
 abbrev pub isSteep : Figures → Air → Bool
@@ -58,6 +58,11 @@ cond-ge true = omega arith
 cond-ge false = omega arith
 
 -- whatever the kind
+pub mostDose-le : (gmax : ℕ) (a : Air) → mostDose gmax a ≤ 3000 * gmax
+mostDose-le gmax (Deficit vpd) = omega arith
+mostDose-le gmax (Pressure vpd p) = omega arith
+mostDose-le gmax (Humidity rh) = omega arith
+
 pub gapDose-most : (f : Figures) (a : Air) → gapDose f a ≤ gapMost f
 gapDose-most f (Deficit vpd) = cond-ge (ltb (f .vpdmin - f .vpdmax) 13)
 gapDose-most f (Pressure vpd p) = cond-ge (ltb (f .vpdmin - f .vpdmax) 13)

@@ -103,6 +103,17 @@ pub concentrationUp-le : (h : Hour) → HourIn h → concentrationUp h ≤ 53359
 unfolding concentrationUp
 concentrationUp-le h range = timesUp-most 18000 (concentration h) 29644 (concentration-le h range)
 
+-- 20780 nmol m⁻³ where no pressure is read
+abbrev pub topOf : Air → ℕ
+topOf (Deficit vpd) = 374040000
+topOf (Pressure vpd p) = 533592000
+topOf (Humidity rh) = 374040000
+
+pub concentrationUp-most : (h : Hour) → HourIn h → (a : Air) → h .air ≡ a → concentrationUp h ≤ topOf a
+concentrationUp-most h range (Deficit vpd) e = omega (arith, ozone-facts h .plain vpd e .1, range .ozone)
+concentrationUp-most h range (Pressure vpd p) e = concentrationUp-le h range
+concentrationUp-most h range (Humidity rh) e = omega (arith, ozone-facts h .humid rh e .1, range .ozone)
+
 topIn-ge : (steep : Bool) → 374040000 ≤ topIn steep
 topIn-ge true = omega arith
 topIn-ge false = omega arith
@@ -110,8 +121,7 @@ topIn-ge false = omega arith
 pub concentrationUp-top : (f : Figures) (h : Hour) → HourIn h → (a : Air) → h .air ≡ a → concentrationUp h ≤ topIn (isSteep f a)
 concentrationUp-top f h range (Deficit vpd) e = concentrationUp-le h range
 concentrationUp-top f h range (Pressure vpd p) e = concentrationUp-le h range
-concentrationUp-top f h range (Humidity rh) e =
-    omega (arith, ozone-facts h .humid rh e .1, range .ozone, topIn-ge (isSteep f (Humidity rh)))
+concentrationUp-top f h range (Humidity rh) e = omega (arith, concentrationUp-most h range (Humidity rh) e, topIn-ge (isSteep f (Humidity rh)))
 
 -- ---- with none, and with a higher reading of ozone
 

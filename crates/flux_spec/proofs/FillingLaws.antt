@@ -38,7 +38,7 @@ module _ (stand : Stand) (s : Sound (stand .figures)) (h : Hour) (passed : check
     read-over : (n : ℕ) → n ≤ tenthsOr m (h .ozone) → NotBelow (upperOf stand (readAs m h)) (λ k. doseAt k stand (withOzone n h))
     read-over n less = record { every = λ k. ≼-trans (grown .dose n _ less k) (read-enclosed .high .every k) }
 
-    read-most : upperOf stand (readAs m h) ≤ mostDose (stand .figures .gmax)
+    read-most : upperOf stand (readAs m h) ≤ mostDose (stand .figures .gmax) (h .air)
     read-most = read-enclosed .most
 
   read-order : (m n : ℕ) → m ≤ n → n ≤ 5000 → lowerOf stand (readAs m h) ≤ upperOf stand (readAs n h)

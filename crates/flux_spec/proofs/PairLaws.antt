@@ -1,6 +1,6 @@
 -- The hour's pair encloses its dose and is at most as far apart as its gap says, where the bounds of the share enclose the share and are within its budget.
 -- It never falls with a higher reading of ozone.
-use Prim.Native.Nat.{ℕ, _+_, _^_, _≤_}
+use Prim.Native.Nat.{ℕ, _+_, _*_, _^_, _≤_}
 use mathlib.Core.Path.{_≡_, refl}
 use mathlib.Core.Bool.{Bool}
 use native.Mathlib.Nat.{le-refl}
@@ -8,6 +8,8 @@ use native.Mathlib.Omega.{arith}
 use Rattle.exact.specs.Frac.{natural, _over_, _≼_}
 use Rattle.exact.proofs.FracLaws.{≼-refl, ≼-trans, over-mono}
 use Rattle.trees.specs.declared.Figures.{Figures}
+use Rattle.records.specs.declared.Air.{Air}
+use Rattle.records.specs.declared.Air.the-variants.{Deficit, Pressure, Humidity}
 use Rattle.records.specs.declared.Hour.{Hour}
 use Rattle.records.specs.Ozone.{withOzone}
 use Rattle.frames.proofs.RangeLaws.{HourIn}
@@ -20,11 +22,12 @@ use Rattle.flux_spec.specs.Enclosure.{mostDose, gapDose, OzoneGrows}
 use Rattle.flux_spec.proofs.BudgetLaws.{isSteep, nearIn, stepIn, gapDose-is}
 use Rattle.flux_spec.proofs.BoundaryLaws.{rootUpAt-anti, rootLow-le, rootUpAt-le}
 use Rattle.flux_spec.proofs.ConcentrationLaws.{
+  topOf,
   concentration-low,
   concentration-high,
   concentration-order,
   concentration-gap,
-  concentrationUp-le,
+  concentrationUp-most,
   concentrationUp-top,
   concentration-mono,
   concentrationLow-mono,
@@ -32,7 +35,7 @@ use Rattle.flux_spec.proofs.ConcentrationLaws.{
 }
 use Rattle.flux_spec.proofs.FluxLaws.{fluxAt-is, doseAt-is, dose-mono}
 use Rattle.flux_spec.proofs.QuotientLaws.{quotient-few, quotient-under, quotient-over, lower-le-upper}
-use Rattle.flux_spec.proofs.QuotientSizes.{quotient-mono, quotient-small, quotient-near}
+use Rattle.flux_spec.proofs.QuotientSizes.{quotient-mono, quotient-most, quotient-near}
 
 module _ (stand : Stand) (h : Hour) where
   abbrev f : Figures
@@ -63,10 +66,18 @@ module _ (stand : Stand) (h : Hour) where
   lowerOf-le order = lower-le-upper (f .gmax) (concentration-order h) order (omega arith)
 
   module _ (gmax-le : f .gmax ≤ 500) (range : HourIn h) (share-le : shareUp stand h ≤ 10000003) where
-    pub upperOf-le : upperOf stand h ≤ mostDose (f .gmax)
+    quotient-in : (top each : ℕ) → top * 10000003 ≤ each * 2050000000000 → concentrationUp h ≤ top → upperOf stand h ≤ each * f .gmax
     unfolding upperOf
-    upperOf-le =
-        omega (arith, quotient-small (f .gmax) (concentrationUp h) (shareUp stand h) (rootLow (f .leaf) (h .wind)) 0 (concentrationUp-le h range) share-le)
+    quotient-in top each room few =
+        omega (arith, quotient-most top each (f .gmax) (concentrationUp h) (shareUp stand h) (rootLow (f .leaf) (h .wind)) 0 room few share-le)
+
+    upperOf-by : (a : Air) → concentrationUp h ≤ topOf a → upperOf stand h ≤ mostDose (f .gmax) a
+    upperOf-by (Deficit vpd) few = omega (arith, quotient-in 374040000 1825 (omega arith) few)
+    upperOf-by (Pressure vpd p) few = omega (arith, quotient-in 533592000 2603 (omega arith) few)
+    upperOf-by (Humidity rh) few = omega (arith, quotient-in 374040000 1825 (omega arith) few)
+
+    pub upperOf-le : upperOf stand h ≤ mostDose (f .gmax) (h .air)
+    upperOf-le = upperOf-by (h .air) (concentrationUp-most h range (h .air) refl)
 
     abbrev steep : Bool
     steep = isSteep f (h .air)

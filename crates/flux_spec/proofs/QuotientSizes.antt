@@ -32,16 +32,20 @@ quotient-mono g p s m {b} {c} h =
     lt-of-mul-lt-mul-right (divisor g p s m) (omega (arith, quotient-le g b p s m, quotient-lt g c p s m, dividend-mono g p h)) in
     omega (arith, less)
 
--- ---- for a concentration of 29644 nmol m⁻³, a gmax of 500 and a share of 1 and 3 units at most: 533592000 is 18000·29644
+-- ---- for a concentration up to `top` and a share of 1 and 3 units at most
 
-dividend-le : (g c p : ℕ) → c ≤ 533592000 → p ≤ 10000003 → dividend g c p ≤ 5336150000000000 * g
+dividend-le : (top g c p : ℕ) → c ≤ top → p ≤ 10000003 → dividend g c p ≤ top * 10000003 * g
 unfolding dividend
-dividend-le g c p k l = omega (arith, mul-le-mul-left g (mul-le-mul k l))
+dividend-le top g c p k l = omega (arith, mul-le-mul-left g (mul-le-mul k l))
 
-pub quotient-small : (g c p s m : ℕ) → c ≤ 533592000 → p ≤ 10000003 → quotient g c p s m ≤ 2603 * g
-quotient-small g c p s m k l =
+pub quotient-most : (top each g c p s m : ℕ) → top * 10000003 ≤ each * 2050000000000 → c ≤ top → p ≤ 10000003 → quotient g c p s m ≤ each * g
+quotient-most top each g c p s m room k l =
     le-of-mul-le-mul-right {k = 2050000000000}
-    (omega (arith, quotient-le g c p s m, mul-le-mul-left (quotient g c p s m) (divisor-ge g p s m), dividend-le g c p k l)) (omega arith)
+    (omega (arith, quotient-le g c p s m, mul-le-mul-left (quotient g c p s m) (divisor-ge g p s m), dividend-le top g c p k l, mul-le-mul-right g room)) (omega arith)
+
+-- 29644 nmol m⁻³ and a gmax of 500: 533592000 is 18000·29644
+quotient-small : (g c p s m : ℕ) → c ≤ 533592000 → p ≤ 10000003 → quotient g c p s m ≤ 2603 * g
+quotient-small g c p s m k l = quotient-most 533592000 2603 g c p s m (omega arith) k l
 
 product-le : (g p : ℕ) → g ≤ 500 → p ≤ 10000003 → g * p ≤ 5000001500
 product-le g p h k = omega (arith, mul-le-mul h k)

@@ -21,9 +21,11 @@ use Rattle.flux_spec.specs.Dose.{fluxAt, doseAt, NotAbove, NotBelow}
 use Rattle.flux_spec.specs.Pair.{lowerOf, upperOf, hourPair}
 use Rattle.flux_spec.specs.HourDose.{standOf, addedPair, hourDoseOf}
 
--- nmol m⁻² in an hour at most: 795000 for the six trees, 1500000 for a gmax of 500
-abbrev pub mostDose : ℕ → ℕ
-mostDose gmax = 3000 * gmax
+-- nmol m⁻² in an hour at most, by its kind: 530000 for the six trees, 795000 where the pressure is read
+abbrev pub mostDose : ℕ → Air → ℕ
+mostDose gmax (Deficit vpd) = 2000 * gmax
+mostDose gmax (Pressure vpd p) = 3000 * gmax
+mostDose gmax (Humidity rh) = 2000 * gmax
 
 -- nmol m⁻² between an hour's two numbers at most, whatever its kind: out of humidity VPD is known to 5·10⁻⁶ Pa, which shows in the dose where f_VPD
 -- falls from 1 to f_min within less than 13 Pa
@@ -41,7 +43,7 @@ pub record HourEnclosed (stand : Stand) (h : Hour) : Type 0 where
   pub high : NotBelow (upperOf stand h) (λ k. doseAt k stand h)
   pub order : lowerOf stand h ≤ upperOf stand h
   pub gap : upperOf stand h ≤ lowerOf stand h + gapDose (stand .figures) (h .air)
-  pub most : upperOf stand h ≤ mostDose (stand .figures .gmax)
+  pub most : upperOf stand h ≤ mostDose (stand .figures .gmax) (h .air)
   pub grows : (k l : ℕ) → k ≤ l → doseAt k stand h ≼ doseAt l stand h
   -- (0, 0) where F is surely not above 1
   pub none : ((k : ℕ) → fluxAt k stand h ≼ (3600 - gapDose (stand .figures) (h .air)) over 3600) → (lowerOf stand h ≡ 0) × (upperOf stand h ≡ 0)
@@ -58,7 +60,7 @@ pub record PairEnclosed (stand : Stand) (h : Hour) : Type 0 where
   pub high : (f : Hour) → Fills (stand .ceiling) h f → NotBelow (hourPair stand h .upper) (λ k. doseAt k stand f)
   pub order : hourPair stand h .lower ≤ hourPair stand h .upper
   pub gap : isMissing (h .ozone) ≡ false → hourPair stand h .upper ≤ hourPair stand h .lower + gapDose (stand .figures) (h .air)
-  pub most : hourPair stand h .upper ≤ mostDose (stand .figures .gmax)
+  pub most : hourPair stand h .upper ≤ mostDose (stand .figures .gmax) (h .air)
   pub grows : (f : Hour) → Fills (stand .ceiling) h f → (k l : ℕ) → k ≤ l → doseAt k stand f ≼ doseAt l stand f
   pub read : isMissing (h .ozone) ≡ false → hourPair stand h ≡ record { lower = lowerOf stand h; upper = upperOf stand h }
   pub none : isMissing (h .ozone) ≡ true → hourPair stand h .lower ≡ 0
