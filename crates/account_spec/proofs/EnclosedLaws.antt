@@ -122,7 +122,7 @@ module _ (stand : Stand) (sound : Sound (stand .figures)) (few : stand .ceiling 
 
 -- ---- of a season
 
-all-checked : (season : Season) (hs : List Hour) → AllDosed season hs → AllChecked hs
+pub all-checked : (season : Season) (hs : List Hour) → AllDosed season hs → AllChecked hs
 all-checked season [] all = tt
 all-checked season (h ∷ hs) all = (all .0 .2, all-checked season hs (all .1))
 

@@ -1,5 +1,6 @@
 pub mod SumsLaws
 pub mod Aot40Laws
+pub mod SameLaws
 pub mod PossibleLaws
 pub mod RuleLaws
 pub mod HourLaws

@@ -1,4 +1,5 @@
 pub mod AnswerLaws
+pub mod NumberLaws
 pub mod BufferLaws
 pub mod CheckLaws
 pub mod OzoneLaws

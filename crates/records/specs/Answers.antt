@@ -4,7 +4,7 @@ use mathlib.Core.Bool.{Bool, cond}
 use Rattle.records.specs.declared.Raw.{Raw}
 use Rattle.records.specs.declared.Record.{Record}
 use Rattle.records.specs.declared.Refusal.{Refusal}
-use Rattle.records.specs.declared.Refusal.the-variants.{Length, Digit, Kind, Turn, Tree, Year, Period, Level, Due, Range, Count, Buffer, Account, Place, Mixed, Tried, Ceiling, NoCeiling}
+use Rattle.records.specs.declared.Refusal.the-variants.{Length, Digit, Kind, Turn, Tree, Year, Period, Level, Due, Range, Count, Buffer, Account, Place, Mixed, Tried, Ceiling, NoCeiling, Unlike}
 use Rattle.records.specs.declared.Parsed.{Parsed}
 use Rattle.records.specs.declared.Checked.{Checked}
 use Rattle.records.specs.declared.Decoded.{Decoded}
@@ -48,6 +48,7 @@ rowOf Mixed = (15, 0)
 rowOf Tried = (16, 0)
 rowOf Ceiling = (17, 0)
 rowOf NoCeiling = (18, 0)
+rowOf Unlike = (19, 0)
 
 abbrev pub parsedAs : Parsed → Outcome Raw
 parsedAs (Parsed.Frame frame) = accepted frame

@@ -120,6 +120,7 @@ pub enum Refusal {
     Tried,
     Ceiling,
     NoCeiling,
+    Unlike,
 }
 
 // The answer to a line by rows 1 to 3: its frame, or the row that refuses it.
@@ -146,7 +147,7 @@ pub enum Written {
     Refused(Refusal),
 }
 
-// A refusal's row, 1 to 18.
+// A refusal's row, 1 to 19.
 pub fn row_of(refusal: Refusal) -> u8
     ensures { λ r. ⌜ r ≡ rowOf «refusal» .0 ⌝ }
 {
@@ -169,6 +170,7 @@ pub fn row_of(refusal: Refusal) -> u8
         Refusal::Tried => 16,
         Refusal::Ceiling => 17,
         Refusal::NoCeiling => 18,
+        Refusal::Unlike => 19,
     }
 }
 

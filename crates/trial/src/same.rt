@@ -5,8 +5,9 @@ use account::Season;
 use account::Sums;
 use account::kind_number;
 ghost use mathlib.Core.Path.{_≡_};
+ghost use Rattle.records.specs.Numbers.{sameNumbers};
 ghost use Rattle.account_spec.specs.Account.{seasonNumbers, sumsNumbers};
-ghost use Rattle.trial_spec.specs.Same.{phaseNumber, sameNumbers, isSame};
+ghost use Rattle.trial_spec.specs.Same.{phaseNumber, isSame};
 
 fn phase_number(phase: Phase) -> u8
     ensures { λ r. ⌜ r ≡ phaseNumber phase ⌝ }

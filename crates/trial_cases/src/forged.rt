@@ -26,7 +26,8 @@ fn refusal_of(row: u8, field: u8) -> Refusal {
         15 => Refusal::Mixed,
         16 => Refusal::Tried,
         17 => Refusal::Ceiling,
-        _ => Refusal::NoCeiling,
+        18 => Refusal::NoCeiling,
+        _ => Refusal::Unlike,
     }
 }
 

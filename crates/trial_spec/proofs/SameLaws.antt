@@ -1,25 +1,24 @@
 -- Two accounts are the same exactly where they are equal: each field is a number of the list, and the numbers determine the fields.
 use Prim.Native.Nat.{ℕ}
 use mathlib.Core.Path.{_≡_, refl, sym, ap, _∙_}
-use mathlib.Core.Bool.{true, false≢true}
+use mathlib.Core.Bool.{true}
 use mathlib.Core.List.{List, [], _∷_}
 use mathlib.Core.Logic.{_↔_}
 use borrow.Author.Tests.{eqb-true, eq-eqb}
-use lib.Dec.{eqb}
 use lib.ListN.{getD}
 use Rattle.records.proofs.AnswerLaws.{and-both}
-use Rattle.frames.specs.Layout.{headerOf}
+use Rattle.records.proofs.NumberLaws.{numbers-equal, numbers-same}
 use Rattle.account_spec.specs.declared.Phase.{Phase}
 use Rattle.account_spec.specs.declared.Phase.the-variants.{Fresh, Open, Closed}
 use Rattle.account_spec.specs.declared.HourKind.{HourKind}
 use Rattle.account_spec.specs.declared.HourKind.the-variants.{None, Deficit, Pressure, Humidity}
-use Rattle.account_spec.specs.declared.Season.{Season}
 use Rattle.account_spec.specs.declared.Sums.{Sums}
 use Rattle.account_spec.specs.declared.Account.{Account}
 use Rattle.account_spec.specs.HourKinds.{kindNumber}
 use Rattle.account_spec.specs.Account.{seasonNumbers, sumsNumbers}
 use Rattle.account_spec.proofs.KindLaws.{numbered}
-use Rattle.trial_spec.specs.Same.{phaseNumber, sameNumbers, isSame}
+use Rattle.account_spec.proofs.SameLaws.{season-equal}
+use Rattle.trial_spec.specs.Same.{phaseNumber, isSame}
 
 -- ---- the fields out of their numbers
 
@@ -37,12 +36,6 @@ kind-back Deficit = refl
 kind-back Pressure = refl
 kind-back Humidity = refl
 
-abbrev seasonAt : List ℕ → Season
-seasonAt l = record { header = headerOf l; ceiling = getD l 5 0 }
-
-season-back : (s : Season) → seasonAt (seasonNumbers s) ≡ s
-season-back s = refl
-
 abbrev sumsAt : List ℕ → Sums
 sumsAt l = record {
   hours = getD l 0 0;
@@ -57,20 +50,6 @@ sumsAt l = record {
 sums-back : (s : Sums) → sumsAt (sumsNumbers s) ≡ s
 sums-back s = refl
 
--- ---- lists of numbers
-
-numbers-equal : (ms ns : List ℕ) → sameNumbers ms ns ≡ true → ms ≡ ns
-numbers-equal [] [] e = refl
-numbers-equal [] (n ∷ ns) e = absurd (false≢true e)
-numbers-equal (m ∷ ms) [] e = absurd (false≢true e)
-numbers-equal (m ∷ ms) (n ∷ ns) e =
-    let both = and-both (eqb m n) (sameNumbers ms ns) e in
-    rw (eqb-true m n (both .0), numbers-equal ms ns (both .1)) refl
-
-numbers-same : (ns : List ℕ) → sameNumbers ns ns ≡ true
-numbers-same [] = refl
-numbers-same (n ∷ ns) = simp (eq-eqb n n refl, numbers-same ns)
-
 -- ---- accounts
 
 -- equal where what determines them is
@@ -84,7 +63,7 @@ account-equal a b e =
     let kind = and-both _ _ (sums .0) in
     let season = and-both _ _ (kind .0) in
     let same-phase = unique phaseAt phaseNumber phase-back (eqb-true _ _ (season .0)) in
-    let same-season = unique seasonAt seasonNumbers season-back (numbers-equal _ _ (season .1)) in
+    let same-season = season-equal (a .season) (b .season) (season .1) in
     let same-kind = unique numbered kindNumber kind-back (eqb-true _ _ (kind .1)) in
     let same-sums = unique sumsAt sumsNumbers sums-back (numbers-equal _ _ (sums .1)) in
     λ i. record { phase = same-phase i; season = same-season i; kind = same-kind i; sums = same-sums i }

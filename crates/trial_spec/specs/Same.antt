@@ -1,8 +1,8 @@
 -- When two accounts are the same: in every field, each nested one too (W-206, row 16). `TrialPromise.same` says that this is equality.
 use Prim.Native.Nat.{ℕ}
-use mathlib.Core.Bool.{Bool, true, false, _&&_}
-use mathlib.Core.List.{List, [], _∷_}
+use mathlib.Core.Bool.{Bool, _&&_}
 use lib.Dec.{eqb}
+use Rattle.records.specs.Numbers.{sameNumbers}
 use Rattle.account_spec.specs.declared.Phase.{Phase}
 use Rattle.account_spec.specs.declared.Phase.the-variants.{Fresh, Open, Closed}
 use Rattle.account_spec.specs.declared.Account.{Account}
@@ -13,12 +13,6 @@ abbrev pub phaseNumber : Phase → ℕ
 phaseNumber Fresh = 0
 phaseNumber Open = 1
 phaseNumber Closed = 2
-
-abbrev pub sameNumbers : List ℕ → List ℕ → Bool
-sameNumbers [] [] = true
-sameNumbers [] (n ∷ ns) = false
-sameNumbers (m ∷ ms) [] = false
-sameNumbers (m ∷ ms) (n ∷ ns) = eqb m n && sameNumbers ms ns
 
 unfoldable pub isSame : Account → Account → Bool
 isSame a b =

@@ -1,6 +1,5 @@
 pub mod DigitLaws
 pub mod SignedLaws
-pub mod TemperatureLaws
 pub mod OzoneLaws
 pub mod FieldLaws
 pub mod WidthLaws

@@ -31,7 +31,7 @@ use Rattle.records.specs.declared.Record.{Record}
 use Rattle.writer.proofs.DigitLaws.{number-lt}
 use Rattle.records.proofs.AnswerLaws.{accepted-same, row-passed, onward-passed}
 use Rattle.writer.proofs.OzoneLaws.{ozone-back, ozone-number}
-use Rattle.writer.proofs.TemperatureLaws.{complement-signed, signed-complement}
+use Rattle.frames.proofs.TemperatureLaws.{complement-signed, signed-complement}
 use Rattle.frames.proofs.RangeLaws.{HourIn, InRange, checked-passed}
 use Rattle.frames.proofs.ReadLaws.{parsed-passed, SoundRead, sound-read, hour-read}
 use Rattle.writer.proofs.WidthLaws.{range-fits}

@@ -11,7 +11,7 @@ use Rattle.records.specs.declared.Record.{Record}
 use Rattle.frames.proofs.RangeLaws.{HourIn, InRange}
 use Rattle.writer.specs.RoundTrip.{InWidth}
 use Rattle.writer.proofs.FieldLaws.{FitsWidths}
-use Rattle.writer.proofs.TemperatureLaws.{complement-lt}
+use Rattle.frames.proofs.TemperatureLaws.{complement-lt}
 use Rattle.writer.proofs.OzoneLaws.{ozone-lt}
 
 -- the kind and the numbers
