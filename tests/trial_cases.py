@@ -18,7 +18,7 @@ from account_cases import Account
 
 CRATE = vectors.REPOSITORY / "crates" / "trial_cases"
 DIGITS = tuple(max(2, digits) for digits in book.DIGITS)  # of an account's fields; a phase and a kind have two here
-ROWS = tuple((n,) for n in range(1, 20) if n != 10) + tuple((10, field) for field in range(1, 9))
+ROWS = tuple((n,) for n in range(1, 22) if n != 10) + tuple((10, field) for field in range(1, 9))
 
 
 class Trial(NamedTuple):

@@ -121,6 +121,8 @@ pub enum Refusal {
     Ceiling,
     NoCeiling,
     Unlike,
+    Days,
+    Scratch,
 }
 
 // The answer to a line by rows 1 to 3: its frame, or the row that refuses it.
@@ -147,7 +149,7 @@ pub enum Written {
     Refused(Refusal),
 }
 
-// A refusal's row, 1 to 19.
+// A refusal's row, 1 to 21.
 pub fn row_of(refusal: Refusal) -> u8
     ensures { λ r. ⌜ r ≡ rowOf «refusal» .0 ⌝ }
 {
@@ -171,6 +173,8 @@ pub fn row_of(refusal: Refusal) -> u8
         Refusal::Ceiling => 17,
         Refusal::NoCeiling => 18,
         Refusal::Unlike => 19,
+        Refusal::Days => 20,
+        Refusal::Scratch => 21,
     }
 }
 

@@ -27,7 +27,9 @@ fn refusal_of(row: u8, field: u8) -> Refusal {
         16 => Refusal::Tried,
         17 => Refusal::Ceiling,
         18 => Refusal::NoCeiling,
-        _ => Refusal::Unlike,
+        19 => Refusal::Unlike,
+        20 => Refusal::Days,
+        _ => Refusal::Scratch,
     }
 }
 
