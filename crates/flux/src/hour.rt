@@ -13,7 +13,7 @@ use tables::Factored;
 use trees::Deficits;
 use trees::Figures;
 ghost use mathlib.Core.Path.{_≡_};
-ghost use Prim.Native.Nat.{_+_, _-_, _≤_};
+ghost use Prim.Native.Nat.{_+_, _-_, _*_, _≤_};
 ghost use Rattle.trees.specs.Sound.{Sound};
 ghost use Rattle.trees.specs.Steps.{Tabled};
 ghost use Rattle.trees.specs.Temperature.{temperaturePair};
@@ -81,19 +81,20 @@ fn less(n: u64, m: u64) -> u64
 }
 
 // The pair from the concentration's and the share's, in nmol m⁻².
-fn pair(gmax: u16, leaf: u16, wind: u16, c: Bounds, s: Bounds) -> Bounds
+fn pair(gmax: u16, leaf: u16, y: u16, wind: u16, c: Bounds, s: Bounds) -> Bounds
     requires gmax { ⌜ gmax ≤ 500 ⌝ }
     requires leaf { ⌜ leaf ≤ 200 ⌝ }
     requires concentration { ⌜ (c .lower ≤ 533592000) × (c .upper ≤ 533592000) ⌝ }
     requires share { ⌜ (s .lower ≤ 10000003) × (s .upper ≤ 10000003) ⌝ }
-    ensures lower { λ r. ⌜ r .lower ≡ quotient gmax (c .lower) (s .lower) (rootLow leaf wind + 1) 1 - 3600 ⌝ }
-    ensures upper { λ r. ⌜ r .upper ≡ quotient gmax (c .upper) (s .upper) (rootLow leaf wind) 0 - 3599 ⌝ }
+    ensures lower { λ r. ⌜ r .lower ≡ quotient gmax (c .lower) (s .lower) (rootLow leaf wind + 1) 1 - 3600 * y ⌝ }
+    ensures upper { λ r. ⌜ r .upper ≡ (quotient gmax (c .upper) (s .upper) (rootLow leaf wind) 0 + 1) - 3600 * y ⌝ }
 {
     let g = gmax as u64;
     let r = boundary::root_low(leaf, wind);
+    let threshold = 3600 * (y as u64);
     Bounds {
-        lower: less(dose::quotient(g, c.lower, s.lower, r + 1, 1), 3600),
-        upper: less(dose::quotient(g, c.upper, s.upper, r, 0), 3599),
+        lower: less(dose::quotient(g, c.lower, s.lower, r + 1, 1), threshold),
+        upper: less(dose::quotient(g, c.upper, s.upper, r, 0) + 1, threshold),
     }
 }
 
@@ -111,5 +112,5 @@ pub(crate) fn dosed(stand: Stand, h: Hour, vpd: Deficits) -> Bounds
     let o = opening(f, temperature(f, t), vpd, h);
     let s = shares(stand, o, h, t);
     let c = ozone::concentration(h, stand.ceiling, t);
-    pair(f.gmax, f.leaf, h.wind, c, s)
+    pair(f.gmax, f.leaf, f.y, h.wind, c, s)
 }

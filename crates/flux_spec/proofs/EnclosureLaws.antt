@@ -24,6 +24,7 @@ tree-limited tree f e = record {
   sound = figures-sound tree f e;
   gmax =
       figures-all (λ g. g .gmax ≤ 265) (omega arith) (omega arith) (omega arith) (omega arith) (omega arith) (omega arith) tree f e;
+  y = figures-all (λ g. g .y ≡ 1) refl refl refl refl refl refl tree f e;
   gap = figures-all (λ g. gapMost g ≡ 2) refl refl refl refl refl refl tree f e;
 }
 

@@ -6,11 +6,11 @@ use native.Mathlib.Nat.{le-trans}
 use native.Mathlib.Omega.{arith}
 use Rattle.trees.specs.Sound.{Sound}
 use Rattle.flux_spec.specs.declared.Stand.{Stand}
-use Rattle.flux_spec.specs.Dose.{concentration, fluxAt, doseAt, NotAbove, NotBelow}
+use Rattle.flux_spec.specs.Dose.{concentration, doseAt, NotAbove, NotBelow}
 use Rattle.flux_spec.specs.Pair.{lowerOf, upperOf, hourPair}
 use Rattle.flux_spec.specs.Enclosure.{mostDose, gapDose, HourEnclosed, OzoneGrows, PairEnclosed}
 use Rattle.exact.specs.declared.Bounds.{Bounds}
-use Rattle.exact.specs.Frac.{_over_, _≼_}
+use Rattle.exact.specs.Frac.{natural, _≼_}
 use Rattle.exact.proofs.FracLaws.{≼-trans}
 use Rattle.records.specs.declared.Hour.{Hour}
 use Rattle.records.specs.declared.Record.{Record}
@@ -18,7 +18,7 @@ use Rattle.records.specs.Answers.{accepted}
 use Rattle.records.specs.Ozone.{isMissing, tenthsOr, withOzone, readAs, Fills}
 use Rattle.records.specs.Ranges.{checked}
 use Rattle.records.proofs.OzoneLaws.{tenthsOr-mono, missing-is, read-is, read-passed, Within, filling-within, filling-passed}
-use Rattle.flux_spec.proofs.FluxLaws.{fluxAt-is, flux-none}
+use Rattle.flux_spec.proofs.FluxLaws.{doseAt-is, dose-none}
 use Rattle.flux_spec.proofs.PairLaws.{ozone-grows}
 use Rattle.flux_spec.proofs.HourLaws.{hour-enclosed}
 
@@ -45,12 +45,15 @@ module _ (stand : Stand) (s : Sound (stand .figures)) (h : Hour) (passed : check
   read-order m n more small = le-trans (grown .lower _ _ (tenthsOr-mono (h .ozone) more)) (read-enclosed n small .order)
 
   -- without ozone there is no dose
-  no-flux : (k m : ℕ) → fluxAt k stand (withOzone 0 h) ≼ m over 3600
+  doseAt-none : (k : ℕ) → doseAt k stand (withOzone 0 h) ≼ natural 0
   unfolding concentration
-  no-flux k m = rw (fluxAt-is k stand (withOzone 0 h)) (flux-none (stand .figures .gmax) (concentration (withOzone 0 h)) _ _ _ (omega arith))
+  doseAt-none k = rw (doseAt-is k stand (withOzone 0 h)) (dose-none (stand .figures .gmax) (concentration (withOzone 0 h)) _ _ (stand .figures .y) (omega arith))
 
   read-none : (m : ℕ) → tenthsOr m (h .ozone) ≡ 0 → m ≤ 5000 → lowerOf stand (readAs m h) ≡ 0
-  read-none m none small = read-enclosed m small .none (λ k. rw none (no-flux k _)) .0
+  read-none m none small =
+      let low = read-under m small 0 (omega arith) in
+      let least = ≼-trans (low .under) (doseAt-none (low .at)) in
+      omega (arith, least .cross)
 
   module _ (few : stand .ceiling ≤ 5000) where
     fill : (f : Hour) → Fills (stand .ceiling) h f → Within (stand .ceiling) h f

@@ -3,19 +3,19 @@ use mathlib.Core.Path.{_≡_, refl, ap}
 use Prim.Native.Nat.{ℕ, _+_, _-_, _*_, _^_, _≤_, _<_, max}
 use native.Mathlib.Nat.{mul-le-mul, mul-le-mul-left, mul-pos, mul-sub}
 use native.Mathlib.Omega.{arith}
-use Rattle.exact.specs.Frac.{Frac, _over_, _≼_}
+use Rattle.exact.specs.Frac.{Frac, natural, _over_, _≼_}
 use Rattle.records.specs.declared.Hour.{Hour}
 use Rattle.flux_spec.specs.declared.Stand.{Stand}
 use Rattle.flux_spec.specs.BoundaryLayer.{windRead, rootUpAt, resistance, resistanceAt}
 use Rattle.flux_spec.specs.Conductance.{shareAt, conductance, conductanceAt}
 use Rattle.flux_spec.specs.Dose.{concentration, flux, dose, fluxAt, doseAt}
 
--- F and the dose at a concentration, a share and a root, for gmax
+-- F and the dose at a concentration, a share and a root, for gmax and Y
 unfoldable pub sharedFlux : ℕ → Frac → Frac → Frac → Frac
 sharedFlux gmax z x r = flux z (conductance gmax x) (resistance r)
 
-unfoldable pub sharedDose : ℕ → Frac → Frac → Frac → Frac
-sharedDose gmax z x r = dose (sharedFlux gmax z x r)
+unfoldable pub sharedDose : ℕ → ℕ → Frac → Frac → Frac → Frac
+sharedDose y gmax z x r = dose y (sharedFlux gmax z x r)
 
 module _ (k : ℕ) (stand : Stand) (h : Hour) where
   abbrev root : Frac
@@ -25,7 +25,7 @@ module _ (k : ℕ) (stand : Stand) (h : Hour) where
   unfolding fluxAt conductanceAt resistanceAt sharedFlux
   fluxAt-is = refl
 
-  pub doseAt-is : doseAt k stand h ≡ sharedDose (stand .figures .gmax) (concentration h) (shareAt k stand h) root
+  pub doseAt-is : doseAt k stand h ≡ sharedDose (stand .figures .y) (stand .figures .gmax) (concentration h) (shareAt k stand h) root
   unfolding doseAt fluxAt conductanceAt resistanceAt sharedDose sharedFlux
   doseAt-is = refl
 
@@ -53,17 +53,18 @@ module _ (g : ℕ) (z x r : Frac) where
   flux-den =
       reduce (x .den) (z .den) _ _ (denominator-pos g (x .num) (x .den) (r .num) (r .den) (x .positive) (r .positive)) (omega arith)
 
-  pub dose-num : sharedDose g z x r .num ≡ 3600 * (sharedFlux g z x r .num - sharedFlux g z x r .den)
-  unfolding sharedDose dose
-  dose-num = omega arith
+  module _ (y : ℕ) where
+    pub dose-num : sharedDose y g z x r .num ≡ 3600 * (sharedFlux g z x r .num - y * sharedFlux g z x r .den)
+    unfolding sharedDose dose
+    dose-num = omega arith
 
-  pub dose-den : sharedDose g z x r .den ≡ sharedFlux g z x r .den
-  unfolding sharedDose dose
-  dose-den = omega arith
+    pub dose-den : sharedDose y g z x r .den ≡ sharedFlux g z x r .den
+    unfolding sharedDose dose
+    dose-den = omega arith
 
--- without ozone there is no flux
-pub flux-none : (g : ℕ) (z x r y : Frac) → z .num ≡ 0 → sharedFlux g z x r ≼ y
-flux-none g z x r y e = record { cross = rw (flux-num g z x r, e) (omega arith) }
+    -- without ozone there is no dose
+    pub dose-none : z .num ≡ 0 → sharedDose y g z x r ≼ natural 0
+    dose-none e = record { cross = rw (dose-num, flux-num, e) (omega arith) }
 
 grows : (g p P s S a b c d : ℕ) → p * b ≤ a * P → c * S ≤ s * d → p * S * denominator g a b c d ≤ a * d * denominator g p P s S
 unfolding denominator
@@ -74,21 +75,21 @@ scale :
     41000 * u * (10000 * m * g * X) * (41000 * v * (e′ * L)) ≤ 41000 * v * (10000 * m′ * g * Y) * (41000 * u * (e * K))
 scale g u v m e m′ e′ X Y K L h k = omega (arith, mul-le-mul-left (g * u * v) (mul-le-mul h k))
 
-less : (n d m e : ℕ) → n * e ≤ m * d → e * (n - d) ≤ d * (m - e)
-less n d m e h = rw (mul-sub e n d, mul-sub d m e) (omega arith)
+less : (y n d m e : ℕ) → n * e ≤ m * d → e * (n - y * d) ≤ d * (m - y * e)
+less y n d m e h = rw (mul-sub e n (y * d), mul-sub d m (y * e)) (omega arith)
 
-module _ (g : ℕ) {z x r z′ y q : Frac} (more : z ≼ z′) (up : x ≼ y) (down : q ≼ r) where
-  pub flux-mono : sharedFlux g z x r ≼ sharedFlux g z′ y q
+module _ (g : ℕ) {z x r z′ x′ r′ : Frac} (more : z ≼ z′) (up : x ≼ x′) (down : r′ ≼ r) where
+  pub flux-mono : sharedFlux g z x r ≼ sharedFlux g z′ x′ r′
   flux-mono =
       record {
-        cross = rw (flux-num g z x r, flux-den g z x r, flux-num g z′ y q, flux-den g z′ y q)
-            (scale g (x .den) (y .den) (z .num) (z .den) (z′ .num) (z′ .den) (x .num * r .den) (y .num * q .den) _ _ (more .cross)
-            (grows g (x .num) (x .den) (r .num) (r .den) (y .num) (y .den) (q .num) (q .den) (up .cross) (down .cross)));
+        cross = rw (flux-num g z x r, flux-den g z x r, flux-num g z′ x′ r′, flux-den g z′ x′ r′)
+            (scale g (x .den) (x′ .den) (z .num) (z .den) (z′ .num) (z′ .den) (x .num * r .den) (x′ .num * r′ .den) _ _ (more .cross)
+            (grows g (x .num) (x .den) (r .num) (r .den) (x′ .num) (x′ .den) (r′ .num) (r′ .den) (up .cross) (down .cross)));
       }
 
-  pub dose-mono : sharedDose g z x r ≼ sharedDose g z′ y q
-  dose-mono = record {
+  pub dose-mono : (y : ℕ) → sharedDose y g z x r ≼ sharedDose y g z′ x′ r′
+  dose-mono y = record {
     cross =
-        rw (dose-num g z x r, dose-den g z x r, dose-num g z′ y q, dose-den g z′ y q)
-        (omega (arith, less (sharedFlux g z x r .num) (sharedFlux g z x r .den) (sharedFlux g z′ y q .num) (sharedFlux g z′ y q .den) (flux-mono .cross)));
+        rw (dose-num g z x r y, dose-den g z x r y, dose-num g z′ x′ r′ y, dose-den g z′ x′ r′ y)
+        (omega (arith, less y (sharedFlux g z x r .num) (sharedFlux g z x r .den) (sharedFlux g z′ x′ r′ .num) (sharedFlux g z′ x′ r′ .den) (flux-mono .cross)));
   }

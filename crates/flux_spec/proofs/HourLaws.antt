@@ -1,5 +1,5 @@
 -- The hour's two numbers enclose its dose, for any sound figures.
-use Prim.Native.Nat.{ℕ, _+_, _^_, _≤_}
+use Prim.Native.Nat.{ℕ, _+_, _*_, _^_, _≤_}
 use mathlib.Core.Path.{_≡_}
 use native.Mathlib.Omega.{arith}
 use Rattle.trees.specs.declared.Figures.{Figures}
@@ -43,7 +43,7 @@ module _ (stand : Stand) (s : Sound (stand .figures)) (h : Hour) where
   doseAt-mono has k l j =
       rw (doseAt-is k stand h, doseAt-is l stand h)
       (dose-mono (f .gmax) (≼-refl (concentration h)) (shareAt-mono stand s h has light-mono k l j)
-      (rootUpAt-anti (f .leaf) (windRead (h .wind)) (omega arith) j))
+      (rootUpAt-anti (f .leaf) (windRead (h .wind)) (omega arith) j) (f .y))
 
   module _ (passed : checked (Record.Hour h) ≡ accepted tt) where
     range : HourIn h
@@ -75,17 +75,17 @@ module _ (stand : Stand) (s : Sound (stand .figures)) (h : Hour) where
     near = share-gap stand s h (lightUp-le f (h .ppfd)) (light-gap f (h .ppfd)) (light-order f (h .ppfd))
 
     no-dose :
-        (m : ℕ) → m + gapDose f (h .air) ≤ 3600 → ((k : ℕ) → fluxAt k stand h ≼ m over 3600) → (lowerOf stand h ≡ 0) × (upperOf stand h ≡ 0)
+        (m : ℕ) → m + gapDose f (h .air) ≤ 3600 * f .y → ((k : ℕ) → fluxAt k stand h ≼ m over 3600) → (lowerOf stand h ≡ 0) × (upperOf stand h ≡ 0)
     no-dose m le few =
-        pair-none stand h (s .gmax .1) range shares-top shares-order near m hourTerms le (omega arith) share-under (few hourTerms)
+        pair-none stand h (s .gmax) range shares-top shares-order near m hourTerms le (omega arith) share-under (few hourTerms)
 
     pub hour-enclosed : HourEnclosed stand h
     hour-enclosed = record {
       low = record { at = hourTerms; under = lower-under };
       high = record { every = upper-over };
       order = lowerOf-le stand h shares-order;
-      gap = upperOf-gap stand h (s .gmax .1) range shares-top shares-order near;
-      most = upperOf-le stand h (s .gmax .1) range shares-top;
+      gap = upperOf-gap stand h (s .gmax) range shares-top shares-order near;
+      most = upperOf-le stand h (s .gmax) range shares-top;
       grows = doseAt-mono has;
-      none = no-dose _ (omega (arith, gapDose-le f (h .air)));
+      none = λ some. no-dose _ (omega (arith, gapDose-le f (h .air)));
     }

@@ -51,7 +51,8 @@ module _ (stand : Stand) (h : Hour) where
   unfolding lowerOf
   lowerOf-under k from7 share =
       rw (doseAt-is k stand h)
-      (quotient-under (f .gmax) _ (shareLow stand h) _ _ _ _ (≼-trans (over-mono 18000 (omega arith)) (concentration-low h)) share (≼-trans (root-under k from7) (over-mono (10 ^ 7) (omega arith))))
+      (quotient-under (f .gmax) _ (shareLow stand h) _ _ _ _ (≼-trans (over-mono 18000 (omega arith)) (concentration-low h)) share
+      (≼-trans (root-under k from7) (over-mono (10 ^ 7) (omega arith))) (f .y) _ (omega arith))
 
   pub upperOf-over :
       (k : ℕ) → shareAt k stand h ≼ shareUp stand h over 10 ^ 7 →
@@ -59,22 +60,23 @@ module _ (stand : Stand) (h : Hour) where
   unfolding upperOf
   upperOf-over k share =
       rw (doseAt-is k stand h)
-      (quotient-over (f .gmax) _ (shareUp stand h) _ _ _ _ (≼-trans (concentration-high h) (over-mono 18000 (omega arith))) share (≼-trans (over-mono (10 ^ 7) (omega arith)) (rootLow-le (f .leaf) (h .wind) k)))
+      (quotient-over (f .gmax) _ (shareUp stand h) _ _ _ _ (≼-trans (concentration-high h) (over-mono 18000 (omega arith))) share
+      (≼-trans (over-mono (10 ^ 7) (omega arith)) (rootLow-le (f .leaf) (h .wind) k)) (f .y) _ _ (omega arith))
 
   pub lowerOf-le : shareLow stand h ≤ shareUp stand h → lowerOf stand h ≤ upperOf stand h
   unfolding lowerOf upperOf
-  lowerOf-le order = lower-le-upper (f .gmax) (concentration-order h) order (omega arith)
+  lowerOf-le order = lower-le-upper (f .gmax) _ _ _ (concentration-order h) order (omega arith) (omega arith)
 
-  module _ (gmax-le : f .gmax ≤ 500) (range : HourIn h) (share-le : shareUp stand h ≤ 10000003) where
-    quotient-in : (top each : ℕ) → top * 10000003 ≤ each * 2050000000000 → concentrationUp h ≤ top → upperOf stand h ≤ each * f .gmax
+  module _ (gmax : (1 ≤ f .gmax) × (f .gmax ≤ 500)) (range : HourIn h) (share-le : shareUp stand h ≤ 10000003) where
+    quotient-in : (top each : ℕ) → top * 10000003 ≤ each * 2050000000000 → concentrationUp h ≤ top → upperOf stand h ≤ each * f .gmax + 1
     unfolding upperOf
     quotient-in top each room few =
         omega (arith, quotient-most top each (f .gmax) (concentrationUp h) (shareUp stand h) (rootLow (f .leaf) (h .wind)) 0 room few share-le)
 
     upperOf-by : (a : Air) → concentrationUp h ≤ topOf a → upperOf stand h ≤ mostDose (f .gmax) a
-    upperOf-by (Deficit vpd) few = omega (arith, quotient-in 374040000 1825 (omega arith) few)
-    upperOf-by (Pressure vpd p) few = omega (arith, quotient-in 533592000 2603 (omega arith) few)
-    upperOf-by (Humidity rh) few = omega (arith, quotient-in 374040000 1825 (omega arith) few)
+    upperOf-by (Deficit vpd) few = omega (arith, quotient-in 374040000 1825 (omega arith) few, gmax)
+    upperOf-by (Pressure vpd p) few = omega (arith, quotient-in 533592000 2603 (omega arith) few, gmax)
+    upperOf-by (Humidity rh) few = omega (arith, quotient-in 374040000 1825 (omega arith) few, gmax)
 
     pub upperOf-le : upperOf stand h ≤ mostDose (f .gmax) (h .air)
     upperOf-le = upperOf-by (h .air) (concentrationUp-most h range (h .air) refl)
@@ -87,7 +89,7 @@ module _ (stand : Stand) (h : Hour) where
           quotient (f .gmax) (concentrationUp h) (shareUp stand h) (rootLow (f .leaf) (h .wind)) 0
           ≤ quotient (f .gmax) (concentrationLow h) (shareLow stand h) (rootLow (f .leaf) (h .wind) + 1) 1 + stepIn steep
       quotients-near =
-          quotient-near steep (f .gmax) (concentrationUp h) (shareUp stand h) (rootLow (f .leaf) (h .wind)) gmax-le (concentrationUp-top f h range (h .air) refl) share-le
+          quotient-near steep (f .gmax) (concentrationUp h) (shareUp stand h) (rootLow (f .leaf) (h .wind)) (gmax .1) (concentrationUp-top f h range (h .air) refl) share-le
           (concentrationLow h) (shareLow stand h) (rootLow (f .leaf) (h .wind) + 1) (concentration-gap h) (concentration-order h) order near (le-refl _)
 
       pub upperOf-gap : upperOf stand h ≤ lowerOf stand h + gapDose f (h .air)
@@ -96,7 +98,7 @@ module _ (stand : Stand) (h : Hour) where
 
       -- 3600·F is at most m at some k, so the lower quotient is, and the upper one not much more
       pub pair-none :
-          (m k : ℕ) → m + gapDose f (h .air) ≤ 3600 → 7 ≤ k → shareLow stand h over 10 ^ 7 ≼ shareAt k stand h → fluxAt k stand h ≼ m over 3600 →
+          (m k : ℕ) → m + gapDose f (h .air) ≤ 3600 * f .y → 7 ≤ k → shareLow stand h over 10 ^ 7 ≼ shareAt k stand h → fluxAt k stand h ≼ m over 3600 →
           (lowerOf stand h ≡ 0) × (upperOf stand h ≡ 0)
       unfolding lowerOf upperOf
       pair-none m k few-enough from7 share few =
@@ -134,7 +136,7 @@ module _ (stand : Stand) (h : Hour) {m n : ℕ} (more : m ≤ n) where
   unfolding shareAt openingAt phenologyIn
   doseAt-more k =
       rw (doseAt-is k stand (withOzone m h), doseAt-is k stand (withOzone n h))
-      (dose-mono (stand .figures .gmax) (concentration-mono h more) (≼-refl _) (≼-refl _))
+      (dose-mono (stand .figures .gmax) (concentration-mono h more) (≼-refl _) (≼-refl _) (stand .figures .y))
 
 pub ozone-grows : (stand : Stand) (h : Hour) → OzoneGrows stand h
 ozone-grows stand h = record {

@@ -1,5 +1,5 @@
--- The quotients, less 3600 or 3599, enclose the hour's dose between the bounds of its concentration, of its share and of its root.
-use mathlib.Core.Path.{_≡_, refl, ap}
+-- The quotient and one more, each less 3600·Y, enclose the hour's dose between the bounds of its concentration, of its share and of its root.
+use mathlib.Core.Path.{_≡_, ap}
 use Prim.Native.Nat.{ℕ, zero, suc, _+_, _-_, _*_, _^_, _≤_, _<_}
 use native.Mathlib.Nat.{mul-le-mul-left, mul-le-mul-right, le-of-mul-le-mul-left, le-of-mul-le-mul-right}
 use native.Mathlib.Omega.{arith}
@@ -61,16 +61,16 @@ above q a m b n d p h down k =
     let l : 400000 * a ≤ (q + 1) * b = omega (arith, mul-le-mul-left (q + 1) down) in
     le-of-mul-le-mul-right {k = b} (omega (arith, mul-le-mul-right d l)) p
 
-less-below : (u q n d : ℕ) → u ≡ q - 3600 → q * d ≤ 3600 * n → u * d ≤ 3600 * (n - d)
-less-below zero q n d e h = omega arith
-less-below (suc u) q n d e h =
-    let l : suc u + 3600 ≤ q = omega arith in
+-- u is at most, or at least, what 3600·Y leaves of q
+
+less-below : (u y q n d : ℕ) → u ≤ q - 3600 * y → q * d ≤ 3600 * n → u * d ≤ 3600 * (n - y * d)
+less-below zero y q n d e h = omega arith
+less-below (suc u) y q n d e h =
+    let l : suc u + 3600 * y ≤ q = omega arith in
     omega (arith, mul-le-mul-right d l)
 
-less-above : (u q n d : ℕ) → u ≡ q - 3599 → 3600 * n ≤ (q + 1) * d → 3600 * (n - d) ≤ u * d
-less-above u q n d e h =
-    let l : q + 1 ≤ u + 3600 = omega arith in
-    omega (arith, mul-le-mul-right d l)
+less-above : (u y q n d : ℕ) → q ≤ u + 3600 * y → 3600 * n ≤ q * d → 3600 * (n - y * d) ≤ u * d
+less-above u y q n d e h = omega (arith, mul-le-mul-right d e)
 
 -- ---- the enclosure: each side needs one bound of the concentration, of the share and of the root
 
@@ -92,25 +92,29 @@ module _ (g c p s : ℕ) (z x r : Frac) where
     quotient-few m few =
         le-of-mul-le-mul-right {k = d} (omega (arith, quotient-below, few .cross)) (sharedFlux g z x r .positive)
 
-    pub quotient-under : natural (quotient g c p s 1 - 3600) ≼ sharedDose g z x r
-    quotient-under =
+    -- t is taken off
+    pub quotient-under : (y t : ℕ) → 3600 * y ≤ t → natural (quotient g c p s 1 - t) ≼ sharedDose y g z x r
+    quotient-under y t h =
         let q = quotient g c p s 1 in
-        record { cross = rw (dose-num g z x r, dose-den g z x r) (omega (arith, less-below (q - 3600) q n d refl quotient-below)) }
+        record { cross = rw (dose-num g z x r y, dose-den g z x r y) (omega (arith, less-below (q - t) y q n d (omega arith) quotient-below)) }
 
-  pub quotient-over : z ≼ c over 18000 → x ≼ p over 10 ^ 7 → s over 10 ^ 7 ≼ r → sharedDose g z x r ≼ natural (quotient g c p s 0 - 3599)
-  quotient-over thick wide narrow =
+  -- m is added and t taken off
+  pub quotient-over :
+      z ≼ c over 18000 → x ≼ p over 10 ^ 7 → s over 10 ^ 7 ≼ r → (y m t : ℕ) → t + 1 ≤ 3600 * y + m →
+      sharedDose y g z x r ≼ natural ((quotient g c p s 0 + m) - t)
+  quotient-over thick wide narrow y m t h =
       let q = quotient g c p s 0 in
       let f : 9 * n * whole g p s ≤ 1000 * dividend g c p * d =
       cross-ge 41000000000000000000 (dividend g c p) (whole g p s) n d _ _ (lit< tt) (at-num g c p s) (at-den g c p s) (flux-mono g thick wide narrow .cross) in
       let l : 3600 * n ≤ (q + 1) * d =
       above q (dividend g c p) (divisor g p s 0) (whole g p s) n d (whole-pos g p s) (quotient-lt g c p s 0) (divisor-down g p s) f in
-      record { cross = rw (dose-num g z x r, dose-den g z x r) (omega (arith, less-above (q - 3599) q n d refl l)) }
+      record { cross = rw (dose-num g z x r y, dose-den g z x r y) (omega (arith, less-above ((q + m) - t) y (q + 1) n d (omega arith) l)) }
 
 -- both hold at the lower concentration and share and the greater root
 pub lower-le-upper :
-    (g : ℕ) {b c p q s t : ℕ} → b ≤ c → p ≤ q → s ≤ t → quotient g b p t 1 - 3600 ≤ quotient g c q s 0 - 3599
-lower-le-upper g {b} {c} {p} {q} {s} {t} j h k =
-    let l =
-    ≼-trans (quotient-under g b p t (b over 18000) (p over 10 ^ 7) (t over 10 ^ 7) (≼-refl _) (≼-refl _) (≼-refl _))
-    (quotient-over g c q s (b over 18000) (p over 10 ^ 7) (t over 10 ^ 7) (over-mono 18000 j) (over-mono (10 ^ 7) h) (over-mono (10 ^ 7) k)) in
-    omega (arith, l .cross)
+    (g m t u : ℕ) {b c p q r s : ℕ} → b ≤ c → p ≤ q → r ≤ s → u + 1 ≤ t + m → quotient g b p s 1 - t ≤ (quotient g c q r 0 + m) - u
+lower-le-upper g m t u {b} {c} {p} {q} {r} {s} j h k l =
+    let order =
+    ≼-trans (quotient-under g b p s (b over 18000) (p over 10 ^ 7) (s over 10 ^ 7) (≼-refl _) (≼-refl _) (≼-refl _) 0 0 (omega arith))
+    (quotient-over g c q r (b over 18000) (p over 10 ^ 7) (s over 10 ^ 7) (over-mono 18000 j) (over-mono (10 ^ 7) h) (over-mono (10 ^ 7) k) 0 1 0 (omega arith)) in
+    omega (arith, order .cross)

@@ -30,15 +30,15 @@ concentration h = tenthsOr 0 (h .ozone) over 10 ⊗ perPpb (h .air) (h .temperat
 unfoldable pub flux : Frac → Frac → Frac → Frac
 flux ozone g rb = ozone ⊗ g ⊘ (natural 1 ⊕ rb ⊗ (g ⊕ 4 over 10000))
 
--- 3600·max(F - 1, 0) nmol m⁻²
-unfoldable pub dose : Frac → Frac
-dose f = natural 3600 ⊗ (f ⊖ natural 1)
+-- 3600·max(F - Y, 0) nmol m⁻²; Y is 1 for the six trees (W-212)
+unfoldable pub dose : ℕ → Frac → Frac
+dose y f = natural 3600 ⊗ (f ⊖ natural y)
 
 unfoldable pub fluxAt : ℕ → Stand → Hour → Frac
 fluxAt k stand h = flux (concentration h) (conductanceAt k stand h) (resistanceAt k (stand .figures .leaf) (h .wind))
 
 unfoldable pub doseAt : ℕ → Stand → Hour → Frac
-doseAt k stand h = dose (fluxAt k stand h)
+doseAt k stand h = dose (stand .figures .y) (fluxAt k stand h)
 
 -- an hour is counted if G > 50
 abbrev pub isCounted : Hour → Bool

@@ -45,8 +45,10 @@ pub record HourEnclosed (stand : Stand) (h : Hour) : Type 0 where
   pub gap : upperOf stand h ≤ lowerOf stand h + gapDose (stand .figures) (h .air)
   pub most : upperOf stand h ≤ mostDose (stand .figures .gmax) (h .air)
   pub grows : (k l : ℕ) → k ≤ l → doseAt k stand h ≼ doseAt l stand h
-  -- (0, 0) where F is surely not above 1
-  pub none : ((k : ℕ) → fluxAt k stand h ≼ (3600 - gapDose (stand .figures) (h .air)) over 3600) → (lowerOf stand h ≡ 0) × (upperOf stand h ≡ 0)
+  -- (0, 0) where F is surely not above Y; where Y is 0 the upper number is never 0
+  pub none :
+      1 ≤ stand .figures .y → ((k : ℕ) → fluxAt k stand h ≼ (3600 * stand .figures .y - gapDose (stand .figures) (h .air)) over 3600) →
+      (lowerOf stand h ≡ 0) × (upperOf stand h ≡ 0)
 
 -- with a higher reading of ozone nothing falls
 pub record OzoneGrows (stand : Stand) (h : Hour) : Type 0 where
@@ -69,6 +71,7 @@ pub record PairEnclosed (stand : Stand) (h : Hour) : Type 0 where
 pub record Limited (f : Figures) : Type 0 where
   pub sound : Sound f
   pub gmax : f .gmax ≤ 265
+  pub y : f .y ≡ 1
   pub gap : gapMost f ≡ 2
 
 -- what `hour_dose` answers with a pair: the hour's where it is counted, else 0 and 0

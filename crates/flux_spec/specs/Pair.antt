@@ -69,13 +69,13 @@ divisor gmax p s more = 2050000000000 + more + resisted gmax p s / 400000
 unfoldable pub quotient : ℕ → ℕ → ℕ → ℕ → ℕ → ℕ
 quotient gmax c p s more = dividend gmax c p / divisor gmax p s more
 
--- ---- the pair
+-- ---- the pair: 3600·Y is taken off what is rounded down, and off one more
 
 unfoldable pub lowerOf : Stand → Hour → ℕ
-lowerOf stand h = quotient (stand .figures .gmax) (concentrationLow h) (shareLow stand h) (rootLow (stand .figures .leaf) (h .wind) + 1) 1 - 3600
+lowerOf stand h = quotient (stand .figures .gmax) (concentrationLow h) (shareLow stand h) (rootLow (stand .figures .leaf) (h .wind) + 1) 1 - 3600 * stand .figures .y
 
 unfoldable pub upperOf : Stand → Hour → ℕ
-upperOf stand h = quotient (stand .figures .gmax) (concentrationUp h) (shareUp stand h) (rootLow (stand .figures .leaf) (h .wind)) 0 - 3599
+upperOf stand h = (quotient (stand .figures .gmax) (concentrationUp h) (shareUp stand h) (rootLow (stand .figures .leaf) (h .wind)) 0 + 1) - 3600 * stand .figures .y
 
 -- a missing ozone is read as 0 for the lower number, as the ceiling for the upper one (W-207)
 abbrev pub hourPair : Stand → Hour → Bounds

@@ -16,7 +16,7 @@ use Rattle.trees.specs.declared.Choice.the-variants.{Tree, Unknown}
 abbrev celsius : ℕ → ℕ
 celsius t = 50 + t
 
--- a line of the table: the three temperatures are given in °C
+-- a line of the table: the three temperatures are given in °C; Y is 1 for each of the six
 abbrev treeLine : Curve → ℕ → ℕ → ℕ → ℕ → ℕ → ℕ → ℕ → ℕ → ℕ → ℕ → Measure → ℕ → ℕ → ℕ → Phenology → ℕ → ℕ → ℕ → ℕ → Figures
 treeLine curve′ gmax′ fmin′ lighta′ tmin′ topt′ tmax′ p′ q′ vpdmax′ vpdmin′ measure′ soilmax′ soilmin′ leaf′ phenology′ a′ e′ f1′ f4′ = record {
   gmax = gmax′;
@@ -39,6 +39,7 @@ treeLine curve′ gmax′ fmin′ lighta′ tmin′ topt′ tmax′ p′ q′ vp
   e = e′;
   f1 = f1′;
   f4 = f4′;
+  y = 1;
 }
 
 -- its curve of f_temp, gmax, f_min, light_a, Tmin Topt Tmax, p q, VPD max min, soil max min, leaf, phenology, a e, f1 f4

@@ -28,3 +28,4 @@ pub record Sound (f : Figures) : Type 0 where
   pub e : f .e ≤ 100
   pub f1 : f .f1 ≤ 200
   pub f4 : f .f4 ≤ 200
+  pub y : f .y ≤ 10

@@ -58,6 +58,8 @@ pub struct Figures {
     // days
     pub f1: u16,
     pub f4: u16,
+    // the flux that adds no dose, nmol m⁻² s⁻¹
+    pub y: u16,
 }
 
 // A vapour pressure deficit lies from lower/den to upper/den, in Pa; a den of 0 is read as 1.
@@ -119,6 +121,8 @@ impl BorealSpruce {
 
     pub const F4: u16 = 30;
 
+    pub const Y: u16 = 1;
+
     fn figures() -> Figures
         ensures { λ r. ⌜ r ≡ borealSpruce ⌝ }
     {
@@ -143,6 +147,7 @@ impl BorealSpruce {
             e: BorealSpruce::E,
             f1: BorealSpruce::F1,
             f4: BorealSpruce::F4,
+            y: BorealSpruce::Y,
         }
     }
 }
@@ -184,6 +189,8 @@ impl Birch {
 
     pub const F4: u16 = 30;
 
+    pub const Y: u16 = 1;
+
     fn figures() -> Figures
         ensures { λ r. ⌜ r ≡ birch ⌝ }
     {
@@ -208,6 +215,7 @@ impl Birch {
             e: Birch::E,
             f1: Birch::F1,
             f4: Birch::F4,
+            y: Birch::Y,
         }
     }
 }
@@ -249,6 +257,8 @@ impl ContinentalSpruce {
 
     pub const F4: u16 = 0;
 
+    pub const Y: u16 = 1;
+
     fn figures() -> Figures
         ensures { λ r. ⌜ r ≡ continentalSpruce ⌝ }
     {
@@ -273,6 +283,7 @@ impl ContinentalSpruce {
             e: ContinentalSpruce::E,
             f1: ContinentalSpruce::F1,
             f4: ContinentalSpruce::F4,
+            y: ContinentalSpruce::Y,
         }
     }
 }
@@ -314,6 +325,8 @@ impl Beech {
 
     pub const F4: u16 = 20;
 
+    pub const Y: u16 = 1;
+
     fn figures() -> Figures
         ensures { λ r. ⌜ r ≡ beech ⌝ }
     {
@@ -338,6 +351,7 @@ impl Beech {
             e: Beech::E,
             f1: Beech::F1,
             f4: Beech::F4,
+            y: Beech::Y,
         }
     }
 }
@@ -379,6 +393,8 @@ impl Oak {
 
     pub const F4: u16 = 20;
 
+    pub const Y: u16 = 1;
+
     fn figures() -> Figures
         ensures { λ r. ⌜ r ≡ oak ⌝ }
     {
@@ -403,6 +419,7 @@ impl Oak {
             e: Oak::E,
             f1: Oak::F1,
             f4: Oak::F4,
+            y: Oak::Y,
         }
     }
 }
@@ -444,6 +461,8 @@ impl Evergreen {
 
     pub const F4: u16 = 0;
 
+    pub const Y: u16 = 1;
+
     fn figures() -> Figures
         ensures { λ r. ⌜ r ≡ evergreen ⌝ }
     {
@@ -468,6 +487,7 @@ impl Evergreen {
             e: Evergreen::E,
             f1: Evergreen::F1,
             f4: Evergreen::F4,
+            y: Evergreen::Y,
         }
     }
 }

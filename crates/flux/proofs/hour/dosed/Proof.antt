@@ -1,5 +1,5 @@
 -- `flux::hour::dosed` meets its contract.
-use Prim.Native.Nat.{ℕ, _+_, _-_, _≤_}
+use Prim.Native.Nat.{ℕ, _+_, _-_, _*_, _≤_}
 use mathlib.Core.Path.{_≡_, sym, ap₂, _∙_}
 use native.Mathlib.Omega.{arith}
 use borrow.Author.Needs.{needs}
@@ -79,8 +79,8 @@ returns c =
     let conc = c .before .concentration .ensures in
     let share = c .before .before .shares .ensures in
     ap₂ (λ l u. record { lower = l; upper = u })
-    (c .pair .ensures .0 ∙ ap₂ (λ n p. quotient (f .gmax) n p (root + 1) 1 - 3600) (conc .0) (share .0 ∙ sym (shareLow-same (a .stand) _ h)))
-    (c .pair .ensures .1 ∙ ap₂ (λ n p. quotient (f .gmax) n p root 0 - 3599) (conc .1) (share .1 ∙ sym (shareUp-same (a .stand) _ h)))
+    (c .pair .ensures .0 ∙ ap₂ (λ n p. quotient (f .gmax) n p (root + 1) 1 - 3600 * f .y) (conc .0) (share .0 ∙ sym (shareLow-same (a .stand) _ h)))
+    (c .pair .ensures .1 ∙ ap₂ (λ n p. (quotient (f .gmax) n p root 0 + 1) - 3600 * f .y) (conc .1) (share .1 ∙ sym (shareUp-same (a .stand) _ h)))
 
 pub dosed-spec : {M : Type 1} → statement M
 dosed-spec =
