@@ -21,7 +21,7 @@ module _ (test : ℕ → Bool) where
   least-le zero = zero-le
   least-le (suc n) = cond-at-most (test (least test n)) (omega (arith, least-le n)) (le-refl (suc n))
 
-  least-passes : (n t : ℕ) → t ≤ n → T (test t) → T (test (least test n))
+  pub least-passes : (n t : ℕ) → t ≤ n → T (test t) → T (test (least test n))
   unfolding least
   least-passes zero t h p = let z : t ≡ zero = omega arith in subst (λ (m : ℕ). T (test m)) z p
   least-passes (suc n) t h p =
@@ -43,7 +43,7 @@ module _ (test : ℕ → Bool) where
       (least-first n t (le-of-suc-le-suc l) p))
       (eq-or-lt-of-le h)
 
-  least-under : (n t : ℕ) → T (test t) → least test n ≤ t
+  pub least-under : (n t : ℕ) → T (test t) → least test n ≤ t
   least-under n t p =
       ⊎-elim (λ h. least-first n t h p) (λ h. omega (arith, h, least-le n)) (le-or-lt t n)
 
