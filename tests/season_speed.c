@@ -2,20 +2,10 @@
 //     season_speed TEXT
 // Both are told where the lines are, so that feeding them is all that is timed.
 #include "bench/doubles.h"
-#include <stdint.h>
-#include <stdio.h>
-#include <stdlib.h>
-#include <string.h>
-#include <time.h>
+#include "bench/lines.h"
 
 // tests/probe.sh
 uint64_t probe_season(const uint8_t *text, size_t n, const size_t *starts, size_t lines, const size_t *ends, size_t same_lines, uint64_t which);
-
-struct text {
-    uint8_t *bytes;
-    size_t n, lines;
-    size_t *starts, *ends;
-};
 
 static struct season feed_all(const struct text *t)
 {
@@ -31,31 +21,6 @@ static uint64_t probe_all(const struct text *t, uint64_t which)
 }
 
 static volatile uint64_t kept;
-
-static double now(void)
-{
-    struct timespec t;
-    clock_gettime(CLOCK_MONOTONIC, &t);
-    return (double)t.tv_sec + 1e-9 * (double)t.tv_nsec;
-}
-
-enum { MOST_BYTES = 1 << 20, MOST_LINES = 10000 };
-
-static struct text whole(const char *name)
-{
-    FILE *file = fopen(name, "rb");
-    struct text t = {malloc(MOST_BYTES), 0, 0, calloc(MOST_LINES, sizeof(size_t)), calloc(MOST_LINES, sizeof(size_t))};
-    if (!file || !t.bytes || !t.starts || !t.ends)
-        exit(2);
-    t.n = fread(t.bytes, 1, MOST_BYTES, file);
-    fclose(file);
-    for (size_t i = 0; i < t.n && t.lines < MOST_LINES; i = t.ends[t.lines++] + 1) {
-        const uint8_t *feed_at = memchr(t.bytes + i, '\n', t.n - i);
-        t.starts[t.lines] = i;
-        t.ends[t.lines] = feed_at ? (size_t)(feed_at - t.bytes) : t.n;
-    }
-    return t;
-}
 
 // Both accounts of the text hold the same figures.
 static int agree(const struct text *t)
@@ -74,7 +39,8 @@ int main(int argc, char **argv)
 {
     if (argc != 2)
         return 2;
-    struct text t = whole(argv[1]);
+    struct text t = whole(argv[1], 0);
+    find_lines(&t);
     if (!agree(&t)) {
         puts("the figures differ");
         return 1;

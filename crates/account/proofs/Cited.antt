@@ -11,11 +11,11 @@ use Rattle.account_spec.specs.Account.{freshAccount}
 use Rattle.account_spec.specs.declared.Fed.{Fed}
 use Rattle.account_spec.specs.Rules.{leftBy}
 use Rattle.account_spec.specs.Book.{emptyBook}
-use Rattle.account_spec.specs.Runs.{Event, fed, taken, Run, stop, feeds, reads}
+use Rattle.account_spec.specs.Runs.{Event, fed, taken, Run, stop, feeds, reads, accountAfter, TakesAll}
 use Rattle.account_spec.specs.Promise.{Kept, SeasonPromise}
 use Rattle.account_spec.proofs.RuleLaws.{frame-feeds, unread-feeds}
 use Rattle.account_spec.proofs.RunLaws.{season}
-use Rattle.filling_spec.specs.Promise.{acceptedLines, accountAfter, TakesAll, FillingPromise}
+use Rattle.filling_spec.specs.Promise.{acceptedLines, FillingPromise}
 use Rattle.filling_spec.proofs.FillingLaws.{filling-promise}
 use Rattle.account_read.proofs.read.Reads as read-reads
 use Rattle.account.proofs.feed.Reads as feed-reads

@@ -13,14 +13,16 @@ use account_spec::State;
 pub use account_spec::Sums;
 pub use account_spec::Totals;
 pub use account_spec::Verdict;
+use frames::Checked;
 use frames::Decoded;
 use frames::Header;
 use frames::Parsed;
 use frames::Raw;
 use frames::Refusal;
 pub use rows::kind_number;
+pub use rows::phase_number;
 ghost use mathlib.Core.Path.{_≡_};
-ghost use Rattle.records.specs.Answers.{rowOf};
+ghost use Rattle.records.specs.Answers.{rowOf, reply, checkedAs};
 ghost use Rattle.account_spec.specs.Account.{freshAccount};
 ghost use Rattle.account_spec.specs.Rules.{stateOf, feedFrameOf, unreadRow, Answers, Feeds};
 ghost use Rattle.account_spec.specs.Promise.{SeasonPromise};
@@ -84,6 +86,20 @@ pub fn feed_frame(account: Account, frame: Raw) -> Fed
         return Fed::Refused(rows::refusal_in(decoded), account);
     };
     Fed::Accepted(adding::enter(account, record))
+}
+
+// What `feed_frame` answers, without the account that follows: no dose is worked out.
+pub fn answer_to(account: Account, frame: Raw) -> Checked
+    ensures { λ r. ⌜ checkedAs r ≡ reply (feedFrameOf account frame) ⌝ }
+{
+    if account_read::impossible(account) {
+        return Checked::Refused(Refusal::Account);
+    }
+    let decoded = rows::decode(state_of(account), frame);
+    match decoded {
+        Decoded::Read(_) => Checked::Sound,
+        Decoded::Refused(refusal) => Checked::Refused(refusal),
+    }
 }
 
 // The refusal of a line that rows 1 to 3 refuse: row 13 first.

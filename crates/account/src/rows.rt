@@ -9,6 +9,7 @@ use frames::RawHour;
 use frames::Refusal;
 ghost use mathlib.Core.Path.{_≡_};
 ghost use Rattle.records.specs.Answers.{decodedAs};
+ghost use Rattle.account_spec.specs.Account.{phaseNumber};
 ghost use Rattle.account_spec.specs.HourKinds.{kindNumber, isMixed};
 ghost use Rattle.account_spec.specs.Rules.{ceilingLate, turnIn, outOfTurn, isDue, countWrong, dueOf, turnOf};
 ghost use Rattle.account_spec.specs.Steps.{refusalIn};
@@ -58,6 +59,17 @@ pub fn kind_number(kind: HourKind) -> u8
         HourKind::Deficit => 2,
         HourKind::Pressure => 4,
         HourKind::Humidity => 5,
+    }
+}
+
+// The number of a phase, by which two are compared.
+pub fn phase_number(phase: Phase) -> u8
+    ensures { λ r. ⌜ r ≡ phaseNumber phase ⌝ }
+{
+    match phase {
+        Phase::Fresh => 0,
+        Phase::Open => 1,
+        Phase::Closed => 2,
     }
 }
 

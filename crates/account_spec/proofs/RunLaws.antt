@@ -3,7 +3,7 @@ use Prim.Native.Nat.{ℕ}
 use mathlib.Core.Path.{_≡_, refl, sym, ap, subst, _∙_}
 use mathlib.Core.List.{List, [], _∷_}
 use Rattle.records.specs.declared.Record.{Record}
-use Rattle.records.specs.Answers.{Outcome, accepted, refused}
+use Rattle.records.specs.Answers.{Outcome, accepted, refused, reply}
 use Rattle.frames.specs.Digits.{isDigit, valueOf, allDigits, byteAt, numberAt, digitOf}
 use Rattle.frames.specs.Kinds.{among, lengthOf}
 use Rattle.records.specs.Temperature.{signedOf, temperatureOut}
@@ -18,7 +18,7 @@ use Rattle.account_spec.specs.Rules.{dueOf, turnOf, answerOf, entered, l
 use Rattle.account_spec.specs.Reading.{totalsOf}
 use Rattle.account_spec.specs.Book.{Book, emptyBook, bookAnswer, bookNext}
 use Rattle.account_spec.specs.Runs.{Event, fed, taken, Run, stop, feeds, reads, Call, line, reading, callsOf, RunOf, repliesOf}
-use Rattle.account_spec.specs.Promise.{reply, Kept, dayCalls, acceptances, SeasonPromise}
+use Rattle.account_spec.specs.Promise.{Kept, dayCalls, acceptances, SeasonPromise}
 use Rattle.account_spec.specs.Steps.{accountOf, Proper}
 use Rattle.account_spec.proofs.BookLaws.{fresh-same}
 use Rattle.account_spec.proofs.EnclosedLaws.{list-enclosed, hours-enclosed}

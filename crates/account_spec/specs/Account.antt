@@ -34,6 +34,12 @@ isClosed Fresh = false
 isClosed Open = false
 isClosed Closed = true
 
+-- phases are compared by their numbers (rows 16 and 23)
+abbrev pub phaseNumber : Phase → ℕ
+phaseNumber Fresh = 0
+phaseNumber Open = 1
+phaseNumber Closed = 2
+
 -- open or closed
 abbrev pub isBegun : Phase → Bool
 isBegun phase = not (isFresh phase)

@@ -7,9 +7,8 @@ use lib.Dec.{eqb}
 use lib.ListN.{length}
 use Rattle.trees.specs.Sound.{Sound}
 use Rattle.records.specs.declared.Hour.{Hour}
-use Rattle.records.specs.declared.Record.{Record}
 use Rattle.records.specs.Ozone.{allReadAs, AllFill}
-use Rattle.records.specs.Answers.{Outcome, accepted, refused}
+use Rattle.records.specs.Answers.{Outcome, accepted, refused, reply}
 use Rattle.frames.specs.Digits.{byte, number}
 use Rattle.flux_spec.specs.declared.Stand.{Stand}
 use Rattle.flux_spec.specs.Dose.{NotAbove, NotBelow}
@@ -29,10 +28,6 @@ use Rattle.account_spec.specs.Book.{Book, emptyBook, bookAnswer, bookNex
 use Rattle.account_spec.specs.Runs.{Event, fed, taken, Run, Call, line, reading, RunOf, replyIn, repliesOf}
 
 -- ---- a line
-
-abbrev pub reply : Outcome Record → Outcome Unit
-reply (accepted r) = accepted tt
-reply (refused row) = refused row
 
 -- the line gets the book's answer; row 13 never comes up; a refused line leaves the account as it was
 pub record LineKept (a : Account) (b : Book) (l : List ℕ) (r : Fed) : Type 0 where

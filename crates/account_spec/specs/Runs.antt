@@ -6,7 +6,7 @@ use Rattle.records.specs.Answers.{Outcome, accepted, refused, rowOf}
 use Rattle.account_spec.specs.declared.Account.{Account}
 use Rattle.account_spec.specs.declared.Fed.{Fed}
 use Rattle.account_spec.specs.declared.Reading.{Reading}
-use Rattle.account_spec.specs.Rules.{leftBy, Feeds}
+use Rattle.account_spec.specs.Rules.{feedOf, leftBy, Feeds}
 use Rattle.account_spec.specs.Reading.{Reads}
 
 -- a line fed, with its reply; a reading taken, with what it gave
@@ -46,3 +46,15 @@ abbrev pub repliesOf : List Event → List (Outcome Unit)
 repliesOf [] = []
 repliesOf (fed l r ∷ es) = replyIn r ∷ repliesOf es
 repliesOf (taken r ∷ es) = repliesOf es
+
+-- ---- what a run leaves
+
+abbrev pub accountAfter : Account → List Event → Account
+accountAfter a [] = a
+accountAfter a (fed l r ∷ es) = accountAfter (leftBy r) es
+accountAfter a (taken r ∷ es) = accountAfter a es
+
+-- an account takes every line of a list, and is left as another
+pub data TakesAll : Account → List (List ℕ) → Account → Type 0 where
+  none : {a : Account} → TakesAll a [] a
+  line : {a b c : Account} {l : List ℕ} {ls : List (List ℕ)} → feedOf a l ≡ accepted b → TakesAll b ls c → TakesAll a (l ∷ ls) c

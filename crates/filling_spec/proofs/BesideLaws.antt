@@ -17,7 +17,7 @@ use Rattle.account_spec.specs.Steps.{accountOf, Proper}
 use Rattle.account_spec.proofs.BookLaws.{entered-same, entry-proper}
 use Rattle.account_spec.proofs.TurnLaws.{answer-takes}
 use Rattle.account_spec.proofs.SeasonLaws.{feedOf-is}
-use Rattle.filling_spec.specs.Promise.{TakesAll}
+use Rattle.account_spec.specs.Runs.{TakesAll}
 
 -- ---- filled with a number from low to high, or the same
 

@@ -14,13 +14,13 @@ use Rattle.account_spec.specs.Hours.{noneCarried}
 use Rattle.account_spec.specs.Account.{freshAccount}
 use Rattle.account_spec.specs.Rules.{leftOf, leftBy, Feeds}
 use Rattle.account_spec.specs.Book.{Book, emptyBook, bookSums}
-use Rattle.account_spec.specs.Runs.{Event, fed, Run, stop, feeds, reads}
+use Rattle.account_spec.specs.Runs.{Event, fed, Run, stop, feeds, reads, accountAfter, TakesAll}
 use Rattle.account_spec.specs.Steps.{accountOf, Proper}
 use Rattle.account_spec.proofs.BookLaws.{fresh-same, book-in}
 use Rattle.account_spec.proofs.ReadingLaws.{readOf-is}
 use Rattle.account_spec.proofs.SeasonLaws.{fresh-proper}
 use Rattle.filling_spec.specs.Lines.{lineWith, lacksOzone, linesReadAs, FillsLine, FillsLines}
-use Rattle.filling_spec.specs.Promise.{acceptedLines, accountAfter, TakesAll, Taken, Narrower, FillingPromise}
+use Rattle.filling_spec.specs.Promise.{acceptedLines, Taken, Narrower, FillingPromise}
 use Rattle.filling_spec.proofs.AnswerLaws.{answer-filled}
 use Rattle.filling_spec.proofs.BesideLaws.{FilledHour, FilledHours, FilledRecord, FilledLine, FilledLines, Beside, lines-booked, lines-both}
 use Rattle.filling_spec.proofs.NarrowLaws.{Narrowed, hours-narrowed, exceeded-kept, below-kept}

@@ -6,9 +6,8 @@ use Rattle.records.specs.Answers.{accepted}
 use Rattle.account_spec.specs.declared.Account.{Account}
 use Rattle.account_spec.specs.declared.Fed.{Fed}
 use Rattle.account_spec.specs.Account.{freshAccount}
-use Rattle.account_spec.specs.Rules.{feedOf, leftBy}
 use Rattle.account_spec.specs.Reading.{exceededWord, belowWord, wordOf, totalsOf, readOf}
-use Rattle.account_spec.specs.Runs.{Event, fed, taken, Run}
+use Rattle.account_spec.specs.Runs.{Event, fed, taken, Run, accountAfter, TakesAll}
 use Rattle.filling_spec.specs.Lines.{linesReadAs, FillsLines}
 
 -- ---- the lines that a run accepted
@@ -21,17 +20,6 @@ abbrev pub acceptedLines : List Event → List (List ℕ)
 acceptedLines [] = []
 acceptedLines (fed l r ∷ es) = ifAccepted r l (acceptedLines es)
 acceptedLines (taken r ∷ es) = acceptedLines es
-
--- the account that it leaves
-abbrev pub accountAfter : Account → List Event → Account
-accountAfter a [] = a
-accountAfter a (fed l r ∷ es) = accountAfter (leftBy r) es
-accountAfter a (taken r ∷ es) = accountAfter a es
-
--- an account takes every line of a list, and is left as another
-pub data TakesAll : Account → List (List ℕ) → Account → Type 0 where
-  none : {a : Account} → TakesAll a [] a
-  line : {a b c : Account} {l : List ℕ} {ls : List (List ℕ)} → feedOf a l ≡ accepted b → TakesAll b ls c → TakesAll a (l ∷ ls) c
 
 -- ---- filled
 

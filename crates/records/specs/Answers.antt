@@ -4,7 +4,7 @@ use mathlib.Core.Bool.{Bool, cond}
 use Rattle.records.specs.declared.Raw.{Raw}
 use Rattle.records.specs.declared.Record.{Record}
 use Rattle.records.specs.declared.Refusal.{Refusal}
-use Rattle.records.specs.declared.Refusal.the-variants.{Length, Digit, Kind, Turn, Tree, Year, Period, Level, Due, Range, Count, Buffer, Account, Place, Mixed, Tried, Ceiling, NoCeiling, Unlike, Days, Scratch}
+use Rattle.records.specs.declared.Refusal.the-variants.{Length, Digit, Kind, Turn, Tree, Year, Period, Level, Due, Range, Count, Buffer, Account, Place, Mixed, Tried, Ceiling, NoCeiling, Unlike, Days, Scratch, ListSize, UnlikeAccounts}
 use Rattle.records.specs.declared.Parsed.{Parsed}
 use Rattle.records.specs.declared.Checked.{Checked}
 use Rattle.records.specs.declared.Decoded.{Decoded}
@@ -27,6 +27,11 @@ field n condition next = cond condition (refused (10, n)) next
 abbrev pub onward : {A B : Type 0} → Outcome A → (A → Outcome B) → Outcome B
 onward (accepted a) next = next a
 onward (refused r) next = refused r
+
+-- accepted, or the row
+abbrev pub reply : {A : Type 0} → Outcome A → Outcome Unit
+reply (accepted a) = accepted tt
+reply (refused w) = refused w
 
 -- document 01's number, and row 10's field, for each case of a refusal
 abbrev pub rowOf : Refusal → ℕ × ℕ
@@ -51,6 +56,8 @@ rowOf NoCeiling = (18, 0)
 rowOf Unlike = (19, 0)
 rowOf Days = (20, 0)
 rowOf Scratch = (21, 0)
+rowOf ListSize = (22, 0)
+rowOf UnlikeAccounts = (23, 0)
 
 abbrev pub parsedAs : Parsed → Outcome Raw
 parsedAs (Parsed.Frame frame) = accepted frame

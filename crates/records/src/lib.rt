@@ -123,6 +123,8 @@ pub enum Refusal {
     Unlike,
     Days,
     Scratch,
+    ListSize,
+    UnlikeAccounts,
 }
 
 // The answer to a line by rows 1 to 3: its frame, or the row that refuses it.
@@ -149,7 +151,7 @@ pub enum Written {
     Refused(Refusal),
 }
 
-// A refusal's row, 1 to 21.
+// A refusal's row, 1 to 23.
 pub fn row_of(refusal: Refusal) -> u8
     ensures { λ r. ⌜ r ≡ rowOf «refusal» .0 ⌝ }
 {
@@ -175,6 +177,8 @@ pub fn row_of(refusal: Refusal) -> u8
         Refusal::Unlike => 19,
         Refusal::Days => 20,
         Refusal::Scratch => 21,
+        Refusal::ListSize => 22,
+        Refusal::UnlikeAccounts => 23,
     }
 }
 

@@ -1,23 +1,13 @@
 // When two accounts are the same: in every field, each nested one too (row 16).
 use account::Account;
-use account::Phase;
 use account::Season;
 use account::Sums;
 use account::kind_number;
+use account::phase_number;
 ghost use mathlib.Core.Path.{_≡_};
 ghost use Rattle.records.specs.Numbers.{sameNumbers};
 ghost use Rattle.account_spec.specs.Account.{seasonNumbers, sumsNumbers};
-ghost use Rattle.trial_spec.specs.Same.{phaseNumber, isSame};
-
-fn phase_number(phase: Phase) -> u8
-    ensures { λ r. ⌜ r ≡ phaseNumber phase ⌝ }
-{
-    match phase {
-        Phase::Fresh => 0,
-        Phase::Open => 1,
-        Phase::Closed => 2,
-    }
-}
+ghost use Rattle.trial_spec.specs.Same.{isSame};
 
 fn same_season(a: Season, b: Season) -> bool
     ensures { λ r. ⌜ r ≡ sameNumbers (seasonNumbers a) (seasonNumbers b) ⌝ }

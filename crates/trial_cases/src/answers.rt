@@ -1,22 +1,13 @@
 // Answers as words.
-use crate::fields::print_account;
-use account::Account;
-use account::Fed;
 use account::Reading;
 use account::Verdict;
 use cases::print;
 use cases::print_next;
 use cases::print_number;
-use frames::Refusal;
+use cases_account::print_account;
+use cases_account::print_fed;
+use cases_account::print_refusal;
 use trial::Trial;
-
-fn print_refusal(refusal: Refusal) {
-    print(b"refused");
-    print_next(frames::row_of(refusal) as u64);
-    if let Refusal::Range(field) = refusal {
-        print_next(field as u64);
-    }
-}
 
 fn print_verdict(verdict: Verdict) {
     match verdict {
@@ -43,23 +34,6 @@ fn print_reading(reading: Reading) {
         },
         Reading::Refused(refusal) => print_refusal(refusal),
     }
-}
-
-// An answer and the account that it leaves, all its fields; then that account.
-pub(crate) fn print_fed(answer: Fed) -> Account {
-    let left = match answer {
-        Fed::Accepted(next) => {
-            print(b"accepted: ");
-            next
-        }
-        Fed::Refused(refusal, same) => {
-            print_refusal(refusal);
-            print(b": ");
-            same
-        }
-    };
-    print_account(left);
-    left
 }
 
 // The account tried, the answer with the account that would follow, the reading that would follow.

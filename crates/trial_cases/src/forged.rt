@@ -1,9 +1,9 @@
 // Trials that nothing made: one part of a trial set to something else.
-use crate::fields::with_field;
 use account::Account;
 use account::Fed;
 use account::Reading;
 use cases::u8_at;
+use cases_account::with_field;
 use frames::Refusal;
 use trial::Trial;
 

@@ -15,10 +15,10 @@ use Rattle.account_spec.specs.declared.HourKind.the-variants.{None, Deficit, Pr
 use Rattle.account_spec.specs.declared.Sums.{Sums}
 use Rattle.account_spec.specs.declared.Account.{Account}
 use Rattle.account_spec.specs.HourKinds.{kindNumber}
-use Rattle.account_spec.specs.Account.{seasonNumbers, sumsNumbers}
+use Rattle.account_spec.specs.Account.{phaseNumber, seasonNumbers, sumsNumbers}
 use Rattle.account_spec.proofs.KindLaws.{numbered}
 use Rattle.account_spec.proofs.SameLaws.{season-equal}
-use Rattle.trial_spec.specs.Same.{phaseNumber, isSame}
+use Rattle.trial_spec.specs.Same.{isSame}
 
 -- ---- the fields out of their numbers
 

@@ -38,7 +38,7 @@ fn kind_of(number: u8) -> HourKind {
 }
 
 // The account with one field anew: two digits are the field's number, the digits after them what it is to be, in the field's own width.
-pub(crate) fn with_field(a: Account, digits: &[u8]) -> Account {
+pub fn with_field(a: Account, digits: &[u8]) -> Account {
     let mut phase = a.phase;
     let season = a.season;
     let mut header = season.header;
@@ -75,7 +75,7 @@ pub(crate) fn with_field(a: Account, digits: &[u8]) -> Account {
 }
 
 // Every field, in the order of their numbers.
-pub(crate) fn print_account(a: Account) {
+pub fn print_account(a: Account) {
     let phase = a.phase;
     let season = a.season;
     let header = season.header;

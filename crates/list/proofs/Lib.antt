@@ -1,0 +1,4 @@
+pub mod StepLaws
+pub mod ListLaws
+pub mod TallyLaws
+pub mod FirstLaws

@@ -1,0 +1,2 @@
+pub mod FirstFed
+pub mod Steps
