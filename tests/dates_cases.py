@@ -15,7 +15,7 @@ import sys
 from fractions import Fraction
 from itertools import product
 
-from paper import TREES, line_of, period_row
+from paper import NUMBERS, RAMPS, line_of, period_row
 
 WITH_MODEL = (1, 2, 4, 5)
 HEIGHTS = (0, 1, 50, 99, 100, 101, 1500, 3000)
@@ -45,7 +45,7 @@ def greatest_not_above(x):
 
 
 def answer(tree, days, level, latitude, height):
-    if tree not in TREES:
+    if tree not in NUMBERS:
         return "row 5"
     if days not in (365, 366):
         return "row 6"
@@ -53,7 +53,7 @@ def answer(tree, days, level, latitude, height):
         return "row 14"
     start, end = exact(latitude, height)
     first, last = least_not_below(start), greatest_not_above(end)
-    if period_row(tree, days, first, last):
+    if period_row(RAMPS[tree], days, first, last):
         return "row 7"
     if not 1 <= level <= 10000:
         return "row 8"
@@ -68,7 +68,7 @@ def rows():
     for n, (latitude, height) in enumerate(product(range(350, 721), HEIGHTS)):
         turn = n + n // len(HEIGHTS)  # so that each height meets each tree
         yield WITH_MODEL[turn % 4], 365 + turn // 4 % 2, (1, 520, 10000)[turn % 3], latitude, height
-    yield from product(range(8), (364, 365, 366, 367), (0, 1, 10000, 10001), (349, 350, 720, 721), (0, 3000, 3001))
+    yield from product(range(9), (364, 365, 366, 367), (0, 1, 10000, 10001), (349, 350, 720, 721), (0, 3000, 3001))
     most = 65535
     yield from product((0, 4, 255), (0, 365, most), (0, 520, most), (0, 600, most), (0, most))
 

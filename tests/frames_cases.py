@@ -1,5 +1,6 @@
 #!/usr/bin/env python3
-"""The commands for crates/frames_cases and what it must print, reckoned from document 01 ("Frames", "Tree table", "Turned-back lines") and document 02 (W-204, W-205, W-207) alone.
+"""The commands for crates/frames_cases and what it must print, reckoned from document 01 ("Frames", "Tree table", "Turned-back lines") and document 02
+(W-204, W-205, W-207, W-212) alone.
 
     python3 tests/frames_cases.py
 
@@ -9,20 +10,24 @@ records on either side of each limit, lines with another kind's length, and roun
 
 from pathlib import Path
 
+from local_trees import BROKEN, GOOD, LOCAL, parameters_line
+from paper import Parameters, parameter_row
+
 CRATE = Path(__file__).resolve().parent.parent / "crates" / "frames_cases"
 BUFFER = 2097152  # bytes that the program reads
 
 DIGITS = b"0123456789ABCDEF"
-RAMPS = {1: 20 + 30, 2: 20 + 30, 3: 0, 4: 20 + 20, 5: 15 + 20, 6: 0}  # f1 + f4 of each tree, in days
-WATER, SUCTION = (1, 2), (3, 4, 5, 6)  # trees by their soil measure
-LENGTHS = {1: 20, 2: 36, 3: 6, 4: 40, 5: 36, 6: 6}  # digits of a line of each kind
+RAMPS = {1: 20 + 30, 2: 20 + 30, 3: 0, 4: 20 + 20, 5: 15 + 20, 6: 0, 7: 0}  # f1 + f4 of each tree, in days; those of tree 7 come later
+WATER, SUCTION = (1, 2), (3, 4, 5, 6, 7)  # trees by their soil measure
+LENGTHS = {1: 20, 2: 36, 3: 6, 4: 40, 5: 36, 6: 6, 7: 66}  # digits of a line of each kind
 HOUR_WIDTHS = (2, 1, 2, 2, 2, 2, 2, 2, 2)
-WIDTHS = {1: (1, 2, 2, 2, 2), 2: HOUR_WIDTHS, 3: (2,), 4: (*HOUR_WIDTHS, 2), 5: HOUR_WIDTHS, 6: (2,)}  # bytes of the fields after the kind
+WIDTHS = {1: (1, 2, 2, 2, 2), 2: HOUR_WIDTHS, 3: (2,), 4: (*HOUR_WIDTHS, 2), 5: HOUR_WIDTHS, 6: (2,), 7: 16 * (2,)}  # bytes of the fields after the kind
 
 # A record is a tuple: (1, tree, days, first, last, level), (3, hours), (2, day, hour, ozone, ppfd, radiation, temperature, vpd, wind, measure, soil),
-# (4, the same fields, pressure), (5, the fields of 2 with humidity where vpd stands), or (6, ozone ceiling). An hour's ozone is a number or MISSING.
+# (4, the same fields, pressure), (5, the fields of 2 with humidity where vpd stands), (6, ozone ceiling), or (7, the sixteen parameters as they stand in the line).
+# An hour's ozone is a number or MISSING.
 # An answer is a record, a number of bytes, or a refusal: ("row", N) or ("row", 10, "field", F).
-HEADER_KIND, HOUR_KIND, END_KIND, PRESSURE_KIND, HUMIDITY_KIND, CEILING_KIND = 1, 2, 3, 4, 5, 6
+HEADER_KIND, HOUR_KIND, END_KIND, PRESSURE_KIND, HUMIDITY_KIND, CEILING_KIND, PARAMETER_KIND = 1, 2, 3, 4, 5, 6, 7
 HOUR_KINDS = (HOUR_KIND, PRESSURE_KIND, HUMIDITY_KIND)
 MISSING, FFFF = "missing", 65535
 
@@ -32,7 +37,7 @@ def row(n):
 
 
 def refusal_of(record):
-    """Rows 5 to 8 for a header, row 10 for an hour, row 17 for a ceiling; None where none holds."""
+    """Rows 5 to 8 for a header, row 10 for an hour, row 17 for a ceiling, row 24 for parameters; None where none holds."""
     if record[0] == HEADER_KIND:
         _, tree, days, first, last, level = record
         if tree not in RAMPS:
@@ -53,6 +58,8 @@ def refusal_of(record):
                 return ("row", 10, "field", field)
     if record[0] == CEILING_KIND and not 1 <= record[1] <= 5000:
         return row(17)
+    if record[0] == PARAMETER_KIND and parameter_row(Parameters(*record[1:])):
+        return row(24)
     return None
 
 
@@ -104,7 +111,7 @@ def line_of(record):
 
 
 def write(record, room):
-    """Rows 5 to 8, 10 or 17, then 12; else the number of bytes of the line."""
+    """Rows 5 to 8, 10, 17 or 24, then 12; else the number of bytes of the line."""
     refused = refusal_of(record)
     if refused:
         return refused
@@ -117,15 +124,15 @@ def words(answer):
 
 
 def mark(answer):
-    """One character: `.` read, `1` to `8` the row, `A` row 17, `a` to `h` row 10 with field 1 to 8."""
+    """One character: `.` read, `1` to `8` the row, `A` row 17, `H` row 24, `a` to `h` row 10 with field 1 to 8."""
     if answer[0] != "row":
         return "."
-    return "abcdefgh"[answer[3] - 1] if answer[1] == 10 else "A" if answer[1] == 17 else str(answer[1])
+    return "abcdefgh"[answer[3] - 1] if answer[1] == 10 else {17: "A", 24: "H"}.get(answer[1], str(answer[1]))
 
 
 # ---- commands, each with its answer
 
-ROOM = 44  # bytes of the buffer: the longest line and four more
+ROOM = 70  # bytes of the buffer: the longest line and four more
 
 
 def command(letter, tree, n, line, answer):
@@ -163,7 +170,7 @@ def writing(tree, line, room=ROOM, numeric=False):
 def writing_of(record, room=ROOM, tree=None):
     """The same of a record, whose measure is that of the tree."""
     if tree is None:
-        tree = WATER[0] if "water" in record else SUCTION[-1]
+        tree = 1 if "water" in record else 6
     line = line_of(record)
     numeric = record[0] in HOUR_KINDS and record[3] == FFFF
     assert record_of(tree, *parse(line), numeric=numeric) == record
@@ -180,6 +187,7 @@ END = b"030018"
 MOUNTAIN = b"0400010C01F401F4019000E603E8012C03E81B58"  # 700.0 hPa
 HUMID = b"0500010C01F401F4019000E60258012C03E8"  # 60.0 %
 CEILING = b"060320"  # 80.0 ppb
+OWN = parameters_line()
 MISSING_HOURS = (  # NOON, MOUNTAIN and HUMID without ozone
     b"0200010CFFFF01F4019000E603E8012C03E8",
     b"0400010CFFFF01F4019000E603E8012C03E81B58",
@@ -189,6 +197,7 @@ EXAMPLES = (
     b"0104",
     b"03001g",
     b"010018",
+    b"0108016D000100010208",
     b"0107016D000100010208",
     b"0106016C000100010208",
     b"0104016D000100280208",
@@ -245,6 +254,12 @@ EXAMPLES = (
     b"0200010CFFFFFFFF019000E603E8012C03E8",
     b"0400010CFFFF01F4019000E603E8012C03E81387",
     b"0500010CFFFF01F4019000E603E9012C03E8",
+    OWN,
+    b"07" + b"0000" * 16,
+    b"07" + b"FFFF" * 16,
+    parameters_line(tmin=-20, topt=0, tmax=20),
+    parameters_line(tmin=-21, topt=0, tmax=21),
+    parameters_line(f1=200, f4=200),
 )
 
 
@@ -274,6 +289,10 @@ def ceiling(ozone):
     return (CEILING_KIND, ozone)
 
 
+def own(numbers):
+    return (PARAMETER_KIND, *numbers)
+
+
 def examples():
     yield from (reading(6, line) for line in EXAMPLES)
     # the given tree matters for an hour frame only
@@ -283,14 +302,16 @@ def examples():
     yield reading(2, b"0200010001F40000000000E603E8012C03E9")
     yield reading(3, b"0200010001F40000000000E603E8012C03E9")
     yield writing_of(end(24), 5)
-    for line in (MOUNTAIN, HUMID, *MISSING_HOURS, CEILING):
+    for line in (MOUNTAIN, HUMID, *MISSING_HOURS, CEILING, OWN):
         yield from (reading(tree, line) for tree in (*range(9), 255))
-    yield from (writing(tree, line) for line in (*MISSING_HOURS, CEILING) for tree in RAMPS)
+    yield from (writing(tree, line) for line in (*MISSING_HOURS, CEILING, OWN) for tree in RAMPS)
+    # an hour of tree 7 is measured in suction
+    yield from (reading(7, b"0200010001F40000000000E603E8012C%04X" % soil) for soil in (1001, 10000, 10001))
 
 
 def confused():
     """Lines with the length of another kind, or with another kind's number."""
-    for line in (EVERGREEN, HOUR, END, MOUNTAIN, HUMID, CEILING, *MISSING_HOURS):
+    for line in (EVERGREEN, HOUR, END, MOUNTAIN, HUMID, CEILING, OWN, *MISSING_HOURS):
         for kind in range(10):
             yield reading(6, b"%02X" % kind + line[2:])
             yield writing(6, b"%02X" % kind + line[2:])
@@ -305,6 +326,9 @@ def confused():
         b"04" + HUMID[2:],
         b"04" + HOUR[2:] + b"1B58",
         b"04" + HUMID[2:] + b"1B58",
+        *(OWN[:length] for length in (6, 14, 20, 36, 40)),
+        b"07" + MOUNTAIN[2:],
+        (HOUR + HOUR)[:66],
     ):
         yield from (reading(tree, line) for tree in (0, 1, 6))
         yield writing(6, line)
@@ -312,6 +336,8 @@ def confused():
     yield reading(6, b"02" + MOUNTAIN[2:39] + b"g")
     yield reading(6, b"04" + HOUR[2:35] + b"g")
     yield reading(6, b"05" + MOUNTAIN[2:39] + b"g")
+    yield reading(6, b"06" + OWN[2:65] + b"g")
+    yield reading(6, OWN.lower())
     # 02 or 05 by the kind alone: VPD past 1000 Pa is no humidity
     for vapour in (0, 1, 999, 1000, 1001, 1002, 10000, 10001, 65535):
         for kind in (HOUR_KIND, HUMIDITY_KIND):
@@ -322,22 +348,23 @@ def confused():
 
 def frames():
     """Rows 1 to 3, and numbers that no row has tested."""
-    for line in (*EXAMPLES, b"", b"01FF000000000000FFFF", b"02" + b"F" * 34, b"04" + b"F" * 38, b"05" + b"F" * 34):
+    for line in (*EXAMPLES, b"", b"01FF000000000000FFFF", b"02" + b"F" * 34, b"04" + b"F" * 38, b"05" + b"F" * 34, b"07" + b"F" * 64):
         yield writing(6, line)
 
 
 def lengths():
-    for line in (EVERGREEN, HOUR, END, MOUNTAIN, HUMID, CEILING):
+    for line in (EVERGREEN, HOUR, END, MOUNTAIN, HUMID, CEILING, OWN):
         text = (line + b"0123456789ABCDEF" * 5)[:80]
         yield from (reading(6, text[:n]) for n in range(81))
 
 
 def changes():
-    some = [(tree, HOUR) for tree in (6, 1, 0, 7, 255)] + [(tree, line) for line in (MOUNTAIN, HUMID) for tree in (6, 1, 7)]
-    for tree, line in ((6, BEECH), *some, (6, END), (6, CEILING), (0, CEILING), (6, b"061388")):
+    some = [(tree, HOUR) for tree in (6, 1, 0, 7, 8, 255)] + [(tree, line) for line in (MOUNTAIN, HUMID) for tree in (6, 1, 8)]
+    edges = parameters_line(gmax=500, fmin=99, lighta=200, tmin=-20, topt=2, tmax=23, vpdmax=9999, vpdmin=10000, leaf=200, a=100, e=100, f1=200, f4=200, y=10)
+    for tree, line in ((6, BEECH), *some, (6, END), (6, CEILING), (0, CEILING), (6, b"061388"), (7, OWN), (0, edges)):
         yield from (change(tree, place, line) for place in range(len(line)))
     # the digits of ozone
-    yield from (change(tree, place, line) for line in MISSING_HOURS for tree in (6, 1, 7) for place in range(8, 12))
+    yield from (change(tree, place, line) for line in MISSING_HOURS for tree in (6, 1, 8) for place in range(8, 12))
 
 
 def buffers():
@@ -354,12 +381,15 @@ def buffers():
         hour(MISSING, 1200, 600, -205, 1100, 250, "suction", 300),
         mountain(7000, MISSING, 1200, 600, -205, 1100, 250, "suction", 300),
         humid(MISSING, 1200, 600, -205, 600, 250, "water", 300),
+        own(LOCAL),
+        own(BROKEN[0]),
     ):
         yield from (writing_of(record, room) for room in range(ROOM + 1))
 
 
 def header_edges():
-    yield from (header(tree, 365, 105, 297, 520) for tree in (0, 7, 255))
+    yield from (header(tree, 365, 105, 297, 520) for tree in (0, 7, 8, 255))
+    yield from (header(7, 365, first, last, 520) for first, last in ((0, 1), (1, 1), (2, 1), (365, 365), (365, 366)))
     yield from (header(4, days, 105, 297, 520) for days in (0, 364, 366, 367, 65535))
     yield header(4, 365, 0, 297, 520)
     yield header(6, 365, 100, 99, 520)
@@ -442,12 +472,16 @@ def ceiling_edges():
     return (ceiling(ozone) for ozone in (0, 1, 4999, 5000, 5001, 32768, FFFF))
 
 
+def own_edges():
+    return map(own, BROKEN + GOOD)
+
+
 def edges():
-    for record in (*header_edges(), *hour_edges(), *pressure_edges(), *humidity_edges(), *ceiling_edges()):
+    for record in (*header_edges(), *hour_edges(), *pressure_edges(), *humidity_edges(), *ceiling_edges(), *own_edges()):
         yield writing_of(record, 0)
         yield writing_of(record)
     # a record of any other line is the same where FFFF is a number
-    for line in (EVERGREEN, HOUR, END, MOUNTAIN, HUMID, CEILING, b"06FFFF"):
+    for line in (EVERGREEN, HOUR, END, MOUNTAIN, HUMID, CEILING, b"06FFFF", OWN):
         yield writing(6, line, numeric=True)
 
 
@@ -496,6 +530,7 @@ def trips():
         header(4, 365, 1, 41, 520),
         header(5, 365, 330, 365, 520),
         header(6, 366, 1, 366, 520),
+        header(7, 365, 365, 365, 520),
         end(0),
         end(24),
         end(8784),
@@ -503,8 +538,10 @@ def trips():
         ceiling(1),
         ceiling(800),
         ceiling(5000),
+        own(LOCAL),
     ):
-        yield from (trip(record, tree) for tree in range(8))
+        yield from (trip(record, tree) for tree in range(9))
+    yield from (trip(own(parameters), 7) for parameters in GOOD)
     for trips_of in (hour_trips, pressure_trips, humidity_trips):
         yield from (trip(record, tree) for record in trips_of("suction", 10000) for tree in SUCTION)
         yield from (trip(record, tree) for record in trips_of("water", 1000) for tree in WATER)

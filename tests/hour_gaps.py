@@ -10,14 +10,14 @@ import sys
 from pathlib import Path
 
 from flux_cases import pair_of
-from paper import TREES
-from report_cases import hours_of
+from paper import season_in
 
 
 def gaps(path):
     """The gaps of a season's counted hours with ozone and a dose, and the sums of their lower and of their upper numbers: no ceiling bears on them."""
-    (tree, _, first, last, _), _, hours = hours_of(Path(path).read_bytes())
-    pairs = [pair_of(TREES[tree], first, last, 0, hour) for hour in hours if hour.is_counted and hour.ozone is not None]
+    season = season_in(Path(path).read_bytes())
+    read = [hour for hour in season.hours if hour.is_counted and hour.ozone is not None]
+    pairs = [pair_of(season.tree, season.first, season.last, 0, hour) for hour in read]
     return [upper - lower for lower, upper in pairs if upper > 0], sum(low for low, _ in pairs), sum(up for _, up in pairs)
 
 

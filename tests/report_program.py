@@ -13,11 +13,14 @@ import signal
 import subprocess
 import sys
 import tempfile
+from itertools import chain
 from pathlib import Path
 
 import report_cases
 import vectors
-from account_cases import Lot, ceiling_line, end_line, header_line, hour_line
+from account_cases import ceiling_line, end_line, header_line, hour_line
+from local_trees import parameters_line
+from lot import Lot
 from paper import HOUR_KINDS
 from vectors import REPOSITORY
 
@@ -25,8 +28,8 @@ PROGRAM = REPOSITORY / "target" / "bin" / "pod1"
 SCRIPT = REPOSITORY / "pod1"
 TIME = Path("/usr/bin/time")
 LEAP_YEAR = {2: 325036, 4: 360172, 5: 325036}  # bytes of a leap year's text, by the kind of its hours
-LONGEST = 360179  # the same with a ceiling; no accepted text exceeds it
-TAKEN = 360448  # bytes that the program reads; the longest text and 41 more decide any report
+LONGEST = 360246  # the same with parameters and a ceiling; no accepted text exceeds it
+TAKEN = 360448  # bytes that the program reads; the longest text and 67 more decide any report
 MOST_MEMORY = 4096  # KiB
 SECONDS = 30  # for a run to end
 
@@ -44,9 +47,9 @@ def same(name, got, expected):
 # ---- texts
 
 
-def leap_year(kind):
-    """Evergreen, the hours from 9 to 14 counted."""
-    yield header_line(days=366, last=366)
+def leap_year(kind, tree=6):
+    """The hours from 9 to 14 counted."""
+    yield header_line(tree, days=366, last=366)
     for n in range(8784):
         light = 500 if 9 <= n % 24 < 15 else 0
         yield hour_line(1 + n // 24, n % 24, kind, ppfd=light, radiation=light)
@@ -54,17 +57,17 @@ def leap_year(kind):
 
 
 def leap_years():
-    """The leap year's text in each kind."""
+    """An evergreen's leap year in each kind."""
     years = {kind: report_cases.text_of(leap_year(kind)) for kind in HOUR_KINDS}
     assert all(len(year) == LEAP_YEAR[kind] for kind, year in years.items())
     return years
 
 
 def longest_year():
-    """A leap year of kind 04 with a ceiling, ozone missing at noon: the longest text that is accepted."""
-    header, *lines = leap_year(4)
+    """A leap year of tree 7 and kind 04 with a ceiling, ozone missing at noon: the longest text that is accepted."""
+    header, *lines = leap_year(4, 7)
     at_noon = (line[:8] + b"FFFF" + line[12:] if line[6:8] == b"0C" else line for line in lines)
-    year = report_cases.text_of([header, ceiling_line(5000), *at_noon])
+    year = report_cases.text_of([header, parameters_line(f1=200, f4=165), ceiling_line(5000), *at_noon])
     assert len(year) == LONGEST and not report_cases.report(year).startswith(b"refused")
     return year
 
@@ -78,7 +81,7 @@ def odd_texts(day, year):
     yield "carriage returns for line feeds", day.replace(b"\n", b"\r")
     yield "one carriage return after the season", day + b"\r\n"
     yield "NUL bytes", bytes(40)
-    yield "lines of NUL bytes", b"\n".join([bytes(6), bytes(20), bytes(36), bytes(40)])
+    yield "lines of NUL bytes", b"\n".join(map(bytes, (6, 20, 36, 40, 66)))
     yield "NUL bytes after the season", day + bytes(36)
     yield "NUL bytes for line feeds", day.replace(b"\n", b"\0")
     yield "a digit made NUL", day[:60] + b"\0" + day[61:]
@@ -87,6 +90,8 @@ def odd_texts(day, year):
     yield "leap year without its last line feed", year[:-1]
     yield "leap year twice", year + year
     yield "leap year with its ceiling again at its end", year + ceiling_line(5000)
+    yield "leap year with its parameters again at its end", year + parameters_line(f1=200, f4=165)
+    yield "leap year with ramps a day too long", year.replace(parameters_line(f1=200, f4=165), parameters_line(f1=200, f4=166))
 
 
 def cut_texts(day):
@@ -119,13 +124,14 @@ def padded(text, line, size):
 def border_texts(year):
     """Sizes around what the program takes, and around the longest season."""
     hours = (hour_line(kind=kind) + b"\n" for kind in HOUR_KINDS)
-    lines = (b"\n", b"A\n", b"A", end_line(8784) + b"\n", ceiling_line() + b"\n", *hours, header_line() + b"\n")
+    frames = (frame + b"\n" for frame in (end_line(8784), ceiling_line(), parameters_line(), header_line()))
+    lines = (b"\n", b"A\n", b"A", *frames, *hours)
     for size in (TAKEN - 1, TAKEN, TAKEN + 1):
         for line in lines:
             yield f"leap year and {line!r} to {size} bytes", padded(year, line, size)
         yield f"leap year open, to {size} bytes", padded(year[:-7], b"0", size)
         yield f"line feeds to {size} bytes", b"\n" * size
-    for extra in (1, 6, 7, 20, 21, 36, 37, 38, 40, 41, 42):
+    for extra in (1, 6, 7, 20, 21, 36, 37, 38, 40, 41, 42, 65, 66, 67, 68):
         yield f"leap year and {extra} digits", year + b"0" * extra
         yield f"leap year and a line of {extra} digits", year + b"0" * extra + b"\n"
         yield f"leap year open and {extra} digits", year[:-7] + b"0" * extra
@@ -276,8 +282,8 @@ def main():
             try_text(name, text)
     for text in report_cases.written_by_hand():
         try_text(repr(text[:60]), text)
-    seasons = *map(report_cases.text_of, report_cases.month_seasons()), *report_cases.mountain_seasons(), *report_cases.humid_seasons()
-    for text in seasons:
+    sorts = report_cases.mountain_seasons, report_cases.humid_seasons, report_cases.own_seasons
+    for text in chain(map(report_cases.text_of, report_cases.month_seasons()), *(sort() for sort in sorts)):
         try_text(f"season {text[:20].decode()}", text)
     try_fillings()
     try_pieces_of(day, year)

@@ -15,10 +15,12 @@ from typing import NamedTuple, Optional
 import account_cases as book
 import vectors
 from account_cases import Account
+from local_trees import parameters_line
+from paper import Parameters
 
 CRATE = vectors.REPOSITORY / "crates" / "trial_cases"
 DIGITS = tuple(max(2, digits) for digits in book.DIGITS)  # of an account's fields; a phase and a kind have two here
-ROWS = tuple((n,) for n in range(1, 22) if n != 10) + tuple((10, field) for field in range(1, 9))
+ROWS = tuple((n,) for n in range(1, 25) if n != 10) + tuple((10, field) for field in range(1, 9))
 
 
 class Trial(NamedTuple):
@@ -32,7 +34,7 @@ def reading(account):
     """Every figure, hours to AOT40's upper, and the verdict."""
     if book.is_impossible(account):
         return book.refused((13,))
-    return " ".join(str(n) for n in account[account._fields.index("hours") :]) + " " + book.verdict(account)
+    return " ".join(str(n) for n in account.sums) + " " + book.verdict(account)
 
 
 def trial(account, line):
@@ -56,8 +58,14 @@ def take(account, held):
 # ---- commands and answers
 
 
+def shown(account):
+    """Every field; a mark where all parameters are 0."""
+    numbers = account.numbers if account.parameters.is_fed else (*account[:15], "-")
+    return " ".join(str(n) for n in numbers)
+
+
 def answer(row, account):
-    return (book.refused(row) if row else "accepted") + ": " + " ".join(str(n) for n in account)
+    return (book.refused(row) if row else "accepted") + ": " + shown(account)
 
 
 class Sheet:
@@ -73,7 +81,7 @@ class Sheet:
 
     def fields(self, letter, old, new):
         """A command for each field in which the new account is not the old one."""
-        for at, (was, is_now, digits) in enumerate(zip(old, new, DIGITS)):
+        for at, (was, is_now, digits) in enumerate(zip(old.numbers, new.numbers, DIGITS)):
             if was != is_now:
                 self.command(letter, b"%02X%0*X" % (at, digits, is_now))
 
@@ -90,7 +98,7 @@ class Sheet:
         self.trial = held = trial(self.account, line)
         self.command(b"T", line)
         self.tried.add(held.row)
-        self.answers.append(" ".join(str(n) for n in held.tried) + ": " + answer(held.row, held.next) + ": " + held.reading)
+        self.answers.append(shown(held.tried) + ": " + answer(held.row, held.next) + ": " + held.reading)
 
     def take(self):
         row, self.account = take(self.account, self.trial)
@@ -169,7 +177,7 @@ def after(*lines):
 
 def starts():
     """An account and the line that it takes next: fresh, opened, with a ceiling, after 13 hours of each kind, some without ozone, all given, of a long season;
-    and a closed one, which takes none."""
+    a closed one, which takes none; tree 7's, before its parameters and after them."""
     header, ceiling, hours, end = book.header_line(), book.ceiling_line(), list(book.day_lines()), book.end_line()
     yield Account(), header
     yield after(header), hours[0]
@@ -184,15 +192,27 @@ def starts():
     yield after(header, *hours), end
     yield after(header, *hours, end), end
     yield book.YEAR, book.hour_line(day=209, hour=8, ppfd=500, radiation=400)
+    header, parameters = book.header_line(tree=7), parameters_line()
+    yield after(header), parameters
+    yield after(header, parameters), ceiling
+    yield after(header, parameters, ceiling, *day[:12]), day[12]
+
+
+def changed_to(account, field, was, most):
+    """What to set a field to: a step up or down, an end of its width, each other kind; of parameters that are not fed the first and the last to 1."""
+    if field == "kind":
+        return book.NO_KIND, *book.HOUR_KINDS
+    if field in Parameters._fields and not account.parameters.is_fed:
+        return (1,) if field in ("gmax", "y") else ()
+    return was + 1, was - 1, 0, most
 
 
 def changes(account):
-    """The account with one field a step up or down, or at an end of its width, or of each other kind: each field in turn."""
-    for field, was, most in zip(Account._fields, account, book.WIDEST):
-        numbers = (book.NO_KIND, *book.HOUR_KINDS) if field == "kind" else (was + 1, was - 1, 0, most)
-        for n in dict.fromkeys(numbers):
+    """The account with one field anew, each field in turn."""
+    for field, was, most in zip(book.FIELDS, account.numbers, book.WIDEST.numbers):
+        for n in dict.fromkeys(changed_to(account, field, was, most)):
             if 0 <= n <= most and n != was:
-                yield account._replace(**{field: n})
+                yield book.with_field(account, field, n)
 
 
 def forged_fields(sheet, account, line):

@@ -4,10 +4,10 @@ from fractions import Fraction
 from pathlib import Path
 from typing import NamedTuple
 
-from paper import CEILING, DIGITS, END, MISSING, gap_allowed
+from paper import CEILING, DIGITS, END, MEASURED, MISSING, PARAMETERS, gap_allowed, gap_each
 
 REPOSITORY = Path(__file__).resolve().parent.parent
-REQUESTS = {"W-204": 4, "W-205": 5, "W-207": 6}  # the newest kind that the answers in a request's folder know
+REQUESTS = {"W-204": 4, "W-205": 5, "W-207": 6, "W-212": 7}  # the newest kind that the answers in a request's folder know
 LONG = 13000  # bytes; of a request's texts from here on few are stored in a crate
 
 
@@ -21,6 +21,7 @@ class Figures(NamedTuple):
 
 
 class Season(NamedTuple):
+    tree: int
     hours: int
     level: int
     figures: Figures
@@ -42,14 +43,23 @@ def figures_of(counted, missing, low, high, least, most):
     return Figures(int(counted), int(missing), Fraction(low), Fraction(high), int(least), int(most))
 
 
-def is_outdated(path, refusal):
-    """Whether its row is that of a line whose kind, or whose FFFF, was not known yet when the answer was given: row 3, or row 10."""
-    _, row, _, at = refusal.split()
+def line_at(path, number):
     lines = path.read_text(errors="replace").split("\n")
-    line = lines[int(at) - 1] if int(at) <= len(lines) else ""
+    return lines[number - 1] if number <= len(lines) else ""
+
+
+def is_outdated(path, refusal):
+    """Whether its row is that of a line whose kind, length, FFFF or tree was not known yet when the answer was given: row 3, 1, 10 or 5."""
+    _, row, _, at = refusal.split()
+    line = line_at(path, int(at))
     newest = REQUESTS.get(path.parent.name, END)
+    newer = {kind: digits for kind, digits in DIGITS.items() if kind > newest}
+    if row == "1":
+        return len(line) in newer.values()
     if row == "3":
-        return any(line.startswith(f"{kind:02X}") and len(line) == digits for kind, digits in DIGITS.items() if kind > newest)
+        return any(line.startswith(f"{kind:02X}") and len(line) == digits for kind, digits in newer.items())
+    if row == "5":
+        return newest < PARAMETERS and line[2:4] == f"{MEASURED:02X}"
     return row == "10" and newest < CEILING and line[8:12] == f"{MISSING:X}"
 
 
@@ -59,20 +69,22 @@ def answer(path):
     words = season.split()
     if words[0] == "refused":
         return None if is_outdated(path, season) else season
+    tree = int(line_at(path, 1)[2:4], 16)
     if len(words) == 6:
         hours, counted, dose, aot40, _, level = words
-        return Season(int(hours), int(level), figures_of(counted, 0, dose, dose, aot40, aot40), {})
+        return Season(tree, int(hours), int(level), figures_of(counted, 0, dose, dose, aot40, aot40), {})
     by_month = {int(month): figures_of(*rest) for month, *rest in (line.split() for line in months)}
-    return Season(int(words[0]), int(words[8]), figures_of(*words[1:7]), by_month)
+    return Season(tree, int(words[0]), int(words[8]), figures_of(*words[1:7]), by_month)
 
 
-def encloses(lower, upper, figures):
+def encloses(tree, lower, upper, figures):
     """The pair encloses the exact doses of every filling, no further apart than its hours allow, each end near to the dose that it is for."""
     counted, missing, low, high, *_ = figures
+    near = gap_each(tree)
     return (
-        low - 4 * (counted - missing) <= lower <= low
-        and high <= upper <= high + 4 * counted
-        and upper - lower <= gap_allowed(counted, missing)
+        low - near * (counted - missing) <= lower <= low
+        and high <= upper <= high + near * counted
+        and upper - lower <= gap_allowed(tree, counted, missing)
     )
 
 

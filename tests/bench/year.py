@@ -1,9 +1,10 @@
 #!/usr/bin/env python3
 """A leap year of plausible weather as a season text, the same at every run.
 
-    python3 tests/bench/year.py [TREE [KIND]]      TREE 1 to 6, else 6 (evergreen); KIND of its hours 02, 04 or 05, else 02
+    python3 tests/bench/year.py [TREE [KIND]]      TREE 1 to 7, else 6 (evergreen); KIND of its hours 02, 04 or 05, else 02
 
-The weather is that of kind 02 in every kind: kind 04 has the pressure besides, kind 05 the humidity for the VPD.
+The weather is that of kind 02 in every kind: kind 04 has the pressure besides, kind 05 the humidity for the VPD. Tree 7, a laboratory's own, has oak's
+temperatures, whose p/q is 13/22, and parameters like those of the trees that have names.
 """
 
 import math
@@ -12,6 +13,7 @@ import sys
 
 DAYS, LEVEL = 366, 520
 LOWLAND, MOUNTAIN = 9500, 7000  # mean pressure, tenths of hPa
+OWN = (230, 10, 50, 0, 22, 35, 1000, 3200, 100, 1500, 43, 20, 40, 20, 30, 1)  # in the order of kind 07
 
 
 def between(low, x, high):
@@ -71,6 +73,8 @@ def season(tree, kind, first=1, last=DAYS, mean=LOWLAND):
     """The lines of a season from a first to a last day, at a mean pressure."""
     rng = random.Random(2024)
     yield f"01{tree:02X}{DAYS:04X}{first:04X}{last:04X}{LEVEL:04X}"
+    if tree == 7:
+        yield "07" + "".join(f"{n:04X}" for n in OWN)
     dry = 0.3
     for day in range(first, last + 1):
         sky = rng.uniform(0.25, 1)
@@ -84,7 +88,7 @@ def season(tree, kind, first=1, last=DAYS, mean=LOWLAND):
 def main():
     tree = int(sys.argv[1]) if len(sys.argv) > 1 else 6
     kind = int(sys.argv[2]) if len(sys.argv) > 2 else 2
-    if not 1 <= tree <= 6 or kind not in (2, 4, 5):
+    if not 1 <= tree <= 7 or kind not in (2, 4, 5):
         sys.exit(__doc__)
     print("\n".join(season(tree, kind)))
 

@@ -2,6 +2,7 @@
 
 use crate::damage::*;
 use crate::frames::{CEILING, NEWEST};
+use crate::parameters::{any_parameters, MEASURED, PARAMETERS};
 use crate::rng::Rng;
 use crate::season::*;
 use crate::turns::*;
@@ -13,7 +14,7 @@ enum Maker {
 }
 use Maker::{Chance, InTurn};
 
-const MAKERS: [(&str, Maker); 29] = [
+const MAKERS: [(&str, Maker); 33] = [
     ("weather", Chance(weather)),
     ("every reading", InTurn(every_reading)),
     ("every field", InTurn(every_field)),
@@ -43,13 +44,18 @@ const MAKERS: [(&str, Maker); 29] = [
     ("missing ozone", Chance(missing)),
     ("every ceiling", InTurn(every_ceiling)),
     ("every gap", InTurn(every_gap)),
+    ("own tree", Chance(own_tree)),
+    ("every parameter", InTurn(every_parameter)),
+    ("every place of parameters", InTurn(every_place)),
+    ("wrong parameters", Chance(wrong_own)),
 ];
-/// The last ones need W-204's kind, W-205's or W-207's.
+/// The last ones need W-204's kind, W-205's, W-207's or W-212's.
 const MAKERS_IN_USE: usize = match NEWEST {
     ..=3 => 23,
     4 => 25,
     5 => 26,
-    _ => 29,
+    6 => 29,
+    _ => 33,
 };
 
 /// A whole season instead, now and then.
@@ -76,9 +82,9 @@ fn season(rng: &mut Rng) -> Season {
     plausible(rng, header)
 }
 
-/// A season of few lines: trees without ramps.
+/// A season of few lines: trees that need no ramps.
 fn short_season(rng: &mut Rng) -> Season {
-    let number = rng.pick(&[3, 6]);
+    let number = any_short_tree(rng);
     let header = short_period(rng, number);
     plausible(rng, header)
 }
@@ -94,14 +100,18 @@ fn weather(rng: &mut Rng) -> Vec<u8> {
 
 fn corners(rng: &mut Rng) -> Vec<u8> {
     let mut season = season(rng);
-    let number = season.header.tree;
+    all_to_corners(rng, &mut season);
+    season_text(rng, &season)
+}
+
+fn all_to_corners(rng: &mut Rng, season: &mut Season) {
+    let of = season.header.of();
     for readings in &mut season.hours {
         if rng.one_in(3) {
             light_up(rng, readings);
         }
-        put_to_corners(rng, number, readings);
+        put_to_corners(rng, &of, readings);
     }
-    season_text(rng, &season)
 }
 
 fn near(rng: &mut Rng) -> Vec<u8> {
@@ -150,6 +160,7 @@ fn damaged_few(rng: &mut Rng) -> Vec<u8> {
             1 => wrong_digit(rng, &mut lines),
             2 => wrong_kind(rng, &mut lines),
             3 => wrong_hour(rng, &mut lines),
+            4 if NEWEST >= PARAMETERS && rng.one_in(2) => wrong_parameters(rng, &season, &mut lines),
             4 if NEWEST >= CEILING => wrong_ceiling(rng, &mut lines),
             _ => wrong_turn(rng, &mut lines),
         }
@@ -217,18 +228,48 @@ fn missing(rng: &mut Rng) -> Vec<u8> {
     season_text(rng, &season)
 }
 
+/// A laboratory's tree with its parameters at corners, its hours at theirs; now and then few of them counted or the level near.
+fn own_tree(rng: &mut Rng) -> Vec<u8> {
+    let header = short_period(rng, MEASURED);
+    let mut season = plausible(rng, header);
+    match rng.below(3) {
+        0 => all_to_corners(rng, &mut season),
+        1 => few_lit(rng, &mut season, &[header.first, header.last]),
+        _ => {}
+    }
+    if rng.one_in(3) {
+        near_level(rng, &mut season);
+    }
+    season_text(rng, &season)
+}
+
+/// Its parameters, and now and then other lines, wrong.
+fn wrong_own(rng: &mut Rng) -> Vec<u8> {
+    let header = if rng.one_in(4) { short_period(rng, 6) } else { short_period(rng, MEASURED) };
+    let season = plausible(rng, header);
+    let mut lines = if rng.one_in(4) { damage(rng, &season) } else { season.lines() };
+    for _ in 0..rng.pick(&[1, 1, 2]) {
+        wrong_parameters(rng, &season, &mut lines);
+    }
+    text(rng, &lines)
+}
+
 /// A growing season or a whole year, near the level or with corners; now and then with many lines after its end.
 fn whole(rng: &mut Rng) -> Vec<u8> {
-    let number = rng.between(1, 6);
+    let number = rng.between(1, TREES as i64);
     let days = rng.between(365, 366);
     let length = if rng.one_in(4) { days } else { rng.between(150, 220) };
     let mut header = period(rng, number, length.min(days - 1));
     if length == days {
         (header.days, header.first, header.last) = (days, 1, days);
     }
+    if number == MEASURED {
+        header.own = Some(any_parameters(rng, header.last - header.first));
+    }
     let mut season = plausible(rng, header);
     if rng.one_in(2) {
-        season.hours.iter_mut().for_each(|readings| put_to_corners(rng, number, readings));
+        let of = header.of();
+        season.hours.iter_mut().for_each(|readings| put_to_corners(rng, &of, readings));
     }
     near_level(rng, &mut season);
     let mut lines = season.lines();

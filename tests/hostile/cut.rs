@@ -1,7 +1,7 @@
 //! A text on which the program differs, cut down as far as it still differs.
 
 use crate::account::{answer, lines, Answer};
-use crate::frames::{readings_of, HOUR_KINDS, NEWEST};
+use crate::frames::{is_hour, NEWEST};
 use crate::program::{compare, Difference};
 use std::ops::Range;
 use std::path::Path;
@@ -97,7 +97,7 @@ impl Cut<'_> {
     /// Drops days of a whole season at either end, with the header and the count changed to suit.
     fn drop_days(&mut self) {
         while self.is_season() {
-            let days = lines(&self.text).len() / 24; // with the two or three other lines no more
+            let days = lines(&self.text).len() / 24; // with the two to four other lines no more
             let sizes = std::iter::successors(Some(days / 2), |size| Some(size / 2)).take_while(|&size| size > 0);
             let candidates: Vec<Vec<u8>> = sizes.flat_map(|size| [self.days(size..days), self.days(0..days - size)]).collect();
             if !candidates.into_iter().any(|candidate| self.take(candidate)) {
@@ -113,7 +113,8 @@ impl Cut<'_> {
     /// The season's text with these of its days only.
     fn days(&self, kept: Range<usize>) -> Vec<u8> {
         let lines = lines(&self.text);
-        let (header, start) = (lines[0], if is_hour(lines[1]) { 1 } else { 2 });
+        let header = lines[0];
+        let start = lines.iter().position(|line| is_hour(line)).unwrap_or(1);
         let hours = &lines[start + 24 * kept.start..start + 24 * kept.end];
         let (first, last) = (&hours[0][2..6], &hours[hours.len() - 1][2..6]);
         let mut text = [&header[..8], first, last, &header[16..], b"\n"].concat();
@@ -153,12 +154,6 @@ impl Cut<'_> {
         }
         self.take(pieces.concat());
     }
-}
-
-/// Whether the line has the length and the kind of an hour frame, its line feed left out.
-fn is_hour(line: &[u8]) -> bool {
-    let digits = line.strip_suffix(b"\n").unwrap_or(line);
-    HOUR_KINDS.iter().any(|&kind| digits.len() == 8 + 4 * readings_of(kind) && digits.starts_with(format!("{kind:02X}").as_bytes()))
 }
 
 /// Whether it is an hour with those readings 0.

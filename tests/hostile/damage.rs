@@ -2,9 +2,9 @@
 
 use crate::account::Header;
 use crate::frames::*;
+use crate::parameters::{any_parameters, broken, Parameters, PARAMETERS};
 use crate::rng::Rng;
 use crate::season::*;
-use crate::trees::tree;
 
 pub type Lines = Vec<Vec<u8>>;
 
@@ -17,11 +17,12 @@ pub fn text(rng: &mut Rng, lines: &Lines) -> Vec<u8> {
     text
 }
 
-/// The last ones need a second hour kind, or a ceiling.
+/// The last ones need a second hour kind, a ceiling, or parameters.
 const DAMAGES: usize = match NEWEST {
     ..=3 => 8,
     4 | 5 => 9,
-    _ => 11,
+    6 => 11,
+    _ => 12,
 };
 
 /// One to three damages of any kind.
@@ -39,7 +40,8 @@ pub fn damage(rng: &mut Rng, season: &Season) -> Lines {
             7 => after_the_end(rng, season, &mut lines),
             8 => other_kind(rng, season, &mut lines),
             9 => wrong_ceiling(rng, &mut lines),
-            _ => lost_ozone(rng, &mut lines),
+            10 => lost_ozone(rng, &mut lines),
+            _ => wrong_parameters(rng, season, &mut lines),
         }
     }
     lines
@@ -179,14 +181,36 @@ pub fn wrong_ceiling(rng: &mut Rng, lines: &mut Lines) {
     let odd = rng.pick(&[0, 5001, 0x7FFF, 0x8000, 0xFFFF]);
     let ceiling = if rng.one_in(3) { odd } else { any_ceiling(rng) };
     let line = ceiling_line(ceiling).into_bytes();
-    let has_one = lines.len() > 1 && lines[1].starts_with(b"06");
-    match rng.below(4) {
-        0 if has_one => lines[1] = line,
-        1 if has_one => {
+    match (rng.below(4), ceiling_at(lines)) {
+        (0, Some(at)) => lines[at] = line,
+        (1, Some(at)) => {
+            lines.remove(at);
+        }
+        (2, _) => lines.insert(lines.len().min(rng.pick(&[1, 1, 2])), line),
+        _ => lines.insert(rng.below(lines.len() + 1), line),
+    }
+}
+
+/// Parameters in range or not, in their place, twice, elsewhere, or in the place of another line; or those that are there lost or exchanged with the next line.
+pub fn wrong_parameters(rng: &mut Rng, season: &Season, lines: &mut Lines) {
+    let days = season.header.last - season.header.first + rng.pick(&[0, 0, 1, 200]);
+    let own: Parameters = season.header.own.unwrap_or_else(|| any_parameters(rng, days));
+    let changed = match rng.below(4) {
+        0 => own,
+        1 => any_parameters(rng, days),
+        _ => broken(rng, &own),
+    };
+    let line = changed.line().into_bytes();
+    let at = rng.below(lines.len());
+    match rng.below(6) {
+        0 | 1 if lines.len() > 1 => lines[1] = line,
+        2 => lines.insert(lines.len().min(1), line),
+        3 => lines.insert(at, line),
+        4 if lines.len() > 2 => lines.swap(1, 2),
+        5 if lines.len() > 1 => {
             lines.remove(1);
         }
-        2 => lines.insert(lines.len().min(1), line),
-        _ => lines.insert(rng.below(lines.len() + 1), line),
+        _ => lines[at] = line,
     }
 }
 
@@ -213,9 +237,9 @@ pub fn wrong_count(rng: &mut Rng, lines: &mut Lines) {
     }
 }
 
-/// The lines that are as long as an hour frame.
+/// The lines that are hour frames.
 fn hours_in(lines: &[Vec<u8>]) -> i64 {
-    lines.iter().filter(|line| line.len() >= 36).count() as i64
+    lines.iter().filter(|line| is_hour(line)).count() as i64
 }
 
 /// An end frame before the last hour, its count right for its place or not.
@@ -226,13 +250,14 @@ fn early_end(rng: &mut Rng, lines: &mut Lines) {
 }
 
 pub fn after_the_end(rng: &mut Rng, season: &Season, lines: &mut Lines) {
-    let more = match rng.below(7) {
+    let more = match rng.below(if NEWEST < PARAMETERS { 7 } else { 8 }) {
         0 => vec![],
         1 => header_line(&season.header).into_bytes(),
         2 => hour_line(season.header.last + 1, 0, &season.hours[0]).into_bytes(),
         3 => end_line(season.hours.len() as i64).into_bytes(),
         4 => b" ".to_vec(),
         5 => ceiling_line(any_ceiling(rng)).into_bytes(),
+        7 => any_parameters(rng, 0).line().into_bytes(),
         _ => lines[rng.below(lines.len())].clone(),
     };
     lines.push(more);
@@ -262,11 +287,7 @@ fn change_field(rng: &mut Rng, header: &mut Header) {
 
 /// The earliest last day that the tree's ramps allow.
 fn shortest_last(header: &Header) -> i64 {
-    if (1..=6).contains(&header.tree) && header.first < 400 {
-        header.first + tree(header.tree).fewest_days() - 1
-    } else {
-        1
-    }
+    if header.first < 400 { header.first + header.fewest_days() - 1 } else { 1 }
 }
 
 // ---- bytes

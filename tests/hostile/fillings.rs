@@ -46,12 +46,11 @@ impl Gaps {
     /// None where there is none, or no ceiling.
     fn of(text: &[u8]) -> Option<Gaps> {
         let lines = lines(text);
-        let ceiling = lines.get(1)?.strip_prefix(format!("{CEILING:02X}").as_bytes())?;
-        let ceiling = i64::from_str_radix(std::str::from_utf8(ceiling).ok()?, 16).ok()?;
+        let ceiling = i64::from_str_radix(std::str::from_utf8(&lines[ceiling_at(&lines)?][2..]).ok()?, 16).ok()?;
         let mut places = Vec::new();
         let mut start = 0;
         for line in &lines {
-            if line.len() > 12 && line[8..12] == *b"FFFF" && !line.starts_with(b"01") {
+            if is_hour(line) && line[8..12] == *b"FFFF" {
                 places.push(start + 8);
             }
             start += line.len() + 1;
@@ -85,7 +84,7 @@ fn compare_filled(program: &Path, filled: &[u8], before: &[u8], same: &[usize]) 
 
 /// The difference, named as one of the filled text.
 fn of_filled(difference: Difference, filled: &[u8]) -> Difference {
-    let ozone: Vec<&[u8]> = lines(filled).into_iter().filter(|line| line.len() > 12).map(|line| &line[8..12]).take(24).collect();
+    let ozone: Vec<&[u8]> = lines(filled).into_iter().filter(|line| is_hour(line)).map(|line| &line[8..12]).take(24).collect();
     Difference { got: format!("{} with its gaps filled (first ozone readings {})", difference.got, ozone.join(&b' ').escape_ascii()), ..difference }
 }
 

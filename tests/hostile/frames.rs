@@ -1,13 +1,13 @@
-//! The kinds of frames (document 01, "Frames"; document 02, W-204, W-205 and W-207) and an hour's readings.
+//! The kinds of frames (document 01, "Frames"; document 02, W-204, W-205, W-207 and W-212) and an hour's readings.
 
-use crate::trees::tree;
+use crate::trees::soil_most;
 use std::ops::{Index, IndexMut};
 
-/// The newest kind that the program under test knows: 3 is document 01's, 4 that of W-204, 5 that of W-205, 6 that of W-207.
-pub const NEWEST: i64 = 6;
+/// The newest kind that the program under test knows: 3 is document 01's, 4 that of W-204, 5 that of W-205, 6 that of W-207, 7 that of W-212.
+pub const NEWEST: i64 = 7;
 
 /// Each kind and its digits.
-const FRAMES: [(i64, usize); 6] = [(1, 20), (2, 36), (3, 6), (4, 40), (5, 36), (6, 6)];
+const FRAMES: [(i64, usize); 7] = [(1, 20), (2, 36), (3, 6), (4, 40), (5, 36), (6, 6), (7, 66)];
 
 /// The kinds up to the newest, with their digits.
 pub fn frames(newest: i64) -> Vec<(i64, usize)> {
@@ -94,6 +94,17 @@ impl IndexMut<usize> for Readings {
     }
 }
 
+/// Whether the line has the length and the kind of an hour frame, its line feed left out.
+pub fn is_hour(line: &[u8]) -> bool {
+    let digits = line.strip_suffix(b"\n").unwrap_or(line);
+    HOUR_KINDS.iter().any(|&kind| digits.len() == 8 + 4 * readings_of(kind) && digits.starts_with(format!("{kind:02X}").as_bytes()))
+}
+
+/// Where the ceiling's line stands among the first ones of a text, if there is one.
+pub fn ceiling_at<L: AsRef<[u8]>>(lines: &[L]) -> Option<usize> {
+    lines.iter().take(3).position(|line| line.as_ref().starts_with(b"06"))
+}
+
 /// How many readings an hour frame of a kind has.
 pub fn readings_of(kind: i64) -> usize {
     if kind == 4 { 8 } else { 7 }
@@ -109,7 +120,7 @@ pub fn range(number: i64, kind: i64, reading: usize) -> (i64, i64) {
         HUMIDITY if kind == 5 => (0, 1000),
         VPD => (0, 10000),
         WIND => (0, 6000),
-        SOIL => (0, tree(number).soil_most),
+        SOIL => (0, soil_most(number)),
         _ => (5000, 11000),
     }
 }

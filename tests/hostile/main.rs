@@ -5,9 +5,9 @@
 //!
 //! Written from documents 01 and 02 alone, with an account of its own in doubles. Each text's answer is compared: refusals byte for byte; hours,
 //! counted hours and both AOT40 figures equal; the doses with missing ozone read as 0 and as the ceiling between lower and upper; these no more than
-//! 4 nmol m⁻² apart for each counted hour with ozone and 800000 for each without; the verdict by its rule; the same of each month touched, without a
-//! verdict; and the months' five figures add up to the season's. A season that lacks ozone is filled with 0, with the ceiling and by chance, and each
-//! filling held to what was printed for it (fillings.rs).
+//! 4 nmol m⁻² apart for each counted hour with ozone and 800000 for each without (tree 7: 40 and 1500000); the verdict by its rule; the same of each
+//! month touched, without a verdict; and the months' five figures add up to the season's. A season that lacks ozone is filled with 0, with the ceiling
+//! and by chance, and each filling held to what was printed for it (fillings.rs).
 //! Which kinds of frames the program knows is NEWEST in frames.rs.
 //! At the first difference it prints the smallest text that it can cut the case down to, and exits with 1. PROGRAM is target/bin/pod1 of the
 //! repository where none is named.
@@ -20,6 +20,7 @@ mod damage;
 mod dose;
 mod fillings;
 mod frames;
+mod parameters;
 mod program;
 mod rng;
 mod season;

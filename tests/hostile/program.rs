@@ -3,6 +3,7 @@
 use crate::account::{answer, Answer, Figures, Month, Sums};
 use crate::fillings;
 use crate::frames::NEWEST;
+use crate::parameters::MEASURED;
 use std::io::{Read, Write};
 use std::path::Path;
 use std::process::{Child, Command, Stdio};
@@ -12,8 +13,6 @@ use std::time::Duration;
 
 /// How far a double dose may lie outside lower and upper, nmol m⁻².
 pub const SLACK: f64 = 0.01;
-/// What an hour adds at most, nmol m⁻² (row 13).
-const MOST_HOUR: i64 = if NEWEST < 4 { 600_000 } else { 800_000 };
 const LONGEST_RUN: Duration = Duration::from_secs(10);
 /// No more of what it prints is read.
 const MOST_PRINTED: u64 = 4096;
@@ -65,6 +64,14 @@ fn summary(printed: &[u8]) -> String {
 
 // ---- the comparison
 
+/// What an hour adds at most, nmol m⁻² (row 13), and how far apart its two numbers may be, by the tree.
+fn limits(tree: i64) -> (i64, i64) {
+    match tree {
+        MEASURED => (1_500_000, 40),
+        _ => (if NEWEST < 4 { 600_000 } else { 800_000 }, 4),
+    }
+}
+
 /// Why the printed lines are wrong, if they are.
 fn wrong(expected: &Answer, printed: &[u8]) -> Option<String> {
     match expected {
@@ -83,7 +90,7 @@ fn wrong_season(figures: &Figures, months: &[Month], printed: &[u8]) -> Option<S
     if hours != figures.hours {
         return Some("hours is another".into());
     }
-    if let Some(why) = wrong_sums(&figures.sums, sums) {
+    if let Some(why) = wrong_sums(figures.tree, &figures.sums, sums) {
         return Some(why.into());
     }
     let [counted, lower, upper, least, most] = sums;
@@ -91,17 +98,17 @@ fn wrong_season(figures: &Figures, months: &[Month], printed: &[u8]) -> Option<S
     if line != right.as_bytes() {
         return Some(format!("the line is {right:?}"));
     }
-    wrong_months(months, &lines.collect::<Vec<_>>(), sums)
+    wrong_months(figures.tree, months, &lines.collect::<Vec<_>>(), sums)
 }
 
 /// A line for each month touched and no other, in order; added up they are the season's five figures.
-fn wrong_months(months: &[Month], lines: &[&[u8]], season: [i64; 5]) -> Option<String> {
+fn wrong_months(tree: i64, months: &[Month], lines: &[&[u8]], season: [i64; 5]) -> Option<String> {
     if lines.len() != months.len() {
         return Some(format!("{} months are touched, {} lines follow", months.len(), lines.len()));
     }
     let mut added = [0; 5];
     for (month, line) in months.iter().zip(lines) {
-        match month_figures(month, line) {
+        match month_figures(tree, month, line) {
             Ok(sums) => (0..5).for_each(|at| added[at] += sums[at]),
             Err(why) => return Some(format!("month {}: {why}", month.number)),
         }
@@ -110,12 +117,12 @@ fn wrong_months(months: &[Month], lines: &[&[u8]], season: [i64; 5]) -> Option<S
 }
 
 /// The five figures of a month's line, or why it is wrong.
-fn month_figures(month: &Month, line: &[u8]) -> Result<[i64; 5], String> {
+fn month_figures(tree: i64, month: &Month, line: &[u8]) -> Result<[i64; 5], String> {
     let [number, sums @ ..] = numbers(line.strip_suffix(b"\n").unwrap_or(line)).ok_or("no line of six numbers")?;
     if number != month.number {
         return Err("number is another".into());
     }
-    if let Some(why) = wrong_sums(&month.sums, sums) {
+    if let Some(why) = wrong_sums(tree, &month.sums, sums) {
         return Err(why.into());
     }
     let [counted, lower, upper, least, most] = sums;
@@ -123,7 +130,7 @@ fn month_figures(month: &Month, line: &[u8]) -> Result<[i64; 5], String> {
     if line == right.as_bytes() { Ok(sums) } else { Err(format!("the line is {right:?}")) }
 }
 
-fn wrong_sums(sums: &Sums, [counted, lower, upper, least, most]: [i64; 5]) -> Option<&'static str> {
+fn wrong_sums(tree: i64, sums: &Sums, [counted, lower, upper, least, most]: [i64; 5]) -> Option<&'static str> {
     if (counted, [least, most]) != (sums.counted, sums.aot40) {
         return Some("counted or AOT40 is another");
     }
@@ -131,8 +138,9 @@ fn wrong_sums(sums: &Sums, [counted, lower, upper, least, most]: [i64; 5]) -> Op
     if low < lower as f64 - SLACK || high > upper as f64 + SLACK {
         return Some("a dose is not between lower and upper");
     }
-    let gap = 4 * (counted - missing) + MOST_HOUR * missing;
-    let is_apart = lower > upper || upper - lower > gap || upper > MOST_HOUR * counted;
+    let (most_hour, each) = limits(tree);
+    let gap = each * (counted - missing) + most_hour * missing;
+    let is_apart = lower > upper || upper - lower > gap || upper > most_hour * counted;
     is_apart.then_some("lower and upper are out of order, too far apart or too great")
 }
 

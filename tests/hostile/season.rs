@@ -3,8 +3,9 @@
 use crate::account::Header;
 use crate::dose::{hour_dose, saturation};
 use crate::frames::*;
+use crate::parameters::{any_parameters, MEASURED, PARAMETERS};
 use crate::rng::Rng;
-use crate::trees::tree;
+use crate::trees::{tree, Tree};
 
 pub struct Season {
     pub header: Header,
@@ -14,7 +15,7 @@ pub struct Season {
 }
 
 pub fn header_line(header: &Header) -> String {
-    let Header { tree, days, first, last, level } = *header;
+    let Header { tree, days, first, last, level, .. } = *header;
     let numbers: String = [days, first, last, level].map(pair).concat();
     format!("01{tree:02X}{numbers}")
 }
@@ -50,11 +51,12 @@ impl Season {
 
     /// The place of an hour among the lines.
     pub fn line_of(&self, n: usize) -> usize {
-        n + if self.ceiling > 0 { 2 } else { 1 }
+        n + 1 + self.header.own.is_some() as usize + (self.ceiling > 0) as usize
     }
 
     pub fn lines(&self) -> Vec<Vec<u8>> {
         let mut lines = vec![header_line(&self.header)];
+        lines.extend(self.header.own.map(|own| own.line()));
         if self.ceiling > 0 {
             lines.push(ceiling_line(self.ceiling));
         }
@@ -67,9 +69,9 @@ impl Season {
 
     /// What an hour adds to the dose, a missing ozone read as a number.
     fn dose_of(&self, n: usize, readings: &Readings, missing: i64) -> f64 {
-        let Header { tree, first, last, .. } = self.header;
+        let Header { first, last, .. } = self.header;
         if readings.is_counted() {
-            hour_dose(tree, first, last, self.day(n), &readings.filled(missing))
+            hour_dose(&self.header.of(), first, last, self.day(n), &readings.filled(missing))
         } else {
             0.0
         }
@@ -89,9 +91,18 @@ pub fn any_kind(rng: &mut Rng) -> i64 {
 
 // ---- periods
 
+/// The trees that are known.
+pub const TREES: u64 = if NEWEST < PARAMETERS { 6 } else { 7 };
+
 /// A tree; those without ramps, whose seasons may be short, more often.
 pub fn any_tree(rng: &mut Rng) -> i64 {
-    rng.pick(&[1, 2, 3, 3, 3, 3, 4, 5, 6, 6, 6, 6])
+    let any = rng.pick(&[1, 2, 3, 3, 3, 3, 4, 5, 6, 6, 6, 6]);
+    if NEWEST >= PARAMETERS && rng.one_in(4) { MEASURED } else { any }
+}
+
+/// A tree that needs no ramps.
+pub fn any_short_tree(rng: &mut Rng) -> i64 {
+    if NEWEST < PARAMETERS { rng.pick(&[3, 6]) } else { rng.pick(&[3, 6, MEASURED]) }
 }
 
 pub fn any_level(rng: &mut Rng) -> i64 {
@@ -108,13 +119,23 @@ pub fn period(rng: &mut Rng, tree: i64, length: i64) -> Header {
     let days = rng.between(365, 366);
     let latest = days - length + 1;
     let first = if rng.one_in(6) { rng.pick(&[1, latest]) } else { rng.between(1, latest) };
-    Header { tree, days, first, last: first + length - 1, level: any_level(rng) }
+    let header = Header { tree, days, first, last: first + length - 1, level: any_level(rng), own: None };
+    with_own(rng, header)
+}
+
+/// The header of tree 7 with parameters whose ramps fit the period.
+pub fn with_own(rng: &mut Rng, mut header: Header) -> Header {
+    if header.tree == MEASURED {
+        header.own = Some(any_parameters(rng, header.last - header.first));
+    }
+    header
 }
 
 /// As short as the tree allows, or a day or two more.
 pub fn short_period(rng: &mut Rng, number: i64) -> Header {
     let more = rng.pick(&[0, 0, 0, 1, 2]);
-    period(rng, number, tree(number).fewest_days() + more)
+    let fewest = if number == MEASURED { rng.pick(&[1, 1, 1, 2, 6]) } else { tree(number).fewest_days() };
+    period(rng, number, fewest + more)
 }
 
 // ---- weather
@@ -128,8 +149,8 @@ struct Climate {
     dryness: f64,
 }
 
-fn climate(rng: &mut Rng, number: i64) -> Climate {
-    let warmth = [9.0, 11.0, 13.0, 14.0, 16.0, 19.0][number as usize - 1];
+fn climate(rng: &mut Rng, of: &Tree) -> Climate {
+    let warmth = [9.0, 11.0, 13.0, 14.0, 16.0, 19.0].get(of.number as usize - 1).copied().unwrap_or((of.temperature[1] / 10) as f64);
     Climate {
         warmth: warmth + 6.0 * rng.unit() - 3.0,
         clouds: 0.2 + 0.8 * rng.unit(),
@@ -153,7 +174,7 @@ fn pressure(climate: &Climate, day: i64) -> f64 {
     10000.0 - 200.0 * (22.0 - climate.warmth) + 120.0 * (day as f64 / 3.0).sin()
 }
 
-fn weather(rng: &mut Rng, kind: i64, climate: &Climate, number: i64, day: i64, hour: i64) -> Readings {
+fn weather(rng: &mut Rng, kind: i64, climate: &Climate, of: &Tree, day: i64, hour: i64) -> Readings {
     let sun = sun(day, hour);
     let light = sun * climate.clouds * (0.7 + 0.3 * rng.unit());
     let summer = -(std::f64::consts::TAU * (day - 20) as f64 / 365.0).cos();
@@ -162,10 +183,10 @@ fn weather(rng: &mut Rng, kind: i64, climate: &Climate, number: i64, day: i64, h
     let moisture = if kind == 5 { 1000.0 * (1.0 - dryness) } else { saturation(degrees) * dryness };
     let ozone = climate.ozone * (0.6 + 0.7 * sun + 0.1 * rng.unit());
     let wind = climate.wind * (0.3 + sun + rng.unit());
-    let edges = tree(number).soil;
+    let edges = of.soil;
     let soil = edges[0] as f64 + (edges[1] - edges[0]) as f64 * (1.4 * climate.dryness - 0.3 + 0.05 * rng.unit());
     let exact = [ozone, 2000.0 * light, 1000.0 * light, 10.0 * degrees, moisture, wind, soil, pressure(climate, day)];
-    Readings { kind, values: exact.map(|value| value.round() as i64) }.as_kind(number, kind)
+    Readings { kind, values: exact.map(|value| value.round() as i64) }.as_kind(of.number, kind)
 }
 
 /// Plausible weather over a period, in hours of any kind.
@@ -176,8 +197,9 @@ pub fn plausible(rng: &mut Rng, header: Header) -> Season {
 
 /// The same in hours of the kind, now and then with a ceiling.
 pub fn plausible_in(rng: &mut Rng, kind: i64, header: Header) -> Season {
-    let climate = climate(rng, header.tree);
-    let hours = (0..header.hours()).map(|n| weather(rng, kind, &climate, header.tree, header.first + n / 24, n % 24)).collect();
+    let of = header.of();
+    let climate = climate(rng, &of);
+    let hours = (0..header.hours()).map(|n| weather(rng, kind, &climate, &of, header.first + n / 24, n % 24)).collect();
     let mut season = Season { header, ceiling: 0, hours };
     if NEWEST >= CEILING && rng.one_in(3) {
         lose_ozone(rng, &mut season);
@@ -206,8 +228,7 @@ pub fn any_ceiling(rng: &mut Rng) -> i64 {
 // ---- corners
 
 /// The values around which one of an hour's readings changes its meaning.
-fn edges(number: i64, readings: &Readings, reading: usize) -> Vec<i64> {
-    let of = tree(number);
+fn edges(of: &Tree, readings: &Readings, reading: usize) -> Vec<i64> {
     match reading {
         OZONE => vec![400],
         RADIATION => vec![50],
@@ -226,9 +247,9 @@ pub fn humidity(temperature: i64, pascal: f64) -> i64 {
 }
 
 /// A value at most one from an edge or from an end of the range, within the range.
-fn corner(rng: &mut Rng, number: i64, readings: &Readings, reading: usize) -> i64 {
-    let (least, most) = range(number, readings.kind, reading);
-    let edges = edges(number, readings, reading);
+fn corner(rng: &mut Rng, of: &Tree, readings: &Readings, reading: usize) -> i64 {
+    let (least, most) = range(of.number, readings.kind, reading);
+    let edges = edges(of, readings, reading);
     if edges.is_empty() || rng.one_in(2) {
         return rng.pick(&[least, least + 1, most - 1, most]);
     }
@@ -236,11 +257,11 @@ fn corner(rng: &mut Rng, number: i64, readings: &Readings, reading: usize) -> i6
 }
 
 /// Some of an hour's readings put to corners; a missing ozone stays missing.
-pub fn put_to_corners(rng: &mut Rng, number: i64, readings: &mut Readings) {
+pub fn put_to_corners(rng: &mut Rng, of: &Tree, readings: &mut Readings) {
     let often = rng.between(2, 7) as usize;
     for reading in readings.lacks_ozone() as usize..readings_of(readings.kind) {
         if rng.one_in(often) {
-            readings[reading] = corner(rng, number, readings, reading);
+            readings[reading] = corner(rng, of, readings, reading);
         }
     }
 }

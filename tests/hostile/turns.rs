@@ -4,9 +4,9 @@ use crate::account::Header;
 use crate::calendar::last_day;
 use crate::damage::{put, text, Lines};
 use crate::frames::*;
+use crate::parameters::*;
 use crate::rng::Rng;
 use crate::season::*;
-use crate::trees::tree;
 
 /// A header and its first hours, of any kind.
 fn opening(rng: &mut Rng, number: i64) -> (Season, Lines) {
@@ -20,7 +20,8 @@ fn opening_in(rng: &mut Rng, kind: i64, number: i64) -> (Season, Lines) {
     let mut season = plausible_in(rng, kind, Header { last: header.first, ..header });
     season.header = header;
     if rng.one_in(2) {
-        season.hours.iter_mut().for_each(|readings| put_to_corners(rng, number, readings));
+        let of = header.of();
+        season.hours.iter_mut().for_each(|readings| put_to_corners(rng, &of, readings));
     }
     let mut lines = season.lines();
     lines.truncate(season.line_of(rng.pick(&[1, 1, 2, 24])));
@@ -63,7 +64,7 @@ pub fn every_kind(rng: &mut Rng, turn: u64) -> Vec<u8> {
 
 /// Every reading of every kind and tree at both ends of its range and one past them.
 pub fn every_reading(rng: &mut Rng, turn: u64) -> Vec<u8> {
-    let (number, turn) = ((turn % 6 + 1) as i64, turn as usize / 6);
+    let (number, turn) = ((turn % TREES + 1) as i64, (turn / TREES) as usize);
     let (kind, turn) = (HOUR_KINDS[turn % HOUR_KINDS.len()], turn / HOUR_KINDS.len());
     let (reading, place) = (turn % readings_of(kind), turn / readings_of(kind) % 4);
     let (least, most) = range(number, kind, reading);
@@ -75,9 +76,9 @@ pub fn every_reading(rng: &mut Rng, turn: u64) -> Vec<u8> {
 
 /// Every field of every tree's header at its corners and one past them.
 pub fn every_field(rng: &mut Rng, turn: u64) -> Vec<u8> {
-    let number = turn % 6 + 1;
+    let number = turn % TREES + 1;
     let (season, mut lines) = opening(rng, number as i64);
-    let header = changed(&season.header, turn / 6);
+    let header = changed(&season.header, turn / TREES);
     lines[0] = header_line(&header).into_bytes();
     lines[season.line_of(0)] = hour_line(header.first, 0, &season.hours[0]).into_bytes();
     text(rng, &lines)
@@ -85,10 +86,10 @@ pub fn every_field(rng: &mut Rng, turn: u64) -> Vec<u8> {
 
 fn changed(header: &Header, turn: u64) -> Header {
     let mut new = *header;
-    let fewest = tree(header.tree).fewest_days();
-    match turn % 27 {
+    let fewest = header.fewest_days();
+    match turn % 28 {
         0 => new.tree = 0,
-        1 => new.tree = 7,
+        1 => new.tree = 8,
         2 => new.tree = 255,
         3 => new.tree += 128,
         4 => new.days = 364,
@@ -111,9 +112,10 @@ fn changed(header: &Header, turn: u64) -> Header {
         21 => new.level = 10001,
         22 => new.level = 0xFFFF,
         // two faults: the first row is given
-        23 => (new.tree, new.days) = (7, 364),
+        23 => (new.tree, new.days) = (8, 364),
         24 => (new.tree, new.first) = (0, 0),
         25 => (new.days, new.first) = (367, 0),
+        26 => new.tree = 7,
         _ => (new.first, new.level) = (0, 0),
     }
     new
@@ -121,13 +123,13 @@ fn changed(header: &Header, turn: u64) -> Header {
 
 /// Tmin, Topt, Tmax and their neighbours of every tree in one lit hour, the other readings such that the leaf takes up ozone.
 pub fn every_temperature(rng: &mut Rng, turn: u64) -> Vec<u8> {
-    let number = (turn % 6 + 1) as i64;
+    let number = (turn % TREES + 1) as i64;
     let header = short_period(rng, number);
     let mut season = plausible(rng, header);
     let day = rng.between(header.first, header.last);
     few_lit(rng, &mut season, &[day]);
-    let (of_three, off) = (turn / 6 % 3, (turn / 18 % 3) as i64 - 1);
-    let temperature = (tree(number).temperature[of_three as usize] + off).min(600);
+    let (of_three, off) = (turn / TREES % 3, (turn / TREES / 3 % 3) as i64 - 1);
+    let temperature = (header.of().temperature[of_three as usize] + off).min(600);
     for readings in season.hours.iter_mut().filter(|readings| readings.is_counted()) {
         readings[TEMPERATURE] = temperature;
         readings[OZONE] = rng.between(2000, 5000); // above 1 nmol m⁻² s⁻¹ even at f_min
@@ -150,12 +152,13 @@ pub fn every_bend(rng: &mut Rng, turn: u64) -> Vec<u8> {
 
 /// The days at which a ramp starts or ends, and their neighbours, of every tree with ramps.
 pub fn every_ramp(rng: &mut Rng, turn: u64) -> Vec<u8> {
-    let number = [1, 2, 4, 5][(turn % 4) as usize];
-    let header = short_period(rng, number);
+    let with_ramps: &[i64] = if NEWEST < PARAMETERS { &[1, 2, 4, 5] } else { &[1, 2, 4, 5, MEASURED] };
+    let (number, turn) = (with_ramps[turn as usize % with_ramps.len()], turn / with_ramps.len() as u64);
+    let header = if number == MEASURED { period(rng, number, 30) } else { short_period(rng, number) };
     let mut season = plausible(rng, header);
-    let ramps = tree(number).ramps;
+    let ramps = header.of().ramps;
     let bends = [header.first, header.first + ramps[0], header.last - ramps[1], header.last];
-    let day = bends[(turn / 4 % 4) as usize] + (turn / 16 % 3) as i64 - 1;
+    let day = bends[(turn % 4) as usize] + (turn / 4 % 3) as i64 - 1;
     few_lit(rng, &mut season, &[day.clamp(header.first, header.last)]);
     text(rng, &season.lines())
 }
@@ -164,10 +167,11 @@ pub fn every_ramp(rng: &mut Rng, turn: u64) -> Vec<u8> {
 pub fn every_border(rng: &mut Rng, turn: u64) -> Vec<u8> {
     let days = 365 + (turn % 2) as i64;
     let border = last_day(days, (turn / 2 % 12 + 1) as i64);
-    let tree = rng.pick(&[3, 6]);
+    let tree = any_short_tree(rng);
     let first = border + rng.between(-2, 1);
     let last = first + rng.between(0, 3);
-    let header = Header { tree, days, first: first.min(days), last: last.min(days), level: any_level(rng) };
+    let header = Header { tree, days, first: first.min(days), last: last.min(days), level: any_level(rng), own: None };
+    let header = with_own(rng, header);
     let mut season = plausible(rng, header);
     let days = [border, border + 1].map(|day| day.clamp(header.first, header.last));
     few_lit(rng, &mut season, &days);
@@ -179,7 +183,7 @@ pub fn every_mixture(rng: &mut Rng, turn: u64) -> Vec<u8> {
     let all = HOUR_KINDS.iter().flat_map(|&own| HOUR_KINDS.iter().map(move |&other| (own, other)));
     let pairs: Vec<(i64, i64)> = all.filter(|(own, other)| own != other).collect();
     let (own, other) = pairs[turn as usize % pairs.len()];
-    let number = rng.pick(&[3, 6]);
+    let number = any_short_tree(rng);
     let header = short_period(rng, number);
     let season = plausible_in(rng, own, header);
     let mut lines = season.lines();
@@ -217,24 +221,26 @@ fn faulty(season: &Season, n: usize, kind: i64, fault: usize) -> Vec<u8> {
 /// Every tenth of a degree in hours of kind 05, with a humidity at which the deficit lies between the tree's two edges, where one does.
 pub fn every_tenth(rng: &mut Rng, turn: u64) -> Vec<u8> {
     let temperature = (turn % 1101) as i64 - 500;
-    let number = rng.pick(&[1, 2, 3, 6]);
+    let some = rng.pick(&[1, 2, 3, 6]);
+    let number = if NEWEST >= PARAMETERS && rng.one_in(3) { MEASURED } else { some };
     let header = short_period(rng, number);
     let mut season = plausible_in(rng, 5, header);
     let day = rng.between(header.first, header.last);
     few_lit(rng, &mut season, &[day]);
-    let [best, worst] = tree(number).vpd;
+    let of = header.of();
+    let [best, worst] = of.vpd;
     for readings in season.hours.iter_mut().filter(|readings| readings.is_counted()) {
         readings[TEMPERATURE] = temperature;
         readings[HUMIDITY] = humidity(temperature, rng.between(best, worst) as f64).max(0);
         readings[OZONE] = rng.between(2000, 5000);
-        readings[SOIL] = tree(number).soil[0];
+        readings[SOIL] = of.soil[0];
     }
     text(rng, &season.lines())
 }
 
-/// A season of the trees without ramps, all its ozone read and no ceiling.
+/// A season of the trees that need no ramps, all its ozone read and no ceiling.
 fn whole_ozone(rng: &mut Rng) -> Season {
-    let number = rng.pick(&[3, 6]);
+    let number = any_short_tree(rng);
     let header = short_period(rng, number);
     let mut season = plausible(rng, header);
     season.ceiling = 0;
@@ -259,11 +265,12 @@ pub fn every_ceiling(rng: &mut Rng, turn: u64) -> Vec<u8> {
     }
     let mut lines = season.lines();
     let end = lines.len() - 1;
+    let own = season.header.own.is_some() as usize;
     let at = match place {
-        0..=3 => 1,
+        0..=3 => 1 + own,
         4 => rng.between(2, lines.len() as i64) as usize,
         5 => 0,
-        6 => 2,
+        6 => 2 - own, // before the parameters, where there are any
         7 => rng.between(2, end as i64) as usize,
         8 => end,
         _ => end + 1,
@@ -304,4 +311,52 @@ pub fn every_gap(rng: &mut Rng, turn: u64) -> Vec<u8> {
 /// Another hour kind.
 fn other_than(kind: i64) -> i64 {
     HOUR_KINDS.iter().copied().find(|&other| other != kind).unwrap_or(kind)
+}
+
+/// Every parameter at both ends of its range and one past them, or where two bytes end: rows 24 and 7.
+pub fn every_parameter(rng: &mut Rng, turn: u64) -> Vec<u8> {
+    let (at, place) = (turn as usize % 16, turn as usize / 16 % 6);
+    let (least, most) = RANGES[at];
+    let header = short_period(rng, MEASURED);
+    let mut season = plausible(rng, header);
+    if let Some(own) = &mut season.header.own {
+        own.numbers[at] = [least, most, least - 1, most + 1, 0x7FFF, 0x8000][place];
+        make_room(&mut own.numbers, at);
+    }
+    few_lit(rng, &mut season, &[header.first, header.last]);
+    text(rng, &season.lines())
+}
+
+/// Moves the other numbers of a rising pair or three so that they rise with one of them, where they can.
+fn make_room(numbers: &mut [i64; 16], at: usize) {
+    let n = numbers[at];
+    match at {
+        TMIN => (numbers[TOPT], numbers[TMAX]) = (n + 1, n + 2),
+        TOPT => (numbers[TMIN], numbers[TMAX]) = (n - 1, n + 1),
+        TMAX => (numbers[TMIN], numbers[TOPT]) = (n - 2, n - 1),
+        VPD_MAX | SOIL_MAX => numbers[at + 1] = n + 1,
+        _ if at == VPD_MAX + 1 || at == SOIL_MAX + 1 => numbers[at - 1] = n - 1,
+        _ => {}
+    }
+}
+
+/// Parameters in every place, sound, broken or with ramps too long, once and twice, with a ceiling and without; for tree 7 and for others: row 4 comes before rows
+/// 24 and 7.
+pub fn every_place(rng: &mut Rng, turn: u64) -> Vec<u8> {
+    let number = [MEASURED, MEASURED, 3, 6][turn as usize % 4];
+    let header = short_period(rng, number);
+    let days = header.last - header.first;
+    let sound = header.own.unwrap_or_else(|| any_parameters(rng, days));
+    let mut long = sound;
+    long.numbers[F1] = days + 1 - long.numbers[F4];
+    let parameters = [sound, broken(rng, &sound), long][turn as usize / 4 % 3];
+    let mut season = plausible(rng, header);
+    if turn / 12 % 2 == 0 {
+        season.header.own = None; // those put in below are the only ones
+    }
+    let mut lines = season.lines();
+    let end = lines.len() - 1;
+    let places = [0, 1, 2, 3, rng.below(end), end, end + 1];
+    lines.insert(places[turn as usize / 24 % places.len()], parameters.line().into_bytes());
+    text(rng, &lines)
 }

@@ -8,7 +8,7 @@ use std::path::{Path, PathBuf};
 const SLACK: (f64, f64) = (1e-6, 1e-12);
 
 /// The folders of the requests, each with the newest kind that its texts were answered for.
-const FOLDERS: [(&str, i64); 3] = [("W-204", 4), ("W-205", 5), ("W-207", 6)];
+const FOLDERS: [(&str, i64); 4] = [("W-204", 4), ("W-205", 5), ("W-207", 6), ("W-212", 7)];
 
 /// Holds the account to every text; what was held, or the first text whose answer is another.
 pub fn hold(folder: &Path) -> Result<String, String> {
@@ -63,7 +63,7 @@ fn differs(found: &Answer, expected: &str) -> Option<String> {
 
 /// `hours counted dose AOT40 level LEVEL`, or in a request's folder `hours counted missing LOW HIGH AOT40LOW AOT40HIGH level LEVEL`.
 fn season_differs(figures: &Figures, expected: &str) -> Option<String> {
-    let Figures { hours, sums, level } = figures;
+    let Figures { hours, sums, level, .. } = figures;
     let words: Vec<&str> = expected.split(' ').collect();
     let (exact, right) = match words.len() {
         6 => ([words[2]; 2], format!("{hours} {} {} {} level {level}", sums.counted, words[2], sums.aot40[0])),

@@ -4,14 +4,13 @@ use mathlib.Core.Path.{_≡_, refl, sym, ap, _∙_}
 use mathlib.Core.Bool.{true, false, cond}
 use native.Mathlib.Nat.{add-zero}
 use Rattle.exact.specs.declared.Bounds.{Bounds}
-use Rattle.trees.specs.Figures.{figuresOf}
 use Rattle.records.specs.declared.Hour.{Hour}
 use Rattle.records.specs.declared.Refusal.{Refusal}
 use Rattle.records.specs.Ozone.{isMissing, readAs}
 use Rattle.records.specs.Answers.{accepted}
 use Rattle.records.proofs.AnswerLaws.{accepted-same, refused-not-accepted}
 use Rattle.flux_spec.specs.Dose.{isCounted, excess}
-use Rattle.flux_spec.specs.HourDose.{hourDoseOf, dosedAs}
+use Rattle.flux_spec.specs.HourDose.{treeOf, hourDoseOf, dosedAs}
 use Rattle.flux_spec.specs.declared.Dosed.{Dosed}
 use Rattle.flux_spec.proofs.HourDoseLaws.{stand-passed}
 use Rattle.account_spec.specs.declared.Season.{Season}
@@ -28,7 +27,7 @@ use Rattle.account_spec.proofs.HourLaws.{season-stand, dosable-stand}
 
 module _
     (season : Season) (h : Hour) (dosable : Dosable season h) (counted : isCounted h ≡ true) (d : Dosed)
-    (dosed : dosedAs d ≡ hourDoseOf (figuresOf (season .header .tree)) (season .header .first) (season .header .last) (season .ceiling) h)
+    (dosed : dosedAs d ≡ hourDoseOf (treeOf (season .parameters) (season .header .tree)) (season .header .first) (season .header .last) (season .ceiling) h)
   where
     dose-is : dosedAs d ≡ accepted (pairOf (standIn season) noneCarried h)
     unfolding hourDoseOf pairOf

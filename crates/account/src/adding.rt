@@ -11,6 +11,7 @@ use frames::Ceiling;
 use frames::Header;
 use frames::Hour;
 use frames::Ozone;
+use frames::Parameters;
 use frames::Record;
 ghost use Prim.Native.Nat.{_-_, _<_};
 ghost use mathlib.Core.Path.{_≡_};
@@ -19,7 +20,7 @@ ghost use Rattle.records.specs.Ozone.{isMissing, readAs};
 ghost use Rattle.flux_spec.specs.Dose.{isCounted, excess};
 ghost use Rattle.account_spec.specs.HourKinds.{hourKind};
 ghost use Rattle.account_spec.specs.Hours.{standIn, noneCarried, pairOf};
-ghost use Rattle.account_spec.specs.Rules.{opened, withHour, ended, ceilingEntered, entered};
+ghost use Rattle.account_spec.specs.Rules.{opened, withHour, ended, ceilingEntered, parametersEntered, entered};
 ghost use Rattle.account_spec.specs.Steps.{Dosable, RecordDosable, Room};
 
 // The pair of a counted hour; `hour_dose` refuses none that the rows let in.
@@ -29,7 +30,15 @@ fn pair_of(season: Season, h: Hour) -> Bounds
     ensures { λ r. ⌜ r ≡ pairOf (standIn season) noneCarried h ⌝ }
 {
     let header = season.header;
-    let dose = flux::hour_dose(header.tree, header.first, header.last, season.ceiling, h);
+    let parameters = season.parameters;
+    let dose = flux::hour_dose(
+        header.tree,
+        parameters,
+        header.first,
+        header.last,
+        season.ceiling,
+        h,
+    );
     match dose {
         Dosed::Pair(pair) => pair,
         Dosed::Refused(_) => Bounds { lower: 0, upper: 0 },
@@ -97,6 +106,7 @@ fn open(header: Header) -> Account
         season: Season {
             header: header,
             ceiling: 0,
+            parameters: measured::no_parameters(),
         },
         kind: HourKind::None,
         sums: Sums {
@@ -171,6 +181,22 @@ fn set_ceiling(a: Account, c: Ceiling) -> Account
     }
 }
 
+fn set_parameters(a: Account, p: Parameters) -> Account
+    ensures { λ r. ⌜ r ≡ parametersEntered a p ⌝ }
+{
+    let phase = a.phase;
+    let mut season = a.season;
+    season.parameters = p;
+    let kind = a.kind;
+    let sums = a.sums;
+    Account {
+        phase: phase,
+        season: season,
+        kind: kind,
+        sums: sums,
+    }
+}
+
 pub(crate) fn enter(a: Account, record: Record) -> Account
     requires room { ⌜ Room a ⌝ }
     requires dosable { ⌜ RecordDosable (a .season) «record» ⌝ }
@@ -181,5 +207,6 @@ pub(crate) fn enter(a: Account, record: Record) -> Account
         Record::Hour(h) => add_hour(a, h),
         Record::End(_) => end(a),
         Record::Ceiling(c) => set_ceiling(a, c),
+        Record::Parameters(p) => set_parameters(a, p),
     }
 }

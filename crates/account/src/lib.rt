@@ -28,7 +28,7 @@ ghost use Rattle.account_spec.specs.Rules.{stateOf, feedFrameOf, unreadRow, Ans
 ghost use Rattle.account_spec.specs.Promise.{SeasonPromise};
 ghost use Rattle.filling_spec.specs.Promise.{FillingPromise};
 
-// An account before its season: header fields, ceiling and sums 0.
+// An account before its season: header fields, ceiling, parameters and sums 0.
 pub fn fresh() -> Account
     ensures { λ r. ⌜ r ≡ freshAccount ⌝ }
     ensures season { λ _. ⌜ SeasonPromise ⌝ }
@@ -45,6 +45,7 @@ pub fn fresh() -> Account
                 level: 0,
             },
             ceiling: 0,
+            parameters: measured::no_parameters(),
         },
         kind: HourKind::None,
         sums: Sums {
@@ -74,7 +75,7 @@ fn state_of(account: Account) -> State
     }
 }
 
-// The next account of one that takes a frame, which rows 1 to 3 let pass: row 13 first, then rows 4 to 11, 15, 17 and 18.
+// The next account of one that takes a frame, which rows 1 to 3 let pass: row 13 first, then rows 4 to 11, 15, 17, 18 and 24.
 pub fn feed_frame(account: Account, frame: Raw) -> Fed
     ensures { λ r. ⌜ Answers account (feedFrameOf account frame) r ⌝ }
 {
@@ -112,7 +113,7 @@ pub fn refused_by(account: Account, refusal: Refusal) -> Refusal
     refusal
 }
 
-// The next account of one that takes a line: row 13 first, then rows 1 to 11, 15, 17 and 18.
+// The next account of one that takes a line: row 13 first, then rows 1 to 11, 15, 17, 18 and 24.
 pub fn feed(account: Account, line: &[u8]) -> Fed
     ensures { λ r. ⌜ Feeds account (now (line .entry)) r ⌝ }
 {

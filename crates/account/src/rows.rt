@@ -1,6 +1,7 @@
-// Rows 4 to 11, 15, 17 and 18 for a state: phase, season, kind and number of hours accepted so far (document 01, "Turned-back lines").
+// Rows 4 to 11, 15, 17, 18 and 24 for a state: phase, season, kind and number of hours accepted so far (document 01, "Turned-back lines").
 use crate::Phase;
 use account_spec::HourKind;
+use account_spec::Season;
 use account_spec::State;
 use frames::Air;
 use frames::Decoded;
@@ -9,7 +10,7 @@ use frames::RawHour;
 use frames::Refusal;
 ghost use mathlib.Core.Path.{_≡_};
 ghost use Rattle.records.specs.Answers.{decodedAs};
-ghost use Rattle.account_spec.specs.Account.{phaseNumber};
+ghost use Rattle.account_spec.specs.Account.{phaseNumber, awaits};
 ghost use Rattle.account_spec.specs.HourKinds.{kindNumber, isMixed};
 ghost use Rattle.account_spec.specs.Rules.{ceilingLate, turnIn, outOfTurn, isDue, countWrong, dueOf, turnOf};
 ghost use Rattle.account_spec.specs.Steps.{refusalIn};
@@ -22,9 +23,21 @@ fn ceiling_late(s: State) -> bool
     (season.ceiling != 0) | (s.hours != 0)
 }
 
-// Row 4: second header; hour or end when fresh; any when closed; ceiling out of turn.
-fn turn_in(phase: Phase, late: bool, frame: Raw) -> bool
-    ensures { λ r. ⌜ r ≡ turnIn phase late frame ⌝ }
+// Tree 7, and its parameters are still to come.
+fn awaited(season: Season) -> bool
+    ensures { λ r. ⌜ r ≡ awaits season ⌝ }
+{
+    let header = season.header;
+    if header.tree == 7 {
+        let parameters = season.parameters;
+        return !measured::is_fed(parameters);
+    }
+    false
+}
+
+// Row 4: second header; hour or end when fresh; any when closed; ceiling out of turn; parameters where they are not awaited, any other frame where they are.
+fn turn_in(phase: Phase, awaited: bool, late: bool, frame: Raw) -> bool
+    ensures { λ r. ⌜ r ≡ turnIn phase awaited late frame ⌝ }
 {
     match phase {
         Phase::Fresh => match frame {
@@ -32,12 +45,14 @@ fn turn_in(phase: Phase, late: bool, frame: Raw) -> bool
             Raw::Hour(_) => true,
             Raw::End(_) => true,
             Raw::Ceiling(_) => true,
+            Raw::Parameters(_) => true,
         },
         Phase::Open => match frame {
             Raw::Header(_) => true,
-            Raw::Hour(_) => false,
-            Raw::End(_) => false,
-            Raw::Ceiling(_) => late,
+            Raw::Hour(_) => awaited,
+            Raw::End(_) => awaited,
+            Raw::Ceiling(_) => awaited | late,
+            Raw::Parameters(_) => !awaited,
         },
         Phase::Closed => true,
     }
@@ -47,7 +62,8 @@ fn out_of_turn(s: State, frame: Raw) -> bool
     ensures { λ r. ⌜ r ≡ outOfTurn s frame ⌝ }
 {
     let phase = s.phase;
-    turn_in(phase, ceiling_late(s), frame)
+    let season = s.season;
+    turn_in(phase, awaited(season), ceiling_late(s), frame)
 }
 
 // The kind of the season's hour frames, 0 before the first.
@@ -111,7 +127,7 @@ fn count_wrong(s: State, count: u16) -> bool
     !records::all_given(header, s.hours)
 }
 
-// Rows 5 to 8 of a header, 15, 9, 18 and 10 of an hour, 11 of an end, 17 of a ceiling. `record_of` is called at one place, where the compiler then writes it out.
+// Rows 5 to 8 of a header, 15, 9, 18 and 10 of an hour, 11 of an end, 17 of a ceiling, 24 and 7 of parameters. `record_of` is called at one place, where the compiler then writes it out.
 fn by_kind(s: State, frame: Raw) -> Decoded
     ensures { λ r. ⌜ decodedAs r ≡ dueOf s frame ⌝ }
 {
@@ -137,6 +153,15 @@ fn by_kind(s: State, frame: Raw) -> Decoded
             }
         },
         Raw::Ceiling(_) => {},
+        Raw::Parameters(parameters) => {
+            if records::parameters_out(parameters) {
+                return Decoded::Refused(Refusal::Parameter);
+            }
+            let header = s.season.header;
+            if records::ramps_out(header, parameters) {
+                return Decoded::Refused(Refusal::Period);
+            }
+        },
     }
     let season = s.season;
     let header = season.header;

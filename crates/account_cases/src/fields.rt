@@ -1,6 +1,6 @@
-// An account written as 84 capital hexadecimal digits:
+// An account written as 84 capital hexadecimal digits, and 64 more where it has parameters:
 // phase 1 (0 fresh, 1 open, 2 closed) | tree 2 | days 4 | first 4 | last 4 | level 4 | ceiling 4 | kind of its hours 1 (0 none) | hours 4 | counted 4 |
-// missing 4 | lower 16 | upper 16 | least 8 | most 8
+// missing 4 | lower 16 | upper 16 | least 8 | most 8 | the sixteen parameters 4 each, in the order of their frame
 use account::Account;
 use account::HourKind;
 use account::Phase;
@@ -11,6 +11,7 @@ use cases::u16_at;
 use cases::u32_at;
 use cases::u64_at;
 use frames::Header;
+use frames::Parameters;
 
 fn phase_of(c: u8) -> Phase {
     match c {
@@ -29,9 +30,31 @@ fn kind_of(c: u8) -> HourKind {
     }
 }
 
-// The fresh account for any other number of digits.
+// All 0 where their digits are left out.
+fn parameters_of(digits: &[u8]) -> Parameters {
+    Parameters {
+        gmax: u16_at(digits, 84),
+        fmin: u16_at(digits, 88),
+        lighta: u16_at(digits, 92),
+        tmin: u16_at(digits, 96),
+        topt: u16_at(digits, 100),
+        tmax: u16_at(digits, 104),
+        vpdmax: u16_at(digits, 108),
+        vpdmin: u16_at(digits, 112),
+        soilmax: u16_at(digits, 116),
+        soilmin: u16_at(digits, 120),
+        leaf: u16_at(digits, 124),
+        a: u16_at(digits, 128),
+        e: u16_at(digits, 132),
+        f1: u16_at(digits, 136),
+        f4: u16_at(digits, 140),
+        y: u16_at(digits, 144),
+    }
+}
+
+// The fresh account for fewer digits.
 pub(crate) fn account_of(digits: &[u8]) -> Account {
-    if digits.len() != 84 {
+    if digits.len() < 84 {
         return account::fresh();
     }
     let phase = phase_of(digits[0]);
@@ -52,9 +75,11 @@ pub(crate) fn account_of(digits: &[u8]) -> Account {
         counted: u16_at(digits, 28),
         missing: u16_at(digits, 32),
     };
+    let parameters = parameters_of(digits);
     let season = Season {
         header: header,
         ceiling: u16_at(digits, 19),
+        parameters: parameters,
     };
     Account {
         phase: phase,

@@ -9,22 +9,63 @@ use frames::Checked;
 ghost use Prim.Native.Nat.{_≤_};
 ghost use mathlib.Core.Path.{_≡_};
 ghost use mathlib.Core.Bool.{_&&_};
+ghost use Rattle.measured.specs.Parameters.{allZero};
 ghost use Rattle.account_spec.specs.HourKinds.{kindOut};
-ghost use Rattle.account_spec.specs.Account.{isBegun, isBroken, allZero, seasonNumbers, sumsNumbers, isBlank, anyOf, countsOut, dosesOut, aot40Out, sumsOut, impossible};
+ghost use Rattle.account_spec.specs.Account.{isBegun, parametersBroken, isBroken, unmeasuredIn, seasonNumbers, sumsNumbers, isBlank, anyOf, countsOut, dosesOut, aot40Out, sumsOut, impossible};
 
-// Rows 5 to 8 refuse the header, or row 17 the ceiling.
+// Parameters that rows 24 or 7 refuse, or of another tree.
+fn parameters_broken(season: Season) -> bool
+    ensures { λ r. ⌜ r ≡ parametersBroken season ⌝ }
+{
+    let parameters = season.parameters;
+    if !measured::is_fed(parameters) {
+        return false;
+    }
+    if !limits::is_measured(season) {
+        return true;
+    }
+    if records::parameters_out(parameters) {
+        return true;
+    }
+    let header = season.header;
+    records::ramps_out(header, parameters)
+}
+
+// Rows 5 to 8 refuse the header, row 17 the ceiling, or row 24 or 7 the parameters.
 fn broken(season: Season) -> bool
     ensures { λ r. ⌜ r ≡ isBroken season ⌝ }
 {
     let header = season.header;
     let answer = records::check_header(header);
-    match answer {
-        Checked::Sound => records::ceiling_out(season.ceiling),
-        Checked::Refused(_) => true,
+    if let Checked::Refused(_) = answer {
+        return true;
+    }
+    if records::ceiling_out(season.ceiling) {
+        return true;
+    }
+    parameters_broken(season)
+}
+
+// Tree 7 without parameters, and yet a kind, a ceiling or hours.
+fn unmeasured(season: Season, kind: HourKind, hours: u16) -> bool
+    ensures { λ r. ⌜ r ≡ unmeasuredIn season kind hours ⌝ }
+{
+    if !limits::is_measured(season) {
+        return false;
+    }
+    let parameters = season.parameters;
+    if measured::is_fed(parameters) {
+        return false;
+    }
+    match kind {
+        HourKind::None => (season.ceiling != 0) | (0 < hours),
+        HourKind::Deficit => true,
+        HourKind::Pressure => true,
+        HourKind::Humidity => true,
     }
 }
 
-// Open or closed with a header broken by rows 5 to 8, or a ceiling by row 17.
+// Open or closed with a header broken by rows 5 to 8, a ceiling by row 17, or parameters by row 24 or 7.
 fn begun_broken(phase: Phase, season: Season) -> bool
     ensures { λ r. ⌜ r ≡ (isBegun phase && isBroken season) ⌝ }
 {
@@ -37,6 +78,10 @@ fn begun_broken(phase: Phase, season: Season) -> bool
 fn blank_season(season: Season) -> bool
     ensures { λ r. ⌜ r ≡ allZero (seasonNumbers season) ⌝ }
 {
+    let parameters = season.parameters;
+    if measured::is_fed(parameters) {
+        return false;
+    }
     let h = season.header;
     (h.tree == 0)
         & (h.days == 0)
@@ -58,7 +103,7 @@ fn blank_sums(s: Sums) -> bool
         & (s.most == 0)
 }
 
-// Header fields, ceiling and sums 0.
+// Header fields, ceiling, parameters and sums 0.
 fn blank(a: Account) -> bool
     ensures { λ r. ⌜ r ≡ isBlank a ⌝ }
 {
@@ -129,7 +174,7 @@ fn kind_out(kind: HourKind, hours: u16) -> bool
     }
 }
 
-// Row 13: the account is one that no list of lines gives. The row is one condition of fourteen, in any order: with the sums first the account is not
+// Row 13: the account is one that no list of lines gives. The row is one condition of fifteen, in any order: with the sums first the account is not
 // copied before its test.
 pub fn impossible(a: Account) -> bool
     ensures { λ r. ⌜ r ≡ impossible a ⌝ }
@@ -142,6 +187,9 @@ pub fn impossible(a: Account) -> bool
     }
     let kind = a.kind;
     if kind_out(kind, sums.hours) {
+        return true;
+    }
+    if unmeasured(season, kind, sums.hours) {
         return true;
     }
     if begun_broken(phase, season) {

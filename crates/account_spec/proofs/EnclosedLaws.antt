@@ -1,27 +1,26 @@
 -- Sums that enclose doses and AOT40 enclose them added up; so do the sums of any hours in a row that row 10 lets pass, for every filling, from what those before
 -- them left.
 use Prim.Native.Nat.{ℕ, _+_, _-_, _*_, _≤_, max}
+use mathlib.Core.Bool.{Bool, true, false, cond}
 use mathlib.Core.Path.{_≡_, refl, sym, ap, subst, _∙_}
 use mathlib.Core.List.{List, [], _∷_, _++_}
 use native.Mathlib.Nat.{le-trans, mul-le-mul-right}
 use native.Mathlib.Omega.{arith}
 use Rattle.exact.specs.Frac.{Frac, _⊕_}
 use Rattle.exact.proofs.FracLaws.{≼-trans, ⊕-mono, ⊕-low, ⊕-high}
-use Rattle.trees.specs.declared.Choice.{Choice}
+use Rattle.trees.specs.declared.Figures.{Figures}
 use Rattle.trees.specs.Sound.{Sound}
-use Rattle.trees.specs.Figures.{figuresOf}
+use Rattle.records.specs.declared.Air.{Air}
 use Rattle.records.specs.declared.Hour.{Hour}
-use Rattle.records.specs.Answers.{Outcome, accepted}
+use Rattle.records.specs.Answers.{Outcome, accepted, refused, onward}
 use Rattle.records.specs.Ozone.{allReadAs, Fills, AllFill}
-use Rattle.records.specs.Ranges.{onTree}
 use Rattle.records.proofs.OzoneLaws.{read-is}
 use Rattle.flux_spec.specs.declared.Stand.{Stand}
-use Rattle.flux_spec.specs.HourDose.{standOf}
-use Rattle.flux_spec.specs.Enclosure.{gapMost}
-use Rattle.flux_spec.proofs.BudgetLaws.{mostDose-le}
+use Rattle.flux_spec.specs.HourDose.{treeOf, standOf}
+use Rattle.flux_spec.specs.Enclosure.{mostDose, gapMost}
 use Rattle.account_spec.specs.declared.Season.{Season}
 use Rattle.account_spec.specs.declared.Sums.{Sums}
-use Rattle.account_spec.specs.Limits.{mostHour, gapEach}
+use Rattle.account_spec.specs.Limits.{isMeasured, mostHour, gapEach}
 use Rattle.account_spec.specs.Hours.{noSums, plus, standIn, ceilingIn, Carried, carriedAfter, sumsOf, podOf}
 use Rattle.account_spec.specs.Enclosed.{AllChecked, AllMost, AllDosed, AllRead, gapHour, Encloses, SumsSized, HoursEnclosed}
 use Rattle.account_spec.specs.Book.{countedOf, excessOver}
@@ -69,10 +68,14 @@ sized-more {s = s} wide e = record {
 }
 
 -- within row 13's gap
+gap-wide : (seventh : Bool) → cond seventh 6 2 ≤ cond seventh 40 4
+gap-wide true = omega arith
+gap-wide false = omega arith
+
 pub sized-gap :
     (season : Season) {s : Sums} → SumsSized (gapHour season) (mostHour season) s →
     s .upper ≤ s .lower + (gapEach season * (s .counted - s .missing) + mostHour season * s .missing)
-sized-gap season e = let wide : gapHour season ≤ gapEach season = omega arith in sized-more wide e .gap
+sized-gap season e = sized-more (gap-wide (isMeasured season)) e .gap
 
 -- ---- hours in a row
 
@@ -127,9 +130,9 @@ all-checked season [] all = tt
 all-checked season (h ∷ hs) all = (all .0 .2, all-checked season hs (all .1))
 
 -- of every kind
-all-most : (gmax each : ℕ) (hs : List Hour) → 3000 * gmax ≤ each → AllMost gmax each hs
+all-most : (gmax each : ℕ) (hs : List Hour) → ((air : Air) → mostDose gmax air ≤ each) → AllMost gmax each hs
 all-most gmax each [] room = tt
-all-most gmax each (h ∷ hs) room = (le-trans (mostDose-le gmax (h .air)) room, all-most gmax each hs room)
+all-most gmax each (h ∷ hs) room = (room (h .air), all-most gmax each hs room)
 
 pub hours-enclosed :
     (season : Season) → season .ceiling ≤ 5000 → (c : Carried) (hs : List Hour) → AllDosed season hs →
@@ -140,10 +143,10 @@ hours-enclosed season few c [] all =
 hours-enclosed season few c (h ∷ hs) all =
     let stand = all .0 .0 in
     let own = season-stand season stand (all .0 .1) in
-    let most = all-most (stand .figures .gmax) (mostHour season) (h ∷ hs) (omega (arith, own .limited .gmax)) in
-    let e = list-enclosed stand (own .limited .sound) (omega (arith, own .ceiling)) (mostHour season) c (h ∷ hs) (all-checked season (h ∷ hs) all) most in
+    let most = all-most (stand .figures .gmax) (mostHour season) (h ∷ hs) (own .most) in
+    let e = list-enclosed stand (own .sound) (omega (arith, own .ceiling)) (mostHour season) c (h ∷ hs) (all-checked season (h ∷ hs) all) most in
     subst (λ (s : Outcome Stand). HoursEnclosed (gapHour season) (mostHour season) s c (h ∷ hs)) (sym (all .0 .1))
-    (hours-read _ _ (accepted stand) c (h ∷ hs) (e .filled) (sized-more (omega (arith, own .limited .gap)) (e .sized)))
+    (hours-read _ _ (accepted stand) c (h ∷ hs) (e .filled) (sized-more (omega (arith, own .gap)) (e .sized)))
 
 -- the season's ceiling is the stand's, where there are hours
 
@@ -159,14 +162,14 @@ pub season-read : (season : Season) (hs : List Hour) → AllDosed season hs → 
 season-read season [] all = refl
 season-read season (h ∷ hs) all = ap (λ (n : ℕ). allReadAs n (h ∷ hs)) (ceiling-is season h hs all)
 
-tree-few : (choice : Choice) (season : Season) → season .ceiling ≤ 5000 →
-    ceilingIn (onTree choice (λ f. accepted (standOf f (season .header .first) (season .header .last) (season .ceiling)))) ≤ 5000
-tree-few (Choice.Tree f) season few = few
-tree-few Choice.Unknown season few = omega arith
+tree-few : (tree : Outcome Figures) (season : Season) → season .ceiling ≤ 5000 →
+    ceilingIn (onward tree (λ f. accepted (standOf f (season .header .first) (season .header .last) (season .ceiling)))) ≤ 5000
+tree-few (accepted f) season few = few
+tree-few (refused w) season few = omega arith
 
 season-few : (season : Season) → season .ceiling ≤ 5000 → ceilingIn (standIn season) ≤ 5000
 unfolding standIn
-season-few season few = tree-few (figuresOf (season .header .tree)) season few
+season-few season few = tree-few (treeOf (season .parameters) (season .header .tree)) season few
 
 -- row 13 lets their sums pass
 pub hours-in :

@@ -8,26 +8,30 @@ use Rattle.exact.specs.declared.Bounds.{Bounds}
 use Rattle.exact.specs.Frac.{Frac, natural}
 use Rattle.exact.proofs.FracLaws.{≼-refl}
 use Rattle.trees.specs.Sound.{Sound}
-use Rattle.trees.specs.Figures.{figuresOf}
+use Rattle.trees.specs.declared.Figures.{Figures}
+use Rattle.trees.specs.declared.Choice.{Choice}
+use Rattle.measured.specs.Figures.{measuredFigures, figuresIn}
+use Rattle.records.specs.declared.Air.{Air}
 use Rattle.records.specs.declared.Hour.{Hour}
 use Rattle.records.specs.declared.Record.{Record}
 use Rattle.records.specs.Answers.{accepted}
 use Rattle.records.specs.Ozone.{isMissing, Fills}
 use Rattle.records.specs.Ranges.{checked}
-use Rattle.records.proofs.AnswerLaws.{accepted-same, onTree-passed}
+use Rattle.records.proofs.AnswerLaws.{accepted-same, onward-passed}
 use Rattle.records.proofs.OzoneLaws.{filling-within}
 use Rattle.flux_spec.specs.declared.Stand.{Stand}
 use Rattle.flux_spec.specs.Dose.{isCounted, excess, doseAt, NotAbove, NotBelow}
 use Rattle.flux_spec.specs.Pair.{hourPair}
-use Rattle.flux_spec.specs.Enclosure.{mostDose, gapMost, PairEnclosed, Limited}
+use Rattle.flux_spec.specs.Enclosure.{mostDose, gapMost, PairEnclosed}
+use Rattle.flux_spec.specs.HourDose.{treeOf}
 use Rattle.flux_spec.proofs.BudgetLaws.{mostDose-le, gapDose-most}
 use Rattle.flux_spec.proofs.HourDoseLaws.{stand-passed}
-use Rattle.flux_spec.proofs.EnclosureLaws.{enclosure}
+use Rattle.flux_spec.proofs.EnclosureLaws.{TreeNamed, tree-named, enclosure}
 use Rattle.account_spec.specs.declared.Season.{Season}
 use Rattle.account_spec.specs.declared.Sums.{Sums}
-use Rattle.account_spec.specs.Limits.{mostHour}
+use Rattle.account_spec.specs.Limits.{isMeasured, mostHour}
 use Rattle.account_spec.specs.Hours.{standIn, Carried, pairOf, countedSums, uncountedSums, hourSums, hourPod}
-use Rattle.account_spec.specs.Enclosed.{HasDose, Encloses, SumsSized}
+use Rattle.account_spec.specs.Enclosed.{HasDose, gapHour, Encloses, SumsSized}
 use Rattle.account_spec.specs.Steps.{Dosable}
 use Rattle.account_spec.proofs.SumsLaws.{by-counted}
 
@@ -114,16 +118,42 @@ module _
 
 -- ---- one hour of a season
 
+tree-same : {f g : Figures} → Choice.Tree f ≡ Choice.Tree g → f ≡ g
+tree-same e = cc
+
+-- a tree's figures within the season's limits
+record FiguresIn (season : Season) (f : Figures) : Type 0 where
+  sound : Sound f
+  gap : gapMost f ≤ gapHour season
+  most : (air : Air) → mostDose (f .gmax) air ≤ mostHour season
+
+figures-by : (season : Season) (f : Figures) (seventh : Bool) → isMeasured season ≡ seventh → TreeNamed (season .parameters) (season .header .tree) f → FiguresIn season f
+unfolding figuresIn
+figures-by season f true e named =
+    let own = enclosure .measured (season .parameters) (named .measured e) in
+    let same : measuredFigures (season .parameters) ≡ f = tree-same (rw e at (named .chosen)) in
+    rw (← same) (record { sound = own .sound; gap = rw e (own .gap); most = λ air. rw e (own .most air) })
+figures-by season f false e named =
+    let own = enclosure .trees (season .header .tree) f (rw e at (named .chosen)) in
+    record {
+      sound = own .sound;
+      gap = rw e (omega (arith, own .gap));
+      most = λ air. rw e (omega (arith, mostDose-le (f .gmax) air, own .gmax));
+    }
+
 -- the season's stand has its tree's figures and its ceiling
 pub record SeasonStand (season : Season) (stand : Stand) : Type 0 where
-  pub limited : Limited (stand .figures)
+  pub sound : Sound (stand .figures)
+  pub gap : gapMost (stand .figures) ≤ gapHour season
+  pub most : (air : Air) → mostDose (stand .figures .gmax) air ≤ mostHour season
   pub ceiling : stand .ceiling ≡ season .ceiling
 
 pub season-stand : (season : Season) (stand : Stand) → standIn season ≡ accepted stand → SeasonStand season stand
 unfolding standIn
 season-stand season stand e =
-    let found = onTree-passed (figuresOf (season .header .tree)) _ stand e in
-    subst (SeasonStand season) (accepted-same (found .2)) (record { limited = enclosure .trees (season .header .tree) (found .0) (found .1); ceiling = refl })
+    let found = onward-passed (treeOf (season .parameters) (season .header .tree)) _ stand e in
+    let own = figures-by season (found .0) (isMeasured season) refl (tree-named (season .parameters) (season .header .tree) (found .0) (found .1)) in
+    subst (SeasonStand season) (accepted-same (found .2)) (record { sound = own .sound; gap = own .gap; most = own .most; ceiling = refl })
 
 pub record PairSized (season : Season) (pair : Bounds) : Type 0 where
   pub order : pair .lower ≤ pair .upper
@@ -142,5 +172,5 @@ module _ (season : Season) (h : Hour) where
   unfolding pairOf
   pair-sized few c has =
       let own = season-stand season (has .0) (has .1) in
-      let one = enclosure .pair (has .0) (own .limited .sound) (omega (arith, own .ceiling)) h (has .2) in
-      rw (has .1) (record { order = one .order; most = omega (arith, one .most, mostDose-le (has .0 .figures .gmax) (h .air), own .limited .gmax) })
+      let one = enclosure .pair (has .0) (own .sound) (omega (arith, own .ceiling)) h (has .2) in
+      rw (has .1) (record { order = one .order; most = le-trans (one .most) (own .most (h .air)) })

@@ -1,11 +1,12 @@
 -- An account that row 13 lets pass: what each of the row's conditions says of it, and that it has room for another hour.
 use Prim.Native.Nat.{ℕ, _+_, _-_, _*_, _≤_}
 use mathlib.Core.Path.{_≡_, refl, sym, ap}
-use mathlib.Core.Bool.{Bool, true, false, not, true≢false, false≢true, or-false, or-true, _&&_, _||_}
+use mathlib.Core.Bool.{Bool, true, false, not, cond, true≢false, false≢true, or-false, or-true, _&&_, _||_}
 use native.Mathlib.Nat.{mul-le-mul-left}
 use native.Mathlib.Omega.{arith}
 use lib.Dec.{eqb, ltb}
 use borrow.Author.Tests.{ltb-false, le-ltb, eq-eqb, eqb-true, not-false}
+use Rattle.measured.specs.Parameters.{allZero}
 use Rattle.records.specs.declared.Record.{Record}
 use Rattle.records.specs.Answers.{Outcome, accepted, refused}
 use Rattle.records.specs.Ranges.{checked, ceilingOut}
@@ -16,9 +17,9 @@ use Rattle.account_spec.specs.declared.Phase.the-variants.{Fresh, Open, 
 use Rattle.account_spec.specs.declared.Season.{Season}
 use Rattle.account_spec.specs.declared.Sums.{Sums}
 use Rattle.account_spec.specs.declared.Account.{Account}
-use Rattle.account_spec.specs.Limits.{mostHour, gapEach, mostAot40}
+use Rattle.account_spec.specs.Limits.{isMeasured, mostHour, gapEach, mostAot40}
 use Rattle.account_spec.specs.HourKinds.{kindOut}
-use Rattle.account_spec.specs.Account.{isFresh, isClosed, isBegun, isRefused, isBroken, allZero, seasonNumbers, isBlank, anyOf, sumsOut, impossible}
+use Rattle.account_spec.specs.Account.{isFresh, isClosed, isBegun, isRefused, parametersBroken, isBroken, unmeasuredIn, seasonNumbers, isBlank, anyOf, sumsOut, impossible}
 use Rattle.account_spec.specs.Steps.{Room}
 
 -- sums that hours can give
@@ -36,6 +37,8 @@ pub record SumsIn (season : Season) (s : Sums) : Type 0 where
 pub record Possible (a : Account) : Type 0 where
   pub header : isBegun (a .phase) ≡ true → checked (Record.Header (a .season .header)) ≡ accepted tt
   pub ceiling : isBegun (a .phase) ≡ true → ceilingOut (a .season .ceiling) ≡ false
+  pub parameters : isBegun (a .phase) ≡ true → parametersBroken (a .season) ≡ false
+  pub measured : unmeasuredIn (a .season) (a .kind) (a .sums .hours) ≡ false
   pub hours : a .sums .hours ≤ periodHours (a .season .header)
   pub sums : SumsIn (a .season) (a .sums)
   pub kind : kindOut (a .kind) (a .sums .hours) ≡ false
@@ -71,20 +74,25 @@ open-is a e = rw e
 pub closed-is : (a : Account) → a .phase ≡ Closed → not (allGiven (a .season .header) (a .sums .hours)) ≡ byPhase a
 closed-is a e = rw e
 
-third-first : (b p s k x y : Bool) → (s || (k || (b || (p || (x || y))))) ≡ (b || p || s || k || x || y)
-third-first true p s k x y = rw (or-true k) (or-true s)
-third-first false true s k x y = rw (or-true k) (or-true s)
-third-first false false true k x y = refl
-third-first false false false true x y = refl
-third-first false false false false x y = refl
+third-first : (b p s k u x y : Bool) → (s || (k || (u || (b || (p || (x || y)))))) ≡ (b || p || s || k || u || x || y)
+third-first true p s k u x y = rw (or-true u, or-true k) (or-true s)
+third-first false true s k u x y = rw (or-true u, or-true k) (or-true s)
+third-first false false true k u x y = refl
+third-first false false false true u x y = refl
+third-first false false false false true x y = refl
+third-first false false false false false x y = refl
 
 pub sums-first : (a : Account) →
-    (anyOf (sumsOut (a .season) (a .sums)) || (kindOut (a .kind) (a .sums .hours) || ((isBegun (a .phase) && isBroken (a .season)) || (ltb (periodHours (a .season .header)) (a .sums .hours) || byPhase a))))
+    (anyOf (sumsOut (a .season) (a .sums))
+    || (kindOut (a .kind) (a .sums .hours)
+    || (unmeasuredIn (a .season) (a .kind) (a .sums .hours)
+    || ((isBegun (a .phase) && isBroken (a .season)) || (ltb (periodHours (a .season .header)) (a .sums .hours) || byPhase a)))))
     ≡ impossible a
 unfolding impossible
 sums-first a =
     third-first (isBegun (a .phase) && isBroken (a .season)) (ltb (periodHours (a .season .header)) (a .sums .hours)) (anyOf (sumsOut (a .season) (a .sums)))
-    (kindOut (a .kind) (a .sums .hours)) (isFresh (a .phase) && not (isBlank a)) (isClosed (a .phase) && not (allGiven (a .season .header) (a .sums .hours)))
+    (kindOut (a .kind) (a .sums .hours)) (unmeasuredIn (a .season) (a .kind) (a .sums .hours)) (isFresh (a .phase) && not (isBlank a))
+    (isClosed (a .phase) && not (allGiven (a .season .header) (a .sums .hours)))
 
 -- ---- row 13, one condition after the other
 
@@ -136,15 +144,22 @@ module _ (a : Account) where
   possible-is e =
       let given = or-neither _ (isClosed (a .phase) && not (allGiven (a .season .header) (a .sums .hours))) e in
       let blank = or-neither _ (isFresh (a .phase) && not (isBlank a)) (given .0) in
-      let kind = or-neither _ (kindOut (a .kind) (a .sums .hours)) (blank .0) in
+      let measured = or-neither _ (unmeasuredIn (a .season) (a .kind) (a .sums .hours)) (blank .0) in
+      let kind = or-neither _ (kindOut (a .kind) (a .sums .hours)) (measured .0) in
       let sums = or-neither _ (anyOf (sumsOut (a .season) (a .sums))) (kind .0) in
       let hours = or-neither (isBegun (a .phase) && isBroken (a .season)) (ltb (periodHours (a .season .header)) (a .sums .hours)) (sums .0) in
-      let sound : isBegun (a .phase) ≡ true → (isRefused (checked (Record.Header (a .season .header))) ≡ false) × (ceilingOut (a .season .ceiling) ≡ false) =
-      λ h. or-neither (isRefused (checked (Record.Header (a .season .header)))) _ (and-false (isBegun (a .phase)) _ (hours .0) h)
+      let broken : isBegun (a .phase) ≡ true → isBroken (a .season) ≡ false = and-false (isBegun (a .phase)) _ (hours .0) in
+      let sound : isBegun (a .phase) ≡ true → (isRefused (checked (Record.Header (a .season .header))) || ceilingOut (a .season .ceiling) ≡ false) × (parametersBroken (a .season) ≡ false) =
+      λ h. or-neither (isRefused (checked (Record.Header (a .season .header))) || ceilingOut (a .season .ceiling)) _ (broken h)
+      in
+      let rows : isBegun (a .phase) ≡ true → (isRefused (checked (Record.Header (a .season .header))) ≡ false) × (ceilingOut (a .season .ceiling) ≡ false) =
+      λ h. or-neither (isRefused (checked (Record.Header (a .season .header)))) _ (sound h .0)
       in
       record {
-        header = λ h. accepted-is (checked (Record.Header (a .season .header))) (sound h .0);
-        ceiling = λ h. sound h .1;
+        header = λ h. accepted-is (checked (Record.Header (a .season .header))) (rows h .0);
+        ceiling = λ h. rows h .1;
+        parameters = λ h. sound h .1;
+        measured = measured .1;
         hours = ltb-false _ _ (hours .1);
         sums = sums-in (a .season) (a .sums) (sums .1);
         kind = kind .1;
@@ -156,13 +171,23 @@ module _ (a : Account) where
   unfolding impossible
   possible-false p =
       simp (
-        false-and (isBegun (a .phase)) (isBroken (a .season)) (λ h. simp (p .header h, p .ceiling h)),
+        false-and (isBegun (a .phase)) (isBroken (a .season)) (λ h. simp (p .header h, p .ceiling h, p .parameters h)),
         le-ltb (periodHours (a .season .header)) (a .sums .hours) (p .hours),
         in-sums (a .season) (a .sums) (p .sums),
         p .kind,
+        p .measured,
         false-and (isFresh (a .phase)) (not (isBlank a)) (λ h. ap not (p .blank h)),
         false-and (isClosed (a .phase)) (not (allGiven (a .season .header) (a .sums .hours))) (λ h. ap not (p .given h)),
       )
+
+-- ---- the most that an hour can bring, whatever the tree
+
+most-le : (seventh : Bool) → cond seventh 1500000 800000 ≤ 1500000
+most-le true = omega arith
+most-le false = omega arith
+
+pub mostHour-le : (season : Season) → mostHour season ≤ 1500000
+mostHour-le season = most-le (isMeasured season)
 
 -- ---- room: a header that rows 5 to 8 let pass has a period of a year at most
 

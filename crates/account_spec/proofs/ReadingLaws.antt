@@ -1,4 +1,5 @@
 -- A reading of the account that stands for a book: it gives the book's figures, and is right for every filling of its hours (W-207).
+use Prim.Native.Nat.{ℕ, _+_, _-_, _*_, _≤_}
 use mathlib.Core.Path.{_≡_, refl, sym, ap, _∙_}
 use mathlib.Core.List.{List}
 use native.Mathlib.Omega.{arith}
@@ -7,6 +8,7 @@ use Rattle.records.specs.Ozone.{allReadAs, AllFill}
 use Rattle.records.specs.Answers.{accepted}
 use Rattle.records.proofs.AnswerLaws.{refused-not-accepted, accepted-same}
 use Rattle.account_spec.specs.declared.Reading.{Reading}
+use Rattle.account_spec.specs.Limits.{mostHour, gapEach}
 use Rattle.account_spec.specs.Hours.{standIn, noneCarried}
 use Rattle.account_spec.specs.Enclosed.{AllRead, Encloses}
 use Rattle.account_spec.specs.Reading.{wordOf, verdictWord, totalsOf, readOf, Reads}
@@ -18,6 +20,13 @@ use Rattle.account_spec.proofs.HourLaws.{notBelow-le}
 use Rattle.account_spec.proofs.EnclosedLaws.{season-fill, season-read, read-fill, read-same}
 use Rattle.account_spec.proofs.BookLaws.{book-hours, book-counted, book-missing, book-enclosed, book-in, proper-possible}
 use Rattle.account_spec.proofs.VerdictLaws.{word-is, exceeded-is, below-is, above-pod}
+
+-- the gap where nothing is missing
+none-missing :
+    (each most counted missing lower upper : ℕ) → missing ≡ 0 → upper ≤ lower + (each * (counted - missing) + most * missing) → upper ≤ lower + each * counted
+none-missing each most counted missing lower upper none gap =
+    let same : counted - missing ≡ counted = omega (arith, none) in
+    omega (arith, gap, ap (λ n. each * n) same, ap (λ n. most * n) none)
 
 module _ (b : Book) (p : Proper b) where
   pub word : wordOf (totalsOf (accountOf b) .verdict) ≡ verdictWord (b .phase) (b .season) (bookSums b)
@@ -65,7 +74,7 @@ module _ (b : Book) (p : Proper b) where
           most = most ∙ ap (λ (hs : List Hour). excessOver (countedOf hs)) (read-same (b .season .ceiling) (b .hours) all);
           low = own .low;
           high = own .high;
-          gap = omega (arith, book-in b p .gap, missing);
+          gap = none-missing (gapEach (b .season)) (mostHour (b .season)) _ _ _ _ missing (book-in b p .gap);
           exceeded = own .exceeded;
           below = own .below;
         }

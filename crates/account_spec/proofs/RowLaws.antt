@@ -10,14 +10,14 @@ use lib.ListN.{getD}
 use Rattle.records.specs.declared.Raw.{Raw}
 use Rattle.records.specs.declared.RawHour.{RawHour}
 use Rattle.records.specs.declared.Refusal.{Refusal}
-use Rattle.records.specs.declared.Refusal.the-variants.{Length, Digit, Kind, Turn, Tree, Year, Period, Level, Due, Range, Count, Buffer, Account, Place, Mixed, Tried, Ceiling, NoCeiling}
+use Rattle.records.specs.declared.Refusal.the-variants.{Length, Digit, Kind, Turn, Tree, Year, Period, Level, Due, Range, Count, Buffer, Account, Place, Mixed, Tried, Ceiling, NoCeiling, Parameter}
 use Rattle.records.specs.Answers.{refused, rowOf}
 use Rattle.records.proofs.AnswerLaws.{and-both, or-either}
-use Rattle.records.specs.Ranges.{lacksCeiling}
+use Rattle.records.specs.Ranges.{lacksCeiling, rampsOut}
 use Rattle.frames.specs.Digits.{within}
 use Rattle.frames.specs.Layout.{ozoneOf}
 use Rattle.frames.specs.Kinds.{among}
-use Rattle.frames.specs.Frames.{parsedOf}
+use Rattle.frames.specs.Frames.{parsedOf, recordOf}
 use Rattle.frames.specs.Rows.{oneOf}
 use Rattle.frames.proofs.KindLaws.{among-passes}
 use Rattle.frames.proofs.RowLaws.{Only, accepted-only, refused-only, row-only, onward-only, only-wider, parsed-only, record-only}
@@ -29,7 +29,7 @@ use Rattle.account_spec.proofs.RuleLaws.{mixed-out, due-out, lacks-out,
 
 -- row 10 besides
 abbrev answerRows : List ℕ
-answerRows = 1 ∷ 2 ∷ 3 ∷ 4 ∷ 5 ∷ 6 ∷ 7 ∷ 8 ∷ 9 ∷ 11 ∷ 15 ∷ 17 ∷ 18 ∷ []
+answerRows = 1 ∷ 2 ∷ 3 ∷ 4 ∷ 5 ∷ 6 ∷ 7 ∷ 8 ∷ 9 ∷ 11 ∷ 15 ∷ 17 ∷ 18 ∷ 24 ∷ []
 
 module _ (s : State) where
   hour-only :
@@ -49,6 +49,10 @@ module _ (s : State) where
   frame-only (Raw.End x) =
       row-only (outOfTurn s (Raw.End x)) _ _ _ refl
       (row-only (countWrong s (x .hours)) _ _ _ refl (accepted-only _))
+  frame-only (Raw.Parameters p) =
+      row-only (outOfTurn s (Raw.Parameters p)) _ _ _ refl
+      (onward-only (recordOf (s .season .header .tree) (Raw.Parameters p)) _ (only-wider refl (record-only _ (Raw.Parameters p)))
+      (λ r. row-only (rampsOut (s .season .header) p) _ _ _ refl (accepted-only _)))
   frame-only (Raw.Ceiling c) = row-only (outOfTurn s (Raw.Ceiling c)) _ _ _ refl (only-wider refl (record-only _ (Raw.Ceiling c)))
 
   answer-only : (l : List ℕ) → Only answerRows (answerOf s l)
@@ -66,7 +70,7 @@ pub record RefusalRow (n f : ℕ) : Type 0 where
 abbrev refusals : List Refusal
 refusals =
     Account ∷ Length ∷ Digit ∷ Kind ∷ Turn ∷ Tree ∷ Year ∷ Period ∷ Level ∷ Due ∷ Account ∷ Count ∷ Buffer ∷ Account ∷ Place ∷ Mixed ∷ Tried ∷ Ceiling
-    ∷ NoCeiling ∷ []
+    ∷ NoCeiling ∷ Account ∷ Account ∷ Account ∷ Account ∷ Account ∷ Parameter ∷ []
 
 abbrev refusalAt : ℕ → Refusal
 refusalAt n = getD refusals n Account

@@ -1,5 +1,5 @@
 -- The answers to a line and to a reading, by what each test says.
-use mathlib.Core.Path.{_≡_, refl}
+use mathlib.Core.Path.{_≡_, refl, _∙_}
 use mathlib.Core.Bool.{Bool, true, false, not}
 use Prim.Native.Nat.{ℕ}
 use mathlib.Core.List.{List, [], _∷_}
@@ -17,9 +17,11 @@ use Rattle.records.specs.declared.Record.{Record}
 use Rattle.records.specs.declared.Refusal.{Refusal}
 use Rattle.records.specs.declared.Parsed.{Parsed}
 use Rattle.records.specs.declared.Decoded.{Decoded}
-use Rattle.records.specs.Answers.{accepted, refused, rowOf, parsedAs, decodedAs}
-use Rattle.records.specs.Ranges.{checked, lacksCeiling}
-use Rattle.records.proofs.AnswerLaws.{row-passed}
+use Rattle.records.specs.Answers.{accepted, refused, row, rowOf, parsedAs, decodedAs}
+use Rattle.measured.specs.declared.Parameters.{Parameters}
+use Rattle.records.specs.Parameters.{parameterOut}
+use Rattle.records.specs.Ranges.{checked, lacksCeiling, rampsOut}
+use Rattle.records.proofs.AnswerLaws.{accepted-same, row-passed, onward-passed}
 use Rattle.frames.specs.Layout.{ozoneOf}
 use Rattle.frames.specs.Frames.{parsedOf, soundOf, recordOf}
 use Rattle.account_spec.specs.declared.Phase.{Phase}
@@ -42,7 +44,7 @@ fresh-false Fresh k = ⊎-elim (λ z. absurd (omega arith)) (λ z. absurd (omega
 fresh-false Open k = refl
 fresh-false Closed k = refl
 
--- ---- a header's rows; row 15, then 9 and 18, before row 10; row 11; row 17
+-- ---- a header's rows; row 15, then 9 and 18, before row 10; row 11; row 17; row 24, then 7
 
 module _ (s : State) where
   pub header-in : (h : Header) → recordOf (s .season .header .tree) (Raw.Header h) ≡ dueOf s (Raw.Header h)
@@ -96,6 +98,38 @@ module _ (s : State) where
   pub ceiling-in : (c : Ceiling) → recordOf (s .season .header .tree) (Raw.Ceiling c) ≡ dueOf s (Raw.Ceiling c)
   unfolding dueOf
   ceiling-in c = refl
+
+  module _ (p : Parameters) where
+    pub parameters-out : parameterOut p ≡ true → refused (24, 0) ≡ dueOf s (Raw.Parameters p)
+    unfolding dueOf recordOf soundOf checked
+    parameters-out e = rw e
+
+    module _ (sound : parameterOut p ≡ false) where
+      pub ramps-out : rampsOut (s .season .header) p ≡ true → refused (7, 0) ≡ dueOf s (Raw.Parameters p)
+      unfolding dueOf recordOf soundOf checked
+      ramps-out e = rw (sound, e)
+
+      pub ramps-in : rampsOut (s .season .header) p ≡ false → recordOf (s .season .header .tree) (Raw.Parameters p) ≡ dueOf s (Raw.Parameters p)
+      unfolding dueOf recordOf soundOf checked
+      ramps-in e = rw (sound, e)
+
+    -- what parameters that are accepted have passed
+    pub record ParametersPassed (r : Record) : Type 0 where
+      pub same : Record.Parameters p ≡ r
+      pub sound : parameterOut p ≡ false
+      pub ramps : rampsOut (s .season .header) p ≡ false
+
+    pub parameters-passed : (r : Record) → dueOf s (Raw.Parameters p) ≡ accepted r → ParametersPassed r
+    unfolding dueOf recordOf soundOf checked
+    parameters-passed r e =
+        let read = onward-passed (soundOf (Record.Parameters p)) _ r e in
+        let sound = onward-passed (row 24 (parameterOut p) (accepted tt)) _ (read .0) (read .1) in
+        let ramps = row-passed (rampsOut (s .season .header) p) _ _ r (read .2) in
+        record {
+          same = accepted-same (sound .2) ∙ accepted-same (ramps .1);
+          sound = row-passed (parameterOut p) _ _ (sound .0) (sound .1) .0;
+          ramps = ramps .0;
+        }
 
 -- ---- feeding
 

@@ -11,6 +11,7 @@ use Rattle.frames.specs.Layout.{frameOf, frameAt, hourOf}
 use Rattle.records.specs.Ranges.{checked}
 use Rattle.frames.specs.Frames.{parsedOf, soundOf, recordOf}
 use Rattle.trees.specs.Figures.{figuresOf}
+use Rattle.measured.specs.Figures.{figuresIn}
 use Rattle.account_spec.specs.declared.Account.{Account}
 use Rattle.account_spec.specs.declared.Fed.{Fed}
 use Rattle.account_spec.specs.declared.Reading.{Reading}
@@ -82,7 +83,7 @@ replies-are a b (fed l r ∷ es) k =
 replies-are a b (taken r ∷ es) k = replies-are a b es (k .2)
 
 day-replies : bookReplies emptyBook dayCalls ≡ accepted tt ∷ refused (1, 0) ∷ acceptances 25
-unfolding bookAnswer answerOf turnOf dueOf parsedOf recordOf soundOf checked frameAt frameOf hourOf signedOf temperatureOut isDigit valueOf allDigits byteAt numberAt digitOf among lengthOf figuresOf
+unfolding bookAnswer answerOf turnOf dueOf parsedOf recordOf soundOf checked frameAt frameOf hourOf signedOf temperatureOut isDigit valueOf allDigits byteAt numberAt digitOf among lengthOf figuresIn figuresOf
 day-replies = refl
 
 pub season : SeasonPromise

@@ -5,7 +5,9 @@ use mathlib.Core.List.{List, [], _∷_, _++_}
 use lib.Dec.{eqb, ltb}
 use Rattle.records.specs.declared.Record.{Record}
 use Rattle.records.specs.Answers.{Outcome, accepted, refused}
-use Rattle.records.specs.Ranges.{checked, ceilingOut}
+use Rattle.measured.specs.Parameters.{noParameters, parameterNumbers, isFed, allZero}
+use Rattle.records.specs.Parameters.{parameterOut}
+use Rattle.records.specs.Ranges.{checked, ceilingOut, rampsOut}
 use Rattle.records.specs.Period.{periodHours, allGiven}
 use Rattle.account_spec.specs.declared.Phase.{Phase}
 use Rattle.account_spec.specs.declared.Phase.the-variants.{Fresh, Open, Closed}
@@ -13,13 +15,13 @@ use Rattle.account_spec.specs.declared.Season.{Season}
 use Rattle.account_spec.specs.declared.Sums.{Sums}
 use Rattle.account_spec.specs.declared.Account.{Account}
 use Rattle.account_spec.specs.declared.HourKind.{HourKind}
-use Rattle.account_spec.specs.Limits.{mostHour, gapEach, mostAot40}
-use Rattle.account_spec.specs.HourKinds.{kindOut}
+use Rattle.account_spec.specs.Limits.{isMeasured, mostHour, gapEach, mostAot40}
+use Rattle.account_spec.specs.HourKinds.{kindNumber, kindOut}
 use Rattle.account_spec.specs.Hours.{noSums}
 
--- the fresh account: header fields, ceiling and figures 0
+-- the fresh account: header fields, ceiling, parameters and figures 0
 abbrev pub noSeason : Season
-noSeason = record { header = record { tree = 0; days = 0; first = 0; last = 0; level = 0 }; ceiling = 0 }
+noSeason = record { header = record { tree = 0; days = 0; first = 0; last = 0; level = 0 }; ceiling = 0; parameters = noParameters }
 
 abbrev pub freshAccount : Account
 freshAccount = record { phase = Fresh; season = noSeason; kind = HourKind.None; sums = noSums }
@@ -48,21 +50,23 @@ abbrev pub isRefused : {A : Type 0} → Outcome A → Bool
 isRefused (accepted a) = false
 isRefused (refused r) = true
 
--- the header is broken by rows 5 to 8, or the ceiling by row 17
-abbrev pub isBroken : Season → Bool
-isBroken season = isRefused (checked (Record.Header (season .header))) || ceilingOut (season .ceiling)
+-- parameters that rows 24 or 7 refuse, or of another tree (W-212)
+abbrev pub parametersBroken : Season → Bool
+parametersBroken season =
+    isFed (season .parameters)
+    && (not (isMeasured season) || parameterOut (season .parameters) || rampsOut (season .header) (season .parameters))
 
-abbrev pub allZero : List ℕ → Bool
-allZero [] = true
-allZero (n ∷ ns) = eqb n 0 && allZero ns
+-- the header is broken by rows 5 to 8, or the ceiling by row 17, or the parameters
+abbrev pub isBroken : Season → Bool
+isBroken season = isRefused (checked (Record.Header (season .header))) || ceilingOut (season .ceiling) || parametersBroken season
 
 abbrev pub seasonNumbers : Season → List ℕ
-seasonNumbers s = let h = s .header in h .tree ∷ h .days ∷ h .first ∷ h .last ∷ h .level ∷ s .ceiling ∷ []
+seasonNumbers s = let h = s .header in h .tree ∷ h .days ∷ h .first ∷ h .last ∷ h .level ∷ s .ceiling ∷ parameterNumbers (s .parameters)
 
 abbrev pub sumsNumbers : Sums → List ℕ
 sumsNumbers s = s .hours ∷ s .counted ∷ s .missing ∷ s .lower ∷ s .upper ∷ s .least ∷ s .most ∷ []
 
--- every header field, the ceiling and every figure is 0
+-- every header field, the ceiling, every parameter and every figure is 0
 abbrev pub isBlank : Account → Bool
 isBlank a = allZero (seasonNumbers (a .season)) && allZero (sumsNumbers (a .sums))
 
@@ -74,7 +78,7 @@ anyOf (b ∷ bs) = b || anyOf bs
 abbrev pub countsOut : Season → Sums → List Bool
 countsOut season s = ltb (s .hours) (s .counted) ∷ ltb (s .counted) (s .missing) ∷ (eqb (season .ceiling) 0 && ltb 0 (s .missing)) ∷ []
 
--- lower > upper; upper > 800000·counted; gap > 4 for each counted hour with ozone and 800000 for each without
+-- lower > upper; upper > 800000·counted; gap > 4 for each counted hour with ozone and 800000 for each without; for tree 7 1500000 and 40
 abbrev pub dosesOut : Season → Sums → List Bool
 dosesOut season s =
     ltb (s .upper) (s .lower)
@@ -93,13 +97,22 @@ aot40Out season s =
 abbrev pub sumsOut : Season → Sums → List Bool
 sumsOut season s = countsOut season s ++ dosesOut season s ++ aot40Out season s
 
--- row 13: open or closed with header broken by 5 to 8 or ceiling by 17; hours past the period; sums that no hours give; hours without a kind or a kind without hours;
--- fresh with a header field, ceiling or figure not 0; closed with hours due
+-- tree 7, and its parameters are still to come (W-212)
+abbrev pub awaits : Season → Bool
+awaits season = isMeasured season && not (isFed (season .parameters))
+
+-- and yet a kind, a ceiling or hours
+abbrev pub unmeasuredIn : Season → HourKind → ℕ → Bool
+unmeasuredIn season kind hours = awaits season && (not (eqb (kindNumber kind) 0) || not (eqb (season .ceiling) 0) || ltb 0 hours)
+
+-- row 13: open or closed with header broken by 5 to 8, ceiling by 17 or parameters by 24 or 7; hours past the period; sums that no hours give; hours without a kind
+-- or a kind without hours; tree 7 with more than its header, but without parameters; fresh with a header field, ceiling, parameter or figure not 0; closed with hours due
 unfoldable pub impossible : Account → Bool
 impossible a =
     (isBegun (a .phase) && isBroken (a .season))
     || ltb (periodHours (a .season .header)) (a .sums .hours)
     || anyOf (sumsOut (a .season) (a .sums))
     || kindOut (a .kind) (a .sums .hours)
+    || unmeasuredIn (a .season) (a .kind) (a .sums .hours)
     || (isFresh (a .phase) && not (isBlank a))
     || (isClosed (a .phase) && not (allGiven (a .season .header) (a .sums .hours)))

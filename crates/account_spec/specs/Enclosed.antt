@@ -2,7 +2,7 @@
 -- that enclose AOT40, of every filling.
 use Prim.Native.Nat.{ℕ, _+_, _-_, _*_, _≤_}
 use mathlib.Core.Path.{_≡_}
-use mathlib.Core.Bool.{false}
+use mathlib.Core.Bool.{false, cond}
 use mathlib.Core.List.{List, [], _∷_}
 use Rattle.exact.specs.Frac.{Frac, _≼_}
 use Rattle.records.specs.declared.Hour.{Hour}
@@ -15,6 +15,7 @@ use Rattle.flux_spec.specs.Dose.{NotAbove, NotBelow}
 use Rattle.flux_spec.specs.Enclosure.{mostDose}
 use Rattle.account_spec.specs.declared.Season.{Season}
 use Rattle.account_spec.specs.declared.Sums.{Sums}
+use Rattle.account_spec.specs.Limits.{isMeasured}
 use Rattle.account_spec.specs.Hours.{standIn, ceilingIn, Carried, sumsOf, podOf}
 use Rattle.account_spec.specs.Book.{countedOf, excessOver}
 
@@ -41,9 +42,9 @@ abbrev pub AllRead : List Hour → Type 0
 AllRead [] = Unit
 AllRead (h ∷ hs) = (isMissing (h .ozone) ≡ false) × AllRead hs
 
--- nmol m⁻² between the two numbers of a season's hour with ozone at most: 2 for the six trees, whatever the kind of its frame; row 13 allows more
+-- nmol m⁻² between the two numbers of a season's hour with ozone at most, whatever the kind of its frame: 2 for the six trees, 6 for a measured one; row 13 allows more
 abbrev pub gapHour : Season → ℕ
-gapHour season = 2
+gapHour season = cond (isMeasured season) 6 2
 
 -- lower is not above the exact dose and upper not below it; AOT40 lies between the other two; POD_k never falls as k grows
 pub record Encloses (sums : Sums) (pod : ℕ → Frac) (aot40 : ℕ) : Type 0 where

@@ -46,7 +46,7 @@ pub record FillingKept (b : Book) (t : Totals) (fs : List Hour) : Type 0 where
   pub exceeded : wordOf (t .verdict) ≡ exceededWord → Above (b .season .header .level * 10000) (podIn b fs)
   pub below : wordOf (t .verdict) ≡ belowWord → NotBelow (b .season .header .level * 10000) (podIn b fs)
 
--- of a book without a missing ozone: its AOT40; two numbers that enclose its exact POD1, at most 4 apart for each counted hour; a verdict that is true of it
+-- of a book without a missing ozone: its AOT40; two numbers that enclose its exact POD1, at most 4 (tree 7: 40) apart for each counted hour; a verdict that is true of it
 pub record ReadKept (b : Book) (t : Totals) : Type 0 where
   pub least : t .sums .least ≡ excessOver (countedOf (b .hours))
   pub most : t .sums .most ≡ excessOver (countedOf (b .hours))
@@ -56,8 +56,8 @@ pub record ReadKept (b : Book) (t : Totals) : Type 0 where
   pub exceeded : wordOf (t .verdict) ≡ exceededWord → Above (b .season .header .level * 10000) (bookPod b)
   pub below : wordOf (t .verdict) ≡ belowWord → NotBelow (b .season .header .level * 10000) (bookPod b)
 
--- the book's hours, counted hours and those of them without ozone; its AOT40 with a missing ozone read as 0 and as the ceiling; dose numbers at most 4 apart for
--- each counted hour with ozone and 800000 for each without; the verdict by the rule; all of it right for every filling
+-- the book's hours, counted hours and those of them without ozone; its AOT40 with a missing ozone read as 0 and as the ceiling; dose numbers at most 4 (tree 7: 40) apart for
+-- each counted hour with ozone and 800000 (1500000) for each without; the verdict by the rule; all of it right for every filling
 pub record TotalsKept (b : Book) (t : Totals) : Type 0 where
   pub hours : t .sums .hours ≡ length (b .hours)
   pub counted : t .sums .counted ≡ length (countedOf (b .hours))

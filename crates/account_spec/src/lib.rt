@@ -1,5 +1,6 @@
 // The season account, the book of demand 3 and the rules of both (document 01, "Account" and "The book of demand 3"): definitions and laws only.
 use frames::Header;
+use frames::Parameters;
 use frames::Refusal;
 
 // An account's phase: before a header, after it, and after the right end frame.
@@ -17,10 +18,11 @@ pub enum HourKind {
     Humidity,
 }
 
-// What the frames before the first hour said: the header, the ozone ceiling in tenths of ppb (0: not fed).
+// What the frames before the first hour said: the header, the ozone ceiling in tenths of ppb (0: not fed), a measured tree's parameters (all 0: not fed).
 pub struct Season {
     pub header: Header,
     pub ceiling: u16,
+    pub parameters: Parameters,
 }
 
 // What hours add up to: POD1 at least lower and at most upper nmol m⁻², AOT40 at least `least` and at most `most` tenths of ppb h, their number, how many are

@@ -1,5 +1,7 @@
 // An account's fields by their numbers: 0 phase (0 fresh, 1 open, 2 closed), 1 to 5 the header's in their order, 6 ceiling, 7 kind of its hours (0 none), 8 hours,
-// 9 counted, 10 missing, 11 lower, 12 upper, 13 least, 14 most.
+// 9 counted, 10 missing, 11 lower, 12 upper, 13 least, 14 most, 15 to 30 the parameters in the order of their frame (parameters.rt).
+use crate::parameters::print_parameters;
+use crate::parameters::with_parameter;
 use account::Account;
 use account::HourKind;
 use account::Phase;
@@ -43,6 +45,7 @@ pub fn with_field(a: Account, digits: &[u8]) -> Account {
     let season = a.season;
     let mut header = season.header;
     let mut ceiling = season.ceiling;
+    let parameters = with_parameter(season.parameters, digits);
     let mut kind = a.kind;
     let mut sums = a.sums;
     match u8_at(digits, 0) {
@@ -68,6 +71,7 @@ pub fn with_field(a: Account, digits: &[u8]) -> Account {
         season: Season {
             header: header,
             ceiling: ceiling,
+            parameters: parameters,
         },
         kind: kind,
         sums: sums,
@@ -96,4 +100,6 @@ pub fn print_account(a: Account) {
     print_next(sums.upper);
     print_next(sums.least as u64);
     print_next(sums.most as u64);
+    let parameters = season.parameters;
+    print_parameters(parameters);
 }

@@ -1,6 +1,7 @@
 // What the case programs over accounts share: an account's fields by number, set and printed, and what feeding answers.
 mod answers;
 mod fields;
+mod parameters;
 
 pub use answers::print_fed;
 pub use answers::print_refusal;

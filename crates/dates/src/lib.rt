@@ -37,7 +37,7 @@ pub fn header_at(tree: u8, days: u16, level: u16, latitude: u16, height: u16) ->
     ensures { λ r. ⌜ placedAs r ≡ placedOf tree days level latitude height ⌝ }
     ensures promise { λ _. ⌜ PlacePromise ⌝ }
 {
-    let Choice::Tree(_) = trees::figures_of(tree) else {
+    let Choice::Tree(_) = measured::figures_in(measured::no_parameters(), tree) else {
         return Placed::Refused(Refusal::Tree);
     };
     if records::outside(365, 366, days) {

@@ -4,21 +4,24 @@ use mathlib.Core.Path.{_≡_, refl, sym, _∙_}
 use mathlib.Core.Bool.{Bool, true, false, cond}
 use Rattle.trees.specs.declared.Figures.{Figures}
 use Rattle.trees.specs.declared.Choice.{Choice}
-use Rattle.trees.specs.Figures.{figuresOf, rampDays}
+use Rattle.trees.specs.Figures.{rampDays}
+use Rattle.measured.specs.Parameters.{noParameters}
+use Rattle.measured.specs.Figures.{figuresIn}
 use Rattle.records.specs.declared.Header.{Header}
 use Rattle.records.specs.declared.Record.{Record}
 use Rattle.records.specs.declared.Checked.{Checked}
 use Rattle.records.specs.Answers.{Outcome, accepted, refused, row, onward, checkedAs}
-use Rattle.records.specs.Ranges.{isOutside, periodOut, checked}
+use Rattle.records.specs.Numbers.{isOutside}
+use Rattle.records.specs.Ranges.{periodOut, checked}
 use Rattle.dates_spec.specs.Model.{firstDay, lastDay}
 use Rattle.dates_spec.specs.Rules.{placeOut, madeHeader, placedOf}
 
 module _ (tree days level latitude height : ℕ) where
-  pub placed-no-tree : figuresOf tree ≡ Choice.Unknown → refused (5, 0) ≡ placedOf tree days level latitude height
+  pub placed-no-tree : figuresIn noParameters tree ≡ Choice.Unknown → refused (5, 0) ≡ placedOf tree days level latitude height
   unfolding placedOf
   placed-no-tree e = rw e
 
-  pub placed-year-out : {f : Figures} → figuresOf tree ≡ Choice.Tree f → isOutside 365 366 days ≡ true → refused (6, 0) ≡ placedOf tree days level latitude height
+  pub placed-year-out : {f : Figures} → figuresIn noParameters tree ≡ Choice.Tree f → isOutside 365 366 days ≡ true → refused (6, 0) ≡ placedOf tree days level latitude height
   unfolding placedOf
   placed-year-out known year = rw (known, year)
 
@@ -35,7 +38,7 @@ rows-onward false false v w a b = refl
 abbrev pub headerWith : ℕ → ℕ → ℕ → ℕ → ℕ → Header
 headerWith tree′ days′ first′ last′ level′ = record { tree = tree′; days = days′; first = first′; last = last′; level = level′ }
 
-module _ (tree days level latitude height : ℕ) {f : Figures} (known : figuresOf tree ≡ Choice.Tree f) (year : isOutside 365 366 days ≡ false) where
+module _ (tree days level latitude height : ℕ) {f : Figures} (known : figuresIn noParameters tree ≡ Choice.Tree f) (year : isOutside 365 366 days ≡ false) where
   abbrev made : Header
   made = madeHeader tree days level latitude height
 

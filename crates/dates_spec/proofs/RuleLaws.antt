@@ -9,10 +9,13 @@ use lib.Dec.{ltb, leb}
 use Rattle.trees.specs.declared.Figures.{Figures}
 use Rattle.trees.specs.declared.Choice.{Choice}
 use Rattle.trees.specs.Figures.{beech, figuresOf, rampDays}
+use Rattle.measured.specs.Parameters.{noParameters}
+use Rattle.measured.specs.Figures.{figuresIn}
 use Rattle.records.specs.declared.Header.{Header}
 use Rattle.records.specs.declared.Record.{Record}
 use Rattle.records.specs.Answers.{Outcome, accepted, refused}
-use Rattle.records.specs.Ranges.{isOutside, onTree, periodOut, checked}
+use Rattle.records.specs.Numbers.{isOutside}
+use Rattle.records.specs.Ranges.{onTree, periodOut, checked}
 use Rattle.records.proofs.AnswerLaws.{or-neither, refused-not-accepted, accepted-same, row-passed, onTree-passed}
 use Rattle.records.proofs.CheckLaws.{level-in}
 use Rattle.frames.specs.Kinds.{among}
@@ -25,7 +28,7 @@ use Rattle.dates_spec.proofs.ModelLaws.{model-kept, extremes-is}
 
 -- where both rows' conditions hold, row 14 answers
 pub pole-is : (periodOut (madeHeader 4 365 520 900 3000) (rampDays beech) ≡ true) × (placedOf 4 365 520 900 3000 ≡ refused (14, 0))
-unfolding roundUp modelStart roundDown modelEnd figuresOf madeHeader among placeOut placedOf
+unfolding roundUp modelStart roundDown modelEnd figuresIn figuresOf madeHeader among placeOut placedOf
 pole-is = (refl, refl)
 
 -- ---- inside row 14's ranges
@@ -54,22 +57,22 @@ short Choice.Unknown = false
 
 record Modelled (tree : ℕ) : Type 0 where
   figures : Figures
-  is : figuresOf tree ≡ Choice.Tree figures
+  is : figuresIn noParameters tree ≡ Choice.Tree figures
   ramps : rampDays figures ≤ 50
 
-short-is : (tree : ℕ) (choice : Choice) → figuresOf tree ≡ choice → short choice ≡ true → Modelled tree
+short-is : (tree : ℕ) (choice : Choice) → figuresIn noParameters tree ≡ choice → short choice ≡ true → Modelled tree
 short-is tree (Choice.Tree f) e s = record { figures = f; is = e; ramps = leb-true (rampDays f) 50 s }
 short-is tree Choice.Unknown e s = absurd (false≢true s)
 
 modelled : (tree : ℕ) → hasModel tree ≡ true → Modelled tree
-unfolding among figuresOf
-modelled tree e = short-is tree (figuresOf tree) refl (among-passes (λ n. short (figuresOf n)) withModel tree refl e)
+unfolding among figuresIn figuresOf
+modelled tree e = short-is tree (figuresIn noParameters tree) refl (among-passes (λ n. short (figuresIn noParameters n)) withModel tree refl e)
 
 tree-same : {choice : Choice} {f g : Figures} → choice ≡ Choice.Tree f → choice ≡ Choice.Tree g → f ≡ g
 tree-same d e = cc
 
 -- row 7 never comes up
-pub period-in : (tree days level latitude height : ℕ) (f : Figures) → figuresOf tree ≡ Choice.Tree f → isOutside 365 366 days ≡ false
+pub period-in : (tree days level latitude height : ℕ) (f : Figures) → figuresIn noParameters tree ≡ Choice.Tree f → isOutside 365 366 days ≡ false
     → placeOut tree latitude height ≡ false → periodOut (madeHeader tree days level latitude height) (rampDays f) ≡ false
 unfolding madeHeader
 period-in tree days level latitude height f known year e =
@@ -112,7 +115,7 @@ module _ {A : Type 0} {rows : List ℕ} where
 
 module _ (tree days level latitude height : ℕ) where
   -- row 14 comes before row 7
-  pub place-out : (f : Figures) → figuresOf tree ≡ Choice.Tree f → isOutside 365 366 days ≡ false → placeOut tree latitude height ≡ true
+  pub place-out : (f : Figures) → figuresIn noParameters tree ≡ Choice.Tree f → isOutside 365 366 days ≡ false → placeOut tree latitude height ≡ true
       → placedOf tree days level latitude height ≡ refused (14, 0)
   unfolding placedOf
   place-out f known year out = rw (known, year, out)
@@ -120,7 +123,7 @@ module _ (tree days level latitude height : ℕ) where
   placed-only : Only (5 ∷ 6 ∷ 14 ∷ 8 ∷ []) (placedOf tree days level latitude height)
   unfolding placedOf among
   placed-only =
-      onTree-only (figuresOf tree) _ refl (λ f known.
+      onTree-only (figuresIn noParameters tree) _ refl (λ f known.
       row-only (isOutside 365 366 days) _ _ refl (λ year.
       row-only (placeOut tree latitude height) _ _ refl (λ inside.
       row-never (periodOut (madeHeader tree days level latitude height) (rampDays f)) _ _ (period-in tree days level latitude height f known year inside) (
@@ -142,13 +145,15 @@ module _ (tree days level latitude height : ℕ) where
   pub placed-passed : (h : Header) → placedOf tree days level latitude height ≡ accepted h → checked (Record.Header h) ≡ accepted tt
   unfolding placedOf madeHeader
   placed-passed h e =
-      let p5 = onTree-passed (figuresOf tree) _ h e in
+      let p5 = onTree-passed (figuresIn noParameters tree) _ h e in
       let p6 = row-passed (isOutside 365 366 days) _ _ h (p5 .2) in
       let p14 = row-passed (placeOut tree latitude height) _ _ h (p6 .1) in
       let p7 = row-passed (periodOut (madeHeader tree days level latitude height) (rampDays (p5 .0))) _ _ h (p14 .1) in
       let p8 = row-passed (isOutside 1 10000 level) _ _ h (p7 .1) in
       rw (← accepted-same (p8 .1)) (sym (level-in (madeHeader tree days level latitude height) (p5 .1) (p6 .0) (p7 .0) (p8 .0)))
 
-pub without-model : (latitude height : ℕ) → (placeOut 3 latitude height ≡ true) × (placeOut 6 latitude height ≡ true)
+pub without-model : (latitude height : ℕ) → (placeOut 3 latitude height ≡ true) × (placeOut 6 latitude height ≡ true) × (placeOut 7 latitude height ≡ true)
 unfolding placeOut among
-without-model latitude height = (or-true (isOutside leastLatitude mostLatitude latitude || ltb mostHeight height), or-true (isOutside leastLatitude mostLatitude latitude || ltb mostHeight height))
+without-model latitude height =
+    let out = or-true (isOutside leastLatitude mostLatitude latitude || ltb mostHeight height) in
+    (out, out, out)

@@ -7,11 +7,14 @@ use lib.ListN.{length, take}
 use Rattle.exact.specs.Frac.{natural, _⊕_, _⊗_, _≈_}
 use Rattle.trees.specs.declared.Figures.{Figures}
 use Rattle.trees.specs.declared.Choice.{Choice}
-use Rattle.trees.specs.Figures.{beech, figuresOf, rampDays}
+use Rattle.trees.specs.Figures.{beech, rampDays}
+use Rattle.measured.specs.Parameters.{noParameters}
+use Rattle.measured.specs.Figures.{figuresIn}
 use Rattle.records.specs.declared.Header.{Header}
 use Rattle.records.specs.declared.Record.{Record}
 use Rattle.records.specs.Answers.{accepted, refused}
-use Rattle.records.specs.Ranges.{isOutside, periodOut}
+use Rattle.records.specs.Numbers.{isOutside}
+use Rattle.records.specs.Ranges.{periodOut}
 use Rattle.frames.specs.Kinds.{among}
 use Rattle.frames.specs.Layout.{frameLine}
 use Rattle.frames.specs.Frames.{readFrameOf}
@@ -67,14 +70,14 @@ pub record PlacePromise : Type 0 where
   pub thousand : (latitude height : ℕ) → InPlace latitude (height + 1000)
       → (firstDay latitude (height + 1000) ≡ firstDay latitude height + 10) × (lastDay latitude (height + 1000) + 10 ≡ lastDay latitude height)
   -- row 14 before row 7
-  pub out : (tree days level latitude height : ℕ) (f : Figures) → figuresOf tree ≡ Choice.Tree f → isOutside 365 366 days ≡ false
+  pub out : (tree days level latitude height : ℕ) (f : Figures) → figuresIn noParameters tree ≡ Choice.Tree f → isOutside 365 366 days ≡ false
       → placeOut tree latitude height ≡ true → placedOf tree days level latitude height ≡ refused (14, 0)
   -- so at the pole and 3000 m, where the end would be before the start
   pub pole : (periodOut (madeHeader 4 365 520 900 3000) (rampDays beech) ≡ true) × (placedOf 4 365 520 900 3000 ≡ refused (14, 0))
-  -- continental spruce and the evergreen are without the model
-  pub withoutModel : (latitude height : ℕ) → (placeOut 3 latitude height ≡ true) × (placeOut 6 latitude height ≡ true)
+  -- continental spruce, the evergreen and a measured tree (W-212) are without the model
+  pub withoutModel : (latitude height : ℕ) → (placeOut 3 latitude height ≡ true) × (placeOut 6 latitude height ≡ true) × (placeOut 7 latitude height ≡ true)
   -- row 7 never comes up
-  pub period : (tree days level latitude height : ℕ) (f : Figures) → figuresOf tree ≡ Choice.Tree f → isOutside 365 366 days ≡ false
+  pub period : (tree days level latitude height : ℕ) (f : Figures) → figuresIn noParameters tree ≡ Choice.Tree f → isOutside 365 366 days ≡ false
       → placeOut tree latitude height ≡ false → periodOut (madeHeader tree days level latitude height) (rampDays f) ≡ false
   pub rows : (tree days level latitude height n f : ℕ) → placedOf tree days level latitude height ≡ refused (n, f)
       → (among (5 ∷ 6 ∷ 14 ∷ 8 ∷ []) n ≡ true) × (f ≡ 0)

@@ -3,10 +3,13 @@ use Prim.Native.Nat.{ℕ}
 use mathlib.Core.Bool.{Bool, not, _||_}
 use mathlib.Core.List.{List, [], _∷_}
 use lib.Dec.{ltb}
-use Rattle.trees.specs.Figures.{figuresOf, rampDays}
+use Rattle.trees.specs.Figures.{rampDays}
+use Rattle.measured.specs.Parameters.{noParameters}
+use Rattle.measured.specs.Figures.{figuresIn}
 use Rattle.records.specs.declared.Header.{Header}
 use Rattle.records.specs.Answers.{Outcome, accepted, refused, row, rowOf}
-use Rattle.records.specs.Ranges.{isOutside, onTree, periodOut}
+use Rattle.records.specs.Numbers.{isOutside}
+use Rattle.records.specs.Ranges.{onTree, periodOut}
 use Rattle.frames.specs.Kinds.{among}
 use Rattle.dates_spec.specs.declared.Placed.{Placed}
 use Rattle.dates_spec.specs.Model.{firstDay, lastDay}
@@ -43,7 +46,7 @@ madeHeader tree′ days′ level′ latitude height = record {
 
 unfoldable pub placedOf : ℕ → ℕ → ℕ → ℕ → ℕ → Outcome Header
 placedOf tree days level latitude height =
-    onTree (figuresOf tree) (λ f.
+    onTree (figuresIn noParameters tree) (λ f.
     row 6 (isOutside 365 366 days)
     (row 14 (placeOut tree latitude height)
     (row 7 (periodOut (madeHeader tree days level latitude height) (rampDays f))

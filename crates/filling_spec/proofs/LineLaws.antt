@@ -3,8 +3,9 @@ use Prim.Native.Nat.{ℕ, _≤_, _<_}
 use mathlib.Core.Path.{_≡_, refl, sym, ap, subst, _∙_}
 use mathlib.Core.List.{List}
 use native.Mathlib.Omega.{arith}
-use Rattle.trees.specs.Figures.{figuresOf}
 use Rattle.trees.specs.declared.Measure.{Measure}
+use Rattle.measured.specs.Parameters.{noParameters}
+use Rattle.measured.specs.Figures.{figuresIn}
 use Rattle.records.specs.declared.Air.{Air}
 use Rattle.records.specs.declared.Air.the-variants.{Deficit, Pressure, Humidity}
 use Rattle.records.specs.declared.Hour.{Hour}
@@ -20,7 +21,7 @@ use Rattle.frames.specs.Fields.{fieldsAt}
 use Rattle.frames.specs.Layout.{soilOf, airOf, rawHourOf, hourOf, frameOf, frameAt, frameLine}
 use Rattle.frames.specs.Steps.{IsHour, withDeficit, withPressure, withHumidity}
 use Rattle.frames.specs.Frames.{parsedOf, recordOf, readFrameOf}
-use Rattle.frames.proofs.KindLaws.{KindCase, header, hour, end, ceiling, kind-cases}
+use Rattle.frames.proofs.KindLaws.{KindCase, header, hour, end, ceiling, parameters, kind-cases}
 use Rattle.frames.proofs.FrameLaws.{frame-is, hour-framed, sized-within}
 use Rattle.frames.proofs.ReadLaws.{parsed-passed, sound-read, hour-read}
 use Rattle.writer.specs.RoundTrip.{measureIn, HasMeasure}
@@ -33,6 +34,7 @@ hourOr other (Record.Header x) = other
 hourOr other (Record.Hour h) = h
 hourOr other (Record.End x) = other
 hourOr other (Record.Ceiling x) = other
+hourOr other (Record.Parameters x) = other
 
 pub hour-inside : {g h : Hour} → Record.Hour g ≡ Record.Hour h → g ≡ h
 hour-inside {g = g} e = ap (hourOr g) e
@@ -55,6 +57,7 @@ Wide (Raw.Header h) = Unit
 Wide (Raw.Hour raw) = (raw .day < 65536) × (raw .hour < 256)
 Wide (Raw.End e) = Unit
 Wide (Raw.Ceiling c) = Unit
+Wide (Raw.Parameters p) = Unit
 
 frame-wide : (l : List ℕ) → KindCase (byteAt 0 l) → Wide (frameAt l)
 unfolding frameOf
@@ -62,6 +65,7 @@ frame-wide l (header k) = rw (frame-is l k) tt
 frame-wide l (hour is) = let k = byteAt 0 l in rw (hour-framed l is refl) (hour-width l k is (airOf k (fieldsAt k l)))
 frame-wide l (end k) = rw (frame-is l k) tt
 frame-wide l (ceiling k) = rw (frame-is l k) tt
+frame-wide l (parameters k) = rw (frame-is l k) tt
 
 raw-wide : (l : List ℕ) (raw : RawHour) → parsedOf l ≡ accepted (Raw.Hour raw) → Wide (Raw.Hour raw)
 raw-wide l raw e =
@@ -82,6 +86,7 @@ filled-raw tree n l h (Raw.Header x) p r = let e = sound-read _ _ r .same in let
 filled-raw tree n l h (Raw.Hour raw) p r = record { raw = raw; parsed = p; read = r }
 filled-raw tree n l h (Raw.End x) p r = let e = sound-read _ _ r .same in let z : _≡_ {A = ℕ} 0 1 = cc in absurd (omega arith)
 filled-raw tree n l h (Raw.Ceiling x) p r = let e = sound-read _ _ r .same in let z : _≡_ {A = ℕ} 0 1 = cc in absurd (omega arith)
+filled-raw tree n l h (Raw.Parameters x) p r = let e = sound-read _ _ r .same in let z : _≡_ {A = ℕ} 0 1 = cc in absurd (omega arith)
 
 soil-measured : (m : Measure) (n : ℕ) → measureIn (soilOf m n) ≡ m
 soil-measured Measure.Suction n = refl
@@ -107,7 +112,7 @@ line-filled tree n l raw h small parsed read =
     let hr = hour-read tree raw (Record.Hour h) read in
     let m = hr .figures .measure in
     let same = hour-inside (hr .is .same) in
-    let measured : HasMeasure (figuresOf tree) (measureIn (h .soil)) = rw (hr .named) (hour-measure raw m h same) in
+    let measured : HasMeasure (figuresIn noParameters tree) (measureIn (h .soil)) = rw (hr .named) (hour-measure raw m h same) in
     let is = ap (lineWith n) (sym (p .1)) ∙ line-is n h (h .air) refl in
     let back = read-line tree (Record.Hour (withOzone n h)) (hour-wide raw m h same (raw-wide l raw parsed)) measured (ozone-passed n h small (p .0)) in
     let q = onward-passed (parsedOf (lineWith n l)) (recordOf tree) (Record.Hour (withOzone n h)) (rw is back) in

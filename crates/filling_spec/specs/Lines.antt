@@ -26,6 +26,7 @@ lacksIn (accepted (Raw.Header h)) = false
 lacksIn (accepted (Raw.Hour raw)) = isMissing (ozoneOf (raw .ozone))
 lacksIn (accepted (Raw.End e)) = false
 lacksIn (accepted (Raw.Ceiling c)) = false
+lacksIn (accepted (Raw.Parameters p)) = false
 lacksIn (refused row) = false
 
 unfoldable pub lacksOzone : List ℕ → Bool

@@ -9,13 +9,17 @@ use crate::share;
 use exact::Bounds;
 use flux_spec::Stand;
 use frames::Hour;
+use power::Factor;
 use tables::Factored;
+use trees::Curve;
 use trees::Deficits;
 use trees::Figures;
+use trees::Source;
 ghost use mathlib.Core.Path.{_≡_};
 ghost use Prim.Native.Nat.{_+_, _-_, _*_, _≤_};
+ghost use Rattle.trees.specs.Figures.{ownerOf};
 ghost use Rattle.trees.specs.Sound.{Sound};
-ghost use Rattle.trees.specs.Steps.{Tabled};
+ghost use Rattle.trees.specs.Steps.{HasTable};
 ghost use Rattle.trees.specs.Temperature.{temperaturePair};
 ghost use Rattle.flux_spec.specs.Conductance.{aboveOf};
 ghost use Rattle.flux_spec.specs.Deficit.{airDeficits};
@@ -24,17 +28,39 @@ ghost use Rattle.records.specs.Answers.{accepted};
 ghost use Rattle.records.specs.Ranges.{checked};
 ghost use Rattle.records.specs.declared.Record.{Record};
 
-// f_temp, in units of 10⁻⁹; an hour that row 10 lets pass has no reading above 60.0 °C.
-fn temperature(f: Figures, t: u16) -> Bounds
-    requires tabled { ⌜ Tabled f ⌝ }
+// f_temp out of a table, in units of 10⁻⁹; an hour that row 10 lets pass has no reading above 60.0 °C.
+fn tabled(curve: Curve, t: u16) -> Bounds
     requires highest { ⌜ t ≤ 1100 ⌝ }
-    ensures { λ r. ⌜ r ≡ temperaturePair f t ⌝ }
+    ensures { λ r. ⌜ r ≡ temperaturePair (ownerOf curve) t ⌝ }
 {
-    let curve = f.curve;
     let Factored::Pair(pair) = tables::f_temp(curve, t) else {
         return Bounds { lower: 0, upper: 0 };
     };
     pair
+}
+
+// f_temp worked out from the figures.
+fn worked(f: Figures, t: u16) -> Bounds
+    requires sound { ⌜ Sound f ⌝ }
+    ensures { λ r. ⌜ r ≡ temperaturePair f t ⌝ }
+{
+    let Factor::Pair(pair) = power::f_temp(f, t) else {
+        return Bounds { lower: 0, upper: 0 };
+    };
+    pair
+}
+
+fn temperature(f: Figures, t: u16) -> Bounds
+    requires sound { ⌜ Sound f ⌝ }
+    requires tabled { ⌜ HasTable f ⌝ }
+    requires highest { ⌜ t ≤ 1100 ⌝ }
+    ensures { λ r. ⌜ r ≡ temperaturePair f t ⌝ }
+{
+    let source = f.source;
+    match source {
+        Source::Tabled(curve) => tabled(curve, t),
+        Source::Worked => worked(f, t),
+    }
 }
 
 // max(f_min, f_temp·f_VPD·f_SW), in units of 10⁻⁹.
@@ -101,7 +127,7 @@ fn pair(gmax: u16, leaf: u16, y: u16, wind: u16, c: Bounds, s: Bounds) -> Bounds
 // The pair of an hour that row 10 lets pass.
 pub(crate) fn dosed(stand: Stand, h: Hour, vpd: Deficits) -> Bounds
     requires sound { ⌜ Sound (stand .figures) ⌝ }
-    requires tabled { ⌜ Tabled (stand .figures) ⌝ }
+    requires tabled { ⌜ HasTable (stand .figures) ⌝ }
     requires checked { ⌜ checked (Record.Hour h) ≡ accepted tt ⌝ }
     requires deficits { ⌜ vpd ≡ airDeficits (h .air) (aboveOf (h .temperature)) ⌝ }
     requires ceiling { ⌜ stand .ceiling ≤ 5000 ⌝ }

@@ -12,29 +12,43 @@ mod vapour;
 
 use exact::Bounds;
 pub use flux_spec::Dosed;
+use flux_spec::Named;
 use flux_spec::Stand;
 use frames::Checked;
 use frames::Hour;
+use frames::Parameters;
 use frames::Refusal;
 use trees::Choice;
+use trees::Figures;
 ghost use mathlib.Core.Path.{_≡_};
-ghost use Rattle.trees.specs.Figures.{figuresOf};
+ghost use Rattle.trees.specs.Sound.{Sound};
+ghost use Rattle.trees.specs.Steps.{HasTable};
+ghost use Rattle.records.specs.Answers.{accepted};
 ghost use Rattle.flux_spec.specs.BenchCases.{BenchCases};
 ghost use Rattle.flux_spec.specs.Enclosure.{Enclosure};
 ghost use Rattle.flux_spec.specs.Facts.{HourFacts};
-ghost use Rattle.flux_spec.specs.HourDose.{hourDoseOf, dosedAs};
+ghost use Rattle.flux_spec.specs.HourDose.{treeOf, namedAs, hourDoseOf, dosedAs};
 
-// What an hour adds to POD1, for the tree with a number, the first and the last day of the period and the ozone ceiling (0: none): its pair
-// where it is counted, else 0 and 0.
-pub fn hour_dose(tree: u8, first: u16, last: u16, ceiling: u16, h: Hour) -> Dosed
-    ensures { λ r. ⌜ dosedAs r ≡ hourDoseOf (figuresOf tree) first last ceiling h ⌝ }
-    ensures enclosure { λ _. ⌜ Enclosure ⌝ }
-    ensures facts { λ _. ⌜ HourFacts ⌝ }
-    ensures bench_cases { λ _. ⌜ BenchCases ⌝ }
+// The figures of the tree with a number, those of tree 7 by its parameters: rows 24 and 5.
+fn tree_of(parameters: Parameters, tree: u8) -> Named
+    ensures { λ r. ⌜ namedAs r ≡ treeOf parameters tree ⌝ }
 {
-    let Choice::Tree(figures) = trees::figures_of(tree) else {
-        return Dosed::Refused(Refusal::Tree);
-    };
+    if rows::measured_out(tree, parameters) {
+        return Named::Refused(Refusal::Parameter);
+    }
+    let choice = measured::figures_in(parameters, tree);
+    match choice {
+        Choice::Tree(figures) => Named::Tree(figures),
+        Choice::Unknown => Named::Refused(Refusal::Tree),
+    }
+}
+
+// The dose of an hour by a tree's figures: rows 7, 17, 18 and 10.
+fn dose_by(figures: Figures, first: u16, last: u16, ceiling: u16, h: Hour) -> Dosed
+    requires sound { ⌜ Sound figures ⌝ }
+    requires tabled { ⌜ HasTable figures ⌝ }
+    ensures { λ r. ⌜ dosedAs r ≡ hourDoseOf (accepted figures) first last ceiling h ⌝ }
+{
     if rows::days_out(figures, first, last) {
         return Dosed::Refused(Refusal::Period);
     }
@@ -61,4 +75,26 @@ pub fn hour_dose(tree: u8, first: u16, last: u16, ceiling: u16, h: Hour) -> Dose
         ceiling,
     };
     Dosed::Pair(hour::dosed(stand, h, vapour::deficits(h)))
+}
+
+// What an hour adds to POD1, for the tree with a number, its parameters (tree 7 goes by them, no other tree), the first and the last day of the period and the
+// ozone ceiling (0: none): its pair where it is counted, else 0 and 0.
+pub fn hour_dose(
+    tree: u8,
+    parameters: Parameters,
+    first: u16,
+    last: u16,
+    ceiling: u16,
+    h: Hour,
+) -> Dosed
+    ensures { λ r. ⌜ dosedAs r ≡ hourDoseOf (treeOf parameters tree) first last ceiling h ⌝ }
+    ensures enclosure { λ _. ⌜ Enclosure ⌝ }
+    ensures facts { λ _. ⌜ HourFacts ⌝ }
+    ensures bench_cases { λ _. ⌜ BenchCases ⌝ }
+{
+    let named = tree_of(parameters, tree);
+    match named {
+        Named::Tree(figures) => dose_by(figures, first, last, ceiling, h),
+        Named::Refused(refusal) => Dosed::Refused(refusal),
+    }
 }

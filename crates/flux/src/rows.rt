@@ -1,9 +1,23 @@
-// The tests of rows 7 and 10 that an hour's dose makes besides those of the hour itself.
+// The tests of rows 24, 7 and 10 that an hour's dose makes besides those of the hour itself.
+use frames::Parameters;
 use frames::Soil;
 use trees::Figures;
 use trees::Measure;
 ghost use mathlib.Core.Path.{_≡_};
+ghost use mathlib.Core.Bool.{_&&_};
+ghost use lib.Dec.{eqb};
+ghost use Rattle.records.specs.Parameters.{parameterOut};
 ghost use Rattle.flux_spec.specs.HourDose.{daysOut, otherMeasure, soilUnfit};
+
+// Row 24: tree 7 goes by its parameters.
+pub(crate) fn measured_out(tree: u8, parameters: Parameters) -> bool
+    ensures { λ r. ⌜ r ≡ (eqb tree 7 && parameterOut parameters) ⌝ }
+{
+    if tree == 7 {
+        return records::parameters_out(parameters);
+    }
+    false
+}
 
 // Row 7 where the year is not known: no year has more than 366 days.
 pub(crate) fn days_out(f: Figures, first: u16, last: u16) -> bool

@@ -1,5 +1,5 @@
-// Rows of a call: tree (two hexadecimal digits), first and last day and the ceiling (four each), the soil's measure (S suction, W water) and the hour's
-// line, with single spaces. The answer for each row on a line of its own.
+// Rows of a call: tree (two hexadecimal digits), first and last day and the ceiling (four each), the soil's measure (S suction, W water), the hour's
+// line, with single spaces; for tree 7 that line filled up to 40 characters, a space and the line of its parameters. The answer for each row on a line of its own.
 use crate::answers::print_dosed;
 use cases::i16_at;
 use cases::print;
@@ -7,6 +7,7 @@ use cases::u8_at;
 use cases::u16_at;
 use frames::Air;
 use frames::Hour;
+use frames::Parameters;
 use frames::Soil;
 
 fn soil_of(measure: u8, n: u16) -> Soil {
@@ -48,13 +49,37 @@ fn hour_of(row: &[u8], measure: u8) -> Hour {
     }
 }
 
+// All 0 where the row has none; their line starts with its kind.
+fn parameters_of(row: &[u8]) -> Parameters {
+    Parameters {
+        gmax: u16_at(row, 63),
+        fmin: u16_at(row, 67),
+        lighta: u16_at(row, 71),
+        tmin: u16_at(row, 75),
+        topt: u16_at(row, 79),
+        tmax: u16_at(row, 83),
+        vpdmax: u16_at(row, 87),
+        vpdmin: u16_at(row, 91),
+        soilmax: u16_at(row, 95),
+        soilmin: u16_at(row, 99),
+        leaf: u16_at(row, 103),
+        a: u16_at(row, 107),
+        e: u16_at(row, 111),
+        f1: u16_at(row, 115),
+        f4: u16_at(row, 119),
+        y: u16_at(row, 123),
+    }
+}
+
 fn print_row(row: &[u8]) {
     if row.len() < 56 {
         return;
     }
     let h = hour_of(row, row[18]);
+    let parameters = parameters_of(row);
     print_dosed(flux::hour_dose(
         u8_at(row, 0),
+        parameters,
         u16_at(row, 3),
         u16_at(row, 8),
         u16_at(row, 13),

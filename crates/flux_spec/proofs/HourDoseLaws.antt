@@ -1,20 +1,22 @@
 -- What the hour's dose is, by each of the tests before it; and what an hour that none of them refuses has passed.
 use Prim.Native.Nat.{ℕ, _+_, _≤_}
 use mathlib.Core.Path.{_≡_, refl}
-use mathlib.Core.Bool.{Bool, true, false, or-false, _||_}
+use mathlib.Core.Bool.{Bool, true, false, or-false, _&&_, _||_}
 use native.Mathlib.Omega.{arith}
 use borrow.Author.Tests.{ltb-false, le-ltb}
-use lib.Dec.{ltb}
+use lib.Dec.{eqb, ltb}
 use Rattle.exact.specs.declared.Bounds.{Bounds}
 use Rattle.trees.specs.declared.Measure.{Measure}
 use Rattle.trees.specs.declared.Figures.{Figures}
 use Rattle.trees.specs.declared.Choice.{Choice}
-use Rattle.trees.specs.Figures.{figuresOf}
+use Rattle.measured.specs.declared.Parameters.{Parameters}
+use Rattle.measured.specs.Figures.{figuresIn}
+use Rattle.records.specs.Parameters.{parameterOut}
 use Rattle.records.specs.declared.Header.{Header}
 use Rattle.records.specs.declared.Hour.{Hour}
 use Rattle.records.specs.declared.RawHour.{RawHour}
 use Rattle.records.specs.declared.Record.{Record}
-use Rattle.records.specs.Answers.{accepted, refused}
+use Rattle.records.specs.Answers.{Outcome, accepted, refused}
 use Rattle.records.specs.Ranges.{ozoneOut, vapourOut, soilOut, periodOut, hourChecked, checked, ceilingOut, lacksCeiling}
 use Rattle.records.specs.Temperature.{temperatureOut}
 use Rattle.records.proofs.AnswerLaws.{accepted-same, refused-not-accepted, or-neither, row-passed, onward-passed}
@@ -23,49 +25,69 @@ use Rattle.frames.specs.Layout.{ozoneOf, soilOf, hourOf}
 use Rattle.flux_spec.specs.declared.Stand.{Stand}
 use Rattle.flux_spec.specs.Dose.{isCounted}
 use Rattle.flux_spec.specs.Pair.{hourPair}
-use Rattle.flux_spec.specs.HourDose.{standOf, daysOut, otherMeasure, soilUnfit, standFor, hourDoseOf}
+use Rattle.flux_spec.specs.HourDose.{treeOf, standOf, daysOut, otherMeasure, soilUnfit, standFor, hourDoseOf}
+
+-- ---- the tree's figures
+
+module _ (ps : Parameters) (tree : ℕ) where
+  pub parameters-out-is : eqb tree 7 && parameterOut ps ≡ true → refused (24, 0) ≡ treeOf ps tree
+  unfolding treeOf
+  parameters-out-is out = rw out
+
+  -- row 24 lets it pass
+  module _ (passed : eqb tree 7 && parameterOut ps ≡ false) where
+    pub tree-is : (f : Figures) → figuresIn ps tree ≡ Choice.Tree f → accepted f ≡ treeOf ps tree
+    unfolding treeOf
+    tree-is f e = rw (passed, e)
+
+    pub no-figures-is : figuresIn ps tree ≡ Choice.Unknown → refused (5, 0) ≡ treeOf ps tree
+    unfolding treeOf
+    no-figures-is e = rw (passed, e)
 
 -- ---- refused, by each row
 
-module _ (choice : Choice) (first last ceiling : ℕ) (h : Hour) where
-  pub unknown-is : choice ≡ Choice.Unknown → refused (5, 0) ≡ hourDoseOf choice first last ceiling h
+module _ (tree : Outcome Figures) (first last ceiling : ℕ) (h : Hour) where
+  pub no-tree-is : (w : ℕ × ℕ) → tree ≡ refused w → refused w ≡ hourDoseOf tree first last ceiling h
   unfolding hourDoseOf standFor
-  unknown-is e = rw e
+  no-tree-is w e = rw e
 
-  module _ (f : Figures) (e : choice ≡ Choice.Tree f) where
-    pub days-out-is : daysOut f first last ≡ true → refused (7, 0) ≡ hourDoseOf choice first last ceiling h
+  module _ (f : Figures) (e : tree ≡ accepted f) where
+    pub named-is : (o : Outcome Bounds) → o ≡ hourDoseOf (accepted f) first last ceiling h → o ≡ hourDoseOf tree first last ceiling h
+    named-is o is = rw e is
+
+    pub days-out-is : daysOut f first last ≡ true → refused (7, 0) ≡ hourDoseOf tree first last ceiling h
     unfolding hourDoseOf standFor
     days-out-is out = rw (e, out)
 
     module _ (days : daysOut f first last ≡ false) where
-      pub ceiling-out-is : ceilingOut ceiling ≡ true → refused (17, 0) ≡ hourDoseOf choice first last ceiling h
+      pub ceiling-out-is : ceilingOut ceiling ≡ true → refused (17, 0) ≡ hourDoseOf tree first last ceiling h
       unfolding hourDoseOf standFor
       ceiling-out-is out = rw (e, days, out)
 
       module _ (within : ceilingOut ceiling ≡ false) where
-        pub lacks-ceiling-is : lacksCeiling ceiling (h .ozone) ≡ true → refused (18, 0) ≡ hourDoseOf choice first last ceiling h
+        pub lacks-ceiling-is : lacksCeiling ceiling (h .ozone) ≡ true → refused (18, 0) ≡ hourDoseOf tree first last ceiling h
         unfolding hourDoseOf standFor
         lacks-ceiling-is lacks = rw (e, days, within, lacks)
 
         module _ (has : lacksCeiling ceiling (h .ozone) ≡ false) where
           pub reading-out-is :
-              (row : ℕ × ℕ) → hourChecked (soilUnfit (f .measure) (h .soil)) h ≡ refused row → refused row ≡ hourDoseOf choice first last ceiling h
+              (row : ℕ × ℕ) → hourChecked (soilUnfit (f .measure) (h .soil)) h ≡ refused row → refused row ≡ hourDoseOf tree first last ceiling h
           unfolding hourDoseOf standFor
           reading-out-is row out = rw (e, days, within, has, out)
 
           -- ---- accepted
 
           module _ (passed : hourChecked (soilUnfit (f .measure) (h .soil)) h ≡ accepted tt) where
-            pub stand-is : standFor choice first last ceiling h ≡ accepted (standOf f first last ceiling)
+            pub stand-is : standFor tree first last ceiling h ≡ accepted (standOf f first last ceiling)
             unfolding standFor
             stand-is = rw (e, days, within, has, passed)
 
             pub counted-is :
-                isCounted h ≡ true → (pair : Bounds) → pair ≡ hourPair (standOf f first last ceiling) h → accepted pair ≡ hourDoseOf choice first last ceiling h
+                isCounted h ≡ true → (pair : Bounds) → pair ≡ hourPair (standOf f first last ceiling) h → accepted pair ≡ hourDoseOf tree first last ceiling h
             unfolding hourDoseOf
             counted-is counted pair p = rw (stand-is, counted, p)
 
-            pub uncounted-is : isCounted h ≡ false → accepted (record { lower = 0; upper = 0 }) ≡ hourDoseOf choice first last ceiling h
+            pub uncounted-is : isCounted h ≡ false → accepted (record { lower = 0; upper = 0 }) ≡ hourDoseOf tree first last ceiling h
             unfolding hourDoseOf
             uncounted-is dark = rw (stand-is, dark)
 
@@ -99,24 +121,24 @@ checked-fit m h own e = rw (own, or-false (soilOut (h .soil))) e
 
 -- ---- what an hour that no row refuses has passed
 
-pub record Passed (choice : Choice) (first last ceiling : ℕ) (h : Hour) (stand : Stand) : Type 0 where
-  pub named : choice ≡ Choice.Tree (stand .figures)
+pub record Passed (tree : Outcome Figures) (first last ceiling : ℕ) (h : Hour) (stand : Stand) : Type 0 where
+  pub named : tree ≡ accepted (stand .figures)
   pub is : stand ≡ standOf (stand .figures) first last ceiling
   pub within : ceiling ≤ 5000
   pub checks : checked (Record.Hour h) ≡ accepted tt
 
 pub stand-passed :
-    (choice : Choice) (first last ceiling : ℕ) (h : Hour) (stand : Stand) → standFor choice first last ceiling h ≡ accepted stand →
-    Passed choice first last ceiling h stand
+    (tree : Outcome Figures) (first last ceiling : ℕ) (h : Hour) (stand : Stand) → standFor tree first last ceiling h ≡ accepted stand →
+    Passed tree first last ceiling h stand
 unfolding standFor
-stand-passed (Choice.Tree f) first last ceiling h stand e =
+stand-passed (accepted f) first last ceiling h stand e =
     let days = row-passed (daysOut f first last) _ _ stand e in
     let within = row-passed (ceilingOut ceiling) _ _ stand (days .1) in
     let has = row-passed (lacksCeiling ceiling (h .ozone)) _ _ stand (within .1) in
     let range = onward-passed (hourChecked (soilUnfit (f .measure) (h .soil)) h) _ stand (has .1) in
     rw (← accepted-same (range .2))
     (record { named = refl; is = refl; within = ceiling-le ceiling (within .0); checks = fit-checked (f .measure) h (range .1) })
-stand-passed Choice.Unknown first last ceiling h stand e = let z : _≡_ {A = ℕ} 0 1 = cc in absurd (omega arith)
+stand-passed (refused w) first last ceiling h stand e = refused-not-accepted e
 
 -- ---- an hour frame, read in the tree's measure, of a season whose header row 7 lets pass
 
@@ -132,11 +154,11 @@ own-measure Measure.Suction n = refl
 own-measure Measure.Water n = refl
 
 pub frame-stand :
-    (header : Header) (ceiling : ℕ) (f : Figures) (raw : RawHour) → figuresOf (header .tree) ≡ Choice.Tree f →
+    (header : Header) (ceiling : ℕ) (f : Figures) (raw : RawHour) (tree : Outcome Figures) → tree ≡ accepted f →
     periodOut header (f .f1 + f .f4) ≡ false → header .days ≤ 366 → ceilingOut ceiling ≡ false → lacksCeiling ceiling (ozoneOf (raw .ozone)) ≡ false →
     checked (Record.Hour (hourOf raw (f .measure))) ≡ accepted tt →
-    standFor (figuresOf (header .tree)) (header .first) (header .last) ceiling (hourOf raw (f .measure)) ≡ accepted (standOf f (header .first) (header .last) ceiling)
+    standFor tree (header .first) (header .last) ceiling (hourOf raw (f .measure)) ≡ accepted (standOf f (header .first) (header .last) ceiling)
 unfolding hourOf
-frame-stand header ceiling f raw e period most within has passed =
+frame-stand header ceiling f raw tree e period most within has passed =
     stand-is _ (header .first) (header .last) ceiling _ f e (days-in header f period most) within has
     (checked-fit (f .measure) _ (own-measure (f .measure) (raw .soil)) passed)

@@ -9,6 +9,9 @@ use Rattle.trees.specs.declared.Figures.{Figures}
 use Rattle.trees.specs.declared.Choice.{Choice}
 use Rattle.trees.specs.Figures.{figuresOf}
 use Rattle.trees.specs.Sound.{Sound}
+use Rattle.measured.specs.declared.Parameters.{Parameters}
+use Rattle.measured.specs.Figures.{measuredFigures}
+use Rattle.records.specs.Parameters.{parameterOut}
 use Rattle.records.specs.declared.Air.{Air}
 use Rattle.records.specs.declared.Air.the-variants.{Deficit, Pressure, Humidity}
 use Rattle.records.specs.declared.Hour.{Hour}
@@ -19,7 +22,7 @@ use Rattle.records.specs.Ranges.{checked}
 use Rattle.flux_spec.specs.declared.Stand.{Stand}
 use Rattle.flux_spec.specs.Dose.{fluxAt, doseAt, NotAbove, NotBelow}
 use Rattle.flux_spec.specs.Pair.{lowerOf, upperOf, hourPair}
-use Rattle.flux_spec.specs.HourDose.{standOf, addedPair, hourDoseOf}
+use Rattle.flux_spec.specs.HourDose.{standOf, addedPair, hourDoseOf, treeOf}
 
 -- nmol m⁻² in an hour at most, by its kind: 530000 for the six trees, 795000 where the pressure is read
 abbrev pub mostDose : ℕ → Air → ℕ
@@ -74,18 +77,25 @@ pub record Limited (f : Figures) : Type 0 where
   pub y : f .y ≡ 1
   pub gap : gapMost f ≡ 2
 
+-- a measured tree (W-212): sound; an hour's two numbers are at most 6 apart in every kind, and at most 1500000
+pub record MeasuredLimited (f : Figures) : Type 0 where
+  pub sound : Sound f
+  pub gap : gapMost f ≤ 6
+  pub most : (air : Air) → mostDose (f .gmax) air ≤ 1500000
+
 -- what `hour_dose` answers with a pair: the hour's where it is counted, else 0 and 0
-pub record Answered (tree first last ceiling : ℕ) (h : Hour) (pair : Bounds) : Type 0 where
+pub record Answered (ps : Parameters) (tree first last ceiling : ℕ) (h : Hour) (pair : Bounds) : Type 0 where
   pub figures : Figures
-  pub named : figuresOf tree ≡ Choice.Tree figures
+  pub named : treeOf ps tree ≡ accepted figures
   pub is : pair ≡ addedPair (standOf figures first last ceiling) h
   pub enclosed : HourEnclosed (standOf figures first last ceiling) h
   pub filled : PairEnclosed (standOf figures first last ceiling) h
 
 pub record Enclosure : Type 0 where
   pub trees : (tree : ℕ) (f : Figures) → figuresOf tree ≡ Choice.Tree f → Limited f
+  pub measured : (ps : Parameters) → parameterOut ps ≡ false → MeasuredLimited (measuredFigures ps)
   pub hour : (stand : Stand) → Sound (stand .figures) → (h : Hour) → checked (Record.Hour h) ≡ accepted tt → HourEnclosed stand h
   pub ozone : (stand : Stand) (h : Hour) → OzoneGrows stand h
   pub pair : (stand : Stand) → Sound (stand .figures) → stand .ceiling ≤ 5000 → (h : Hour) → checked (Record.Hour h) ≡ accepted tt → PairEnclosed stand h
-  pub answer : (tree first last ceiling : ℕ) (h : Hour) (pair : Bounds) → hourDoseOf (figuresOf tree) first last ceiling h ≡ accepted pair
-      → Answered tree first last ceiling h pair
+  pub answer : (ps : Parameters) (tree first last ceiling : ℕ) (h : Hour) (pair : Bounds) → hourDoseOf (treeOf ps tree) first last ceiling h ≡ accepted pair
+      → Answered ps tree first last ceiling h pair

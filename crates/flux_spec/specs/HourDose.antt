@@ -1,19 +1,31 @@
--- What an hour adds to POD1, as two whole numbers; rows 5, 7, 17, 18 and 10, in that order, for a number that is no tree, days that are no period, a
--- ceiling out of range, a missing ozone with none and readings out of range.
+-- What an hour adds to POD1, as two whole numbers; rows 24, 5, 7, 17, 18 and 10, in that order, for parameters of tree 7 that are out, a number that is no tree,
+-- days that are no period, a ceiling out of range, a missing ozone with none and readings out of range.
 use Prim.Native.Nat.{ℕ, _+_}
-use mathlib.Core.Bool.{Bool, true, false, cond, _||_}
+use mathlib.Core.Bool.{Bool, true, false, cond, _&&_, _||_}
+use lib.Dec.{eqb}
 use Rattle.exact.specs.declared.Bounds.{Bounds}
 use Rattle.trees.specs.declared.Measure.{Measure}
 use Rattle.trees.specs.declared.Figures.{Figures}
-use Rattle.trees.specs.declared.Choice.{Choice}
+use Rattle.measured.specs.declared.Parameters.{Parameters}
+use Rattle.measured.specs.Figures.{figuresIn}
 use Rattle.records.specs.declared.Soil.{Soil}
 use Rattle.records.specs.declared.Hour.{Hour}
 use Rattle.records.specs.Answers.{Outcome, accepted, refused, row, onward, rowOf}
-use Rattle.records.specs.Ranges.{periodOut, soilOut, hourChecked, ceilingOut, lacksCeiling}
+use Rattle.records.specs.Parameters.{parameterOut}
+use Rattle.records.specs.Ranges.{onTree, periodOut, soilOut, hourChecked, ceilingOut, lacksCeiling}
 use Rattle.flux_spec.specs.declared.Stand.{Stand}
 use Rattle.flux_spec.specs.declared.Dosed.{Dosed}
+use Rattle.flux_spec.specs.declared.Named.{Named}
 use Rattle.flux_spec.specs.Dose.{isCounted}
 use Rattle.flux_spec.specs.Pair.{hourPair}
+
+-- the figures of the tree with a number, those of tree 7 by its parameters (W-212)
+unfoldable pub treeOf : Parameters → ℕ → Outcome Figures
+treeOf ps tree = row 24 (eqb tree 7 && parameterOut ps) (onTree (figuresIn ps tree) (λ f. accepted f))
+
+abbrev pub namedAs : Named → Outcome Figures
+namedAs (Named.Tree f) = accepted f
+namedAs (Named.Refused r) = refused (rowOf r)
 
 -- the tree's figures, the first and the last day of the period, the ozone ceiling
 abbrev pub standOf : Figures → ℕ → ℕ → ℕ → Stand
@@ -34,23 +46,23 @@ otherMeasure Measure.Water (Soil.Water n) = false
 abbrev pub soilUnfit : Measure → Soil → Bool
 soilUnfit measure soil = soilOut soil || otherMeasure measure soil
 
--- what the dose goes by besides the hour, out of what the tree's number names, the first and the last day and the ceiling; row 10 names the first field out of
+-- what the dose goes by besides the hour, out of the tree's figures, the first and the last day and the ceiling; row 10 names the first field out of
 -- range, and so is a soil in the other measure
-unfoldable pub standFor : Choice → ℕ → ℕ → ℕ → Hour → Outcome Stand
-standFor (Choice.Tree f) first last ceiling h =
+unfoldable pub standFor : Outcome Figures → ℕ → ℕ → ℕ → Hour → Outcome Stand
+standFor (accepted f) first last ceiling h =
     row 7 (daysOut f first last)
     (row 17 (ceilingOut ceiling)
     (row 18 (lacksCeiling ceiling (h .ozone))
     (onward (hourChecked (soilUnfit (f .measure) (h .soil)) h) (λ _.
     accepted (standOf f first last ceiling)))))
-standFor Choice.Unknown first last ceiling h = refused (5, 0)
+standFor (refused w) first last ceiling h = refused w
 
 -- an hour that is not counted adds nothing
 abbrev pub addedPair : Stand → Hour → Bounds
 addedPair stand h = cond (isCounted h) (hourPair stand h) (record { lower = 0; upper = 0 })
 
-unfoldable pub hourDoseOf : Choice → ℕ → ℕ → ℕ → Hour → Outcome Bounds
-hourDoseOf choice first last ceiling h = onward (standFor choice first last ceiling h) (λ stand. accepted (addedPair stand h))
+unfoldable pub hourDoseOf : Outcome Figures → ℕ → ℕ → ℕ → Hour → Outcome Bounds
+hourDoseOf tree first last ceiling h = onward (standFor tree first last ceiling h) (λ stand. accepted (addedPair stand h))
 
 abbrev pub dosedAs : Dosed → Outcome Bounds
 dosedAs (Dosed.Pair pair) = accepted pair

@@ -16,3 +16,9 @@ pub enum Dosed {
     Pair(Bounds),
     Refused(Refusal),
 }
+
+// What a tree's number names: its figures, those of tree 7 by its parameters; or the row that refuses it.
+pub enum Named {
+    Tree(Figures),
+    Refused(Refusal),
+}

@@ -8,7 +8,8 @@ use native.Mathlib.Omega.{arith}
 use lib.Dec.{eqb}
 use lib.IntN.{ℤ}
 use lib.ListN.{length}
-use Rattle.trees.specs.Figures.{figuresOf}
+use Rattle.measured.specs.Parameters.{noParameters}
+use Rattle.measured.specs.Figures.{figuresIn}
 use Rattle.trees.specs.declared.Figures.{Figures}
 use Rattle.trees.specs.declared.Choice.{Choice}
 use Rattle.trees.specs.declared.Measure.{Measure}
@@ -102,12 +103,12 @@ module _ (raw : RawHour) (m : Measure) where
   hour-is e₁ e₂ e₃ = rw (e₁, e₂, e₃)
 
 module _ (tree : ℕ) (raw : RawHour) where
-  pub no-tree : figuresOf tree ≡ Choice.Unknown → refused (5, 0) ≡ recordOf tree (Raw.Hour raw)
+  pub no-tree : figuresIn noParameters tree ≡ Choice.Unknown → refused (5, 0) ≡ recordOf tree (Raw.Hour raw)
   unfolding recordOf
   no-tree e = rw e
 
   pub hour-recorded :
-      {f : Figures} → figuresOf tree ≡ Choice.Tree f → {h : Hour} {o : Outcome Record} → h ≡ hourOf raw (f .measure) → o ≡ soundOf (Record.Hour h) →
+      {f : Figures} → figuresIn noParameters tree ≡ Choice.Tree f → {h : Hour} {o : Outcome Record} → h ≡ hourOf raw (f .measure) → o ≡ soundOf (Record.Hour h) →
       o ≡ recordOf tree (Raw.Hour raw)
   unfolding recordOf
   hour-recorded e eh eo = rw e (rw (eo, eh))

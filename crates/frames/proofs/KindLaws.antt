@@ -76,7 +76,7 @@ length-none n h = go (isLength n) refl
 -- ---- the numbers of kinds
 
 -- no kind has the number 0, nor one past the table
-pub kind-none : (b : ℕ) → (0 < b → length kinds < b) → 0 ≡ lengthOf b
+kind-none : (b : ℕ) → (0 < b → length kinds < b) → 0 ≡ lengthOf b
 unfolding lengthOf
 kind-none zero h = refl
 kind-none (suc b) h = sym (List·getD-eq-default lengths 0 {n = b} (omega (arith, h (omega arith))))
@@ -104,6 +104,7 @@ pub data KindCase (b : ℕ) : Type 0 where
   hour : IsHour b → KindCase b
   end : b ≡ 3 → KindCase b
   ceiling : b ≡ 6 → KindCase b
+  parameters : b ≡ 7 → KindCase b
 
 pub kind-cases : (b : ℕ) → (1 ≤ b) × (b ≤ length kinds) → KindCase b
 kind-cases zero h = absurd (omega arith)
@@ -113,13 +114,18 @@ kind-cases (suc (suc (suc zero))) h = end refl
 kind-cases (suc (suc (suc (suc zero)))) h = hour (withPressure refl)
 kind-cases (suc (suc (suc (suc (suc zero))))) h = hour (withHumidity refl)
 kind-cases (suc (suc (suc (suc (suc (suc zero)))))) h = ceiling refl
-kind-cases (suc (suc (suc (suc (suc (suc (suc b))))))) h = absurd (omega arith)
+kind-cases (suc (suc (suc (suc (suc (suc (suc zero))))))) h = parameters refl
+kind-cases (suc (suc (suc (suc (suc (suc (suc (suc b)))))))) h = absurd (omega arith)
 
-pub hour-left : (b : ℕ) → KindCase b → (b ≡ 1 → ⊥) → (b ≡ 3 → ⊥) → (b ≡ 6 → ⊥) → IsHour b
-hour-left b (header e) p q r = absurd (p e)
-hour-left b (hour is) p q r = is
-hour-left b (end e) p q r = absurd (q e)
-hour-left b (ceiling e) p q r = absurd (r e)
+pub kind-other : (b : ℕ) → (KindCase b → ⊥) → 0 ≡ lengthOf b
+kind-other b none = kind-none b (λ h. ⊎-elim (λ le. absurd (none (kind-cases b (h, le)))) (λ past. past) (le-or-lt b (length kinds)))
+
+pub hour-left : (b : ℕ) → KindCase b → (b ≡ 1 → ⊥) → (b ≡ 3 → ⊥) → (b ≡ 6 → ⊥) → (b ≡ 7 → ⊥) → IsHour b
+hour-left b (header e) p q r s = absurd (p e)
+hour-left b (hour is) p q r s = is
+hour-left b (end e) p q r s = absurd (q e)
+hour-left b (ceiling e) p q r s = absurd (r e)
+hour-left b (parameters e) p q r s = absurd (s e)
 
 pub deficit-left : (b : ℕ) → IsHour b → (b ≡ 4 → ⊥) → (b ≡ 5 → ⊥) → b ≡ 2
 deficit-left b (withDeficit e) p q = e

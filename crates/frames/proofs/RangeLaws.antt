@@ -1,4 +1,4 @@
--- A record that rows 5 to 8, 10 and 17 let pass is in range.
+-- A record that rows 5 to 8, 10, 17 and 24 let pass is in range.
 use Prim.Native.Nat.{ℕ, zero, suc, _≤_, _<_}
 use mathlib.Core.Path.{_≡_, sym, _∙_}
 use mathlib.Core.Bool.{false, _||_}
@@ -10,11 +10,16 @@ use Rattle.exact.proofs.OrderLaws.{le-or-lt}
 use Rattle.trees.specs.declared.Figures.{Figures}
 use Rattle.trees.specs.declared.Choice.{Choice}
 use Rattle.trees.specs.Figures.{figuresOf}
+use Rattle.trees.specs.Sound.{Sound}
+use Rattle.measured.specs.declared.Parameters.{Parameters}
+use Rattle.measured.specs.Parameters.{noParameters}
+use Rattle.measured.specs.Figures.{measuredFigures, figuresIn}
 use Rattle.records.specs.Answers.{accepted}
 use Rattle.records.specs.Temperature.{temperatureOut}
 use Rattle.frames.specs.Layout.{vapourNumber, soilNumber}
 use Rattle.records.specs.Ozone.{tenthsOr}
-use Rattle.records.specs.Ranges.{isOutside, ozoneOut, vapourOut, soilOut, pressureOut, periodOut, checked}
+use Rattle.records.specs.Numbers.{isOutside}
+use Rattle.records.specs.Ranges.{ozoneOut, vapourOut, soilOut, pressureOut, periodOut, checked}
 use Rattle.records.specs.Period.{periodHours}
 use Rattle.records.specs.declared.Header.{Header}
 use Rattle.records.specs.declared.Ozone.{Ozone}
@@ -27,6 +32,7 @@ use Rattle.records.specs.declared.Soil.the-variants.{Suction, Water}
 use Rattle.records.specs.declared.Hour.{Hour}
 use Rattle.records.specs.declared.Record.{Record}
 use Rattle.records.proofs.AnswerLaws.{or-neither, row-passed, onTree-passed}
+use Rattle.records.proofs.ParameterLaws.{parameters-sound, parameters-passed}
 
 -- from low to high
 pub record Inside (low high n : ℕ) : Type 0 where
@@ -39,7 +45,7 @@ inside-is low high n e =
     record { above = ltb-false n low (p .0); below = ltb-false high n (p .1) }
 
 pub record HeaderIn (h : Header) : Type 0 where
-  pub tree : Inside 1 6 (h .tree)
+  pub tree : Inside 1 7 (h .tree)
   pub days : Inside 365 366 (h .days)
   pub first : Inside 1 (h .last) (h .first)
   pub last : h .last ≤ h .days
@@ -66,6 +72,7 @@ InRange (Record.Header h) = HeaderIn h
 InRange (Record.Hour h) = HourIn h
 InRange (Record.End e) = Unit
 InRange (Record.Ceiling c) = Inside 1 5000 (c .ozone)
+InRange (Record.Parameters p) = Sound (measuredFigures p)
 
 ozone-le : (o : Ozone) → ozoneOut o ≡ false → tenthsOr 0 o ≤ 5000
 ozone-le (Tenths n) e = ltb-false 5000 n e
@@ -87,9 +94,9 @@ soil-le (Water n) e = omega (arith, ltb-false 1000 n e)
 
 -- a number that is a tree
 
-none-past : (t : ℕ) → 6 < t → figuresOf t ≡ Choice.Unknown
-unfolding figuresOf
-none-past t h =
+none-past : (ps : Parameters) (t : ℕ) → 7 < t → figuresIn ps t ≡ Choice.Unknown
+unfolding figuresIn figuresOf
+none-past ps t h =
     simp (
       ne-eqb t 1 (omega arith),
       ne-eqb t 2 (omega arith),
@@ -97,21 +104,22 @@ none-past t h =
       ne-eqb t 4 (omega arith),
       ne-eqb t 5 (omega arith),
       ne-eqb t 6 (omega arith),
+      ne-eqb t 7 (omega arith),
     )
 
 unknown-not-tree : {A : Type 0} {f : Figures} → Choice.Unknown ≡ Choice.Tree f → A
 unknown-not-tree e = let z : _≡_ {A = ℕ} 0 1 = cc in absurd (omega arith)
 
-tree-inside : (t : ℕ) (f : Figures) → figuresOf t ≡ Choice.Tree f → Inside 1 6 t
-unfolding figuresOf
-tree-inside zero f e = unknown-not-tree e
-tree-inside (suc t) f e =
-    ⊎-elim (λ h. record { above = omega arith; below = h }) (λ h. unknown-not-tree (sym (none-past (suc t) h) ∙ e)) (le-or-lt (suc t) 6)
+tree-inside : (ps : Parameters) (t : ℕ) (f : Figures) → figuresIn ps t ≡ Choice.Tree f → Inside 1 7 t
+unfolding figuresIn figuresOf
+tree-inside ps zero f e = unknown-not-tree e
+tree-inside ps (suc t) f e =
+    ⊎-elim (λ h. record { above = omega arith; below = h }) (λ h. unknown-not-tree (sym (none-past ps (suc t) h) ∙ e)) (le-or-lt (suc t) 7)
 
 header-passed : (h : Header) → checked (Record.Header h) ≡ accepted tt → HeaderIn h
 unfolding checked
 header-passed h e =
-    let tree = onTree-passed (figuresOf (h .tree)) _ tt e in
+    let tree = onTree-passed (figuresIn noParameters (h .tree)) _ tt e in
     let days = row-passed (isOutside 365 366 (h .days)) _ _ tt (tree .2) in
     let period = row-passed (periodOut h _) _ _ tt (days .1) in
     let level = row-passed (isOutside 1 10000 (h .level)) _ _ tt (period .1) in
@@ -119,7 +127,7 @@ header-passed h e =
     let last = or-neither (ltb (h .first) 1 || ltb (h .last) (h .first)) _ (ramps .0) in
     let first = or-neither (ltb (h .first) 1) _ (last .0) in
     record {
-      tree = tree-inside (h .tree) (tree .0) (tree .1);
+      tree = tree-inside noParameters (h .tree) (tree .0) (tree .1);
       days = inside-is 365 366 (h .days) (days .0);
       first = record { above = ltb-false (h .first) 1 (first .0); below = ltb-false (h .last) (h .first) (first .1) };
       last = ltb-false (h .days) (h .last) (last .1);
@@ -162,3 +170,4 @@ checked-passed (Record.Header h) e = header-passed h e
 checked-passed (Record.Hour h) e = hour-passed h e
 checked-passed (Record.End end) e = tt
 checked-passed (Record.Ceiling c) e = ceiling-passed c e
+checked-passed (Record.Parameters p) e = parameters-sound p (parameters-passed p e)

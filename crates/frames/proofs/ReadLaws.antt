@@ -8,7 +8,8 @@ use lib.Dec.{eqb}
 use lib.ListN.{length}
 use Rattle.trees.specs.declared.Figures.{Figures}
 use Rattle.trees.specs.declared.Choice.{Choice}
-use Rattle.trees.specs.Figures.{figuresOf}
+use Rattle.measured.specs.Parameters.{noParameters}
+use Rattle.measured.specs.Figures.{figuresIn}
 use Rattle.records.specs.Answers.{accepted}
 use Rattle.records.specs.Ranges.{checked}
 use Rattle.records.specs.declared.Raw.{Raw}
@@ -54,11 +55,11 @@ sound-read s r e =
 
 pub record HourRead (tree : ℕ) (raw : RawHour) (r : Record) : Type 0 where
   pub figures : Figures
-  pub named : figuresOf tree ≡ Choice.Tree figures
+  pub named : figuresIn noParameters tree ≡ Choice.Tree figures
   pub is : SoundRead (Record.Hour (hourOf raw (figures .measure))) r
 
 pub hour-read : (tree : ℕ) (raw : RawHour) (r : Record) → recordOf tree (Raw.Hour raw) ≡ accepted r → HourRead tree raw r
 unfolding recordOf
 hour-read tree raw r e =
-    let p = onTree-passed (figuresOf tree) _ r e in
+    let p = onTree-passed (figuresIn noParameters tree) _ r e in
     record { figures = p .0; named = p .1; is = sound-read _ r (p .2) }

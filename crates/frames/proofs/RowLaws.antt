@@ -1,4 +1,4 @@
--- The reader answers rows 1 to 3, 5 to 8, 10 and 17 and no other.
+-- The reader answers rows 1 to 3, 5 to 8, 10, 17 and 24 and no other.
 use Prim.Native.Nat.{ℕ}
 use mathlib.Core.Path.{_≡_, refl, sym, subst}
 use mathlib.Core.Bool.{Bool, true, false, cond, _&&_, or-true}
@@ -8,12 +8,15 @@ use lib.Dec.{eqb, ltb}
 use lib.ListN.{length}
 use Rattle.trees.specs.declared.Figures.{Figures}
 use Rattle.trees.specs.declared.Choice.{Choice}
-use Rattle.trees.specs.Figures.{figuresOf}
+use Rattle.measured.specs.Parameters.{noParameters}
+use Rattle.measured.specs.Figures.{figuresIn}
 use Rattle.records.specs.Answers.{Outcome, accepted, refused, onward}
 use Rattle.frames.specs.Digits.{within, allDigits, byteAt}
 use Rattle.frames.specs.Kinds.{among, isLength, lengthOf}
 use Rattle.records.specs.Temperature.{temperatureOut}
-use Rattle.records.specs.Ranges.{isOutside, onTree, periodOut, ozoneOut, vapourOut, soilOut, pressureOut, checked}
+use Rattle.records.specs.Numbers.{isOutside}
+use Rattle.records.specs.Parameters.{parameterOut}
+use Rattle.records.specs.Ranges.{onTree, periodOut, ozoneOut, vapourOut, soilOut, pressureOut, checked}
 use Rattle.frames.specs.Frames.{parsedOf, soundOf, recordOf, readFrameOf}
 use Rattle.frames.specs.Rows.{oneOf, readerRows, ReaderRows}
 use Rattle.records.specs.declared.Raw.{Raw}
@@ -59,18 +62,19 @@ only-wider {rows = rows} {more = more} all o = record {
 field-in : (rows : List ℕ) (f : ℕ) → within 1 8 f ≡ true → oneOf rows 10 f ≡ true
 field-in rows f e = rw e (or-true (among rows 10 && eqb f 0))
 
--- rows 5 to 8 and 17 are in the list
+-- rows 5 to 8, 17 and 24 are in the list
 pub record Ranged (rows : List ℕ) : Type 0 where
   pub tree : oneOf rows 5 0 ≡ true
   pub year : oneOf rows 6 0 ≡ true
   pub period : oneOf rows 7 0 ≡ true
   pub level : oneOf rows 8 0 ≡ true
   pub ceiling : oneOf rows 17 0 ≡ true
+  pub parameter : oneOf rows 24 0 ≡ true
 
 pub checked-only : {rows : List ℕ} → Ranged rows → (r : Record) → Only rows (checked r)
 unfolding checked
 checked-only a (Record.Header h) =
-    onTree-only (figuresOf (h .tree)) _ (a .tree) (λ f.
+    onTree-only (figuresIn noParameters (h .tree)) _ (a .tree) (λ f.
     row-only (isOutside 365 366 (h .days)) _ _ _ (a .year)
     (row-only (periodOut h _) _ _ _ (a .period)
     (row-only (isOutside 1 10000 (h .level)) _ _ _ (a .level)
@@ -87,12 +91,13 @@ checked-only {rows} a (Record.Hour h) =
     (accepted-only _))))))))
 checked-only a (Record.End e) = accepted-only _
 checked-only a (Record.Ceiling c) = row-only (isOutside 1 5000 (c .ozone)) _ _ _ (a .ceiling) (accepted-only _)
+checked-only a (Record.Parameters p) = row-only (parameterOut p) _ _ _ (a .parameter) (accepted-only _)
 
 -- ---- the reader
 
 read-ranged : Ranged readerRows
 unfolding among
-read-ranged = record { tree = refl; year = refl; period = refl; level = refl; ceiling = refl }
+read-ranged = record { tree = refl; year = refl; period = refl; level = refl; ceiling = refl; parameter = refl }
 
 module _ (l : List ℕ) where
   by-kind : isLength (length l) ≡ true → allDigits l ≡ true → (t : Bool) → eqb (lengthOf (byteAt 0 l)) (length l) ≡ t → Only readerRows (parsedOf l)
@@ -120,9 +125,10 @@ sound-only r = onward-only (checked r) (λ _. accepted r) (checked-only read-ran
 pub record-only : (tree : ℕ) (frame : Raw) → Only readerRows (recordOf tree frame)
 unfolding recordOf among
 record-only tree (Raw.Header h) = sound-only (Record.Header h)
-record-only tree (Raw.Hour raw) = onTree-only (figuresOf tree) _ refl (λ f. sound-only _)
+record-only tree (Raw.Hour raw) = onTree-only (figuresIn noParameters tree) _ refl (λ f. sound-only _)
 record-only tree (Raw.End e) = sound-only (Record.End e)
 record-only tree (Raw.Ceiling c) = sound-only (Record.Ceiling c)
+record-only tree (Raw.Parameters p) = sound-only (Record.Parameters p)
 
 read-only : (tree : ℕ) (l : List ℕ) → Only readerRows (readFrameOf tree l)
 unfolding readFrameOf

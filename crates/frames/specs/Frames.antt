@@ -4,7 +4,8 @@ use mathlib.Core.Bool.{not}
 use mathlib.Core.List.{List}
 use lib.ListN.{length}
 use lib.Dec.{eqb}
-use Rattle.trees.specs.Figures.{figuresOf}
+use Rattle.measured.specs.Parameters.{noParameters}
+use Rattle.measured.specs.Figures.{figuresIn}
 use Rattle.records.specs.Answers.{Outcome, accepted, row, onward}
 use Rattle.frames.specs.Digits.{allDigits, byteAt}
 use Rattle.frames.specs.Kinds.{isLength, lengthOf}
@@ -24,12 +25,13 @@ parsedOf l =
 unfoldable pub soundOf : Record → Outcome Record
 soundOf r = onward (checked r) (λ _. accepted r)
 
--- the given tree matters for an hour frame only, whose soil is in its measure; outside 1 to 6 it is row 5
+-- the given tree matters for an hour frame only, whose soil is in its measure; outside 1 to 7 it is row 5
 unfoldable pub recordOf : ℕ → Raw → Outcome Record
 recordOf tree (Raw.Header h) = soundOf (Record.Header h)
-recordOf tree (Raw.Hour raw) = onTree (figuresOf tree) (λ f. soundOf (Record.Hour (hourOf raw (f .measure))))
+recordOf tree (Raw.Hour raw) = onTree (figuresIn noParameters tree) (λ f. soundOf (Record.Hour (hourOf raw (f .measure))))
 recordOf tree (Raw.End e) = soundOf (Record.End e)
 recordOf tree (Raw.Ceiling c) = soundOf (Record.Ceiling c)
+recordOf tree (Raw.Parameters p) = soundOf (Record.Parameters p)
 
 unfoldable pub readFrameOf : ℕ → List ℕ → Outcome Record
 readFrameOf tree l = onward (parsedOf l) (recordOf tree)

@@ -33,9 +33,13 @@ humidityWidths = hourWidths
 abbrev ceilingWidths : List Width
 ceilingWidths = two ∷ []
 
+-- 07: a measured tree's sixteen parameters (W-212)
+abbrev parameterWidths : List Width
+parameterWidths = two ∷ two ∷ two ∷ two ∷ two ∷ two ∷ two ∷ two ∷ two ∷ two ∷ two ∷ two ∷ two ∷ two ∷ two ∷ two ∷ []
+
 -- the table, from kind 01 on: the widths of the fields that follow the kind's byte
 abbrev pub kinds : List (List Width)
-kinds = headerWidths ∷ hourWidths ∷ endWidths ∷ pressureWidths ∷ humidityWidths ∷ ceilingWidths ∷ []
+kinds = headerWidths ∷ hourWidths ∷ endWidths ∷ pressureWidths ∷ humidityWidths ∷ ceilingWidths ∷ parameterWidths ∷ []
 
 -- the widths of a kind's fields, none where there is no such kind
 abbrev pub widthsOf : ℕ → List Width

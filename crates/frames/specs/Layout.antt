@@ -5,6 +5,7 @@ use mathlib.Core.List.{List, [], _∷_}
 use lib.ListN.{getD}
 use lib.Dec.{eqb}
 use Rattle.trees.specs.declared.Measure.{Measure}
+use Rattle.measured.specs.Parameters.{parameterNumbers, parametersOf}
 use Rattle.frames.specs.Digits.{byteAt}
 use Rattle.frames.specs.Kinds.{one, widthsOf}
 use Rattle.frames.specs.Fields.{digitsOf, fieldsAt}
@@ -101,13 +102,14 @@ hourOf raw m = record {
 
 -- ---- a kind's frame and its line: a case for each kind
 
--- the frame of a kind with these numbers: a header, an end, a ceiling, else an hour
+-- the frame of a kind with these numbers: a header, an end, a ceiling, parameters, else an hour
 unfoldable pub frameOf : ℕ → List ℕ → Raw
 frameOf kind ns =
     cond (eqb kind 1) (Raw.Header (headerOf ns))
     (cond (eqb kind 3) (Raw.End (endOf ns))
     (cond (eqb kind 6) (Raw.Ceiling (ceilingOf ns))
-    (Raw.Hour (rawHourOf (airOf kind ns) ns))))
+    (cond (eqb kind 7) (Raw.Parameters (parametersOf ns))
+    (Raw.Hour (rawHourOf (airOf kind ns) ns)))))
 
 unfoldable pub frameAt : List ℕ → Raw
 frameAt l = frameOf (byteAt 0 l) (fieldsAt (byteAt 0 l) l)
@@ -123,12 +125,14 @@ kindOf (Record.Header h) = 1
 kindOf (Record.Hour h) = airKind (h .air)
 kindOf (Record.End e) = 3
 kindOf (Record.Ceiling c) = 6
+kindOf (Record.Parameters p) = 7
 
 abbrev pub numbersOf : Record → List ℕ
 numbersOf (Record.Header h) = headerNumbers h
 numbersOf (Record.Hour h) = hourNumbers h
 numbersOf (Record.End e) = e .hours ∷ []
 numbersOf (Record.Ceiling c) = c .ozone ∷ []
+numbersOf (Record.Parameters p) = parameterNumbers p
 
 -- the line of a record
 unfoldable pub frameLine : Record → List ℕ

@@ -4,6 +4,7 @@ use crate::widths::EndLine;
 use crate::widths::HeaderLine;
 use crate::widths::HourLine;
 use crate::widths::KINDS;
+use crate::widths::ParameterLine;
 use crate::widths::PressureLine;
 ghost use mathlib.Core.Path.{_≡_};
 ghost use Rattle.frames.specs.Kinds.{isLength, lengthOf};
@@ -19,6 +20,7 @@ pub(crate) fn length_of(kind: u8) -> usize
         4 => PressureLine::DIGITS,
         5 => HourLine::DIGITS,
         6 => CeilingLine::DIGITS,
+        7 => ParameterLine::DIGITS,
         _ => 0,
     }
 }

@@ -5,6 +5,7 @@ use crate::End;
 use crate::Header;
 use crate::Hour;
 use crate::Ozone;
+use crate::Parameters;
 use crate::Raw;
 use crate::RawHour;
 use crate::Soil;
@@ -16,11 +17,13 @@ use crate::widths::EndLine;
 use crate::widths::HeaderLine;
 use crate::widths::HourLine;
 use crate::widths::KIND;
+use crate::widths::ParameterLine;
 use crate::widths::PressureLine;
 use trees::Measure;
 ghost use mathlib.Core.Path.{_≡_};
 ghost use mathlib.Core.List.{List};
 ghost use Prim.Native.Nat.{ℕ};
+ghost use Rattle.measured.specs.Parameters.{parametersOf};
 ghost use Rattle.frames.specs.Steps.{Values, Says, IsHour, Makes, Sized};
 ghost use Rattle.frames.specs.Layout.{ozoneNumber, ozoneOf, vapourNumber, soilNumber, headerOf, airOf, rawHourOf, endOf, ceilingOf, frameAt, airKind, soilOf, hourOf};
 
@@ -89,6 +92,30 @@ fn ceiling_at(values: &[u8]) -> Ceiling
     }
 }
 
+fn parameters_at(values: &[u8]) -> Parameters
+    requires { ⌜ Values (now values) ⌝ }
+    ensures { λ r. ⌜ Makes (now (values .entry)) 7 r parametersOf ⌝ }
+{
+    Parameters {
+        gmax: number_at(values, ParameterLine::GMAX),
+        fmin: number_at(values, ParameterLine::FMIN),
+        lighta: number_at(values, ParameterLine::LIGHTA),
+        tmin: number_at(values, ParameterLine::TMIN),
+        topt: number_at(values, ParameterLine::TOPT),
+        tmax: number_at(values, ParameterLine::TMAX),
+        vpdmax: number_at(values, ParameterLine::VPDMAX),
+        vpdmin: number_at(values, ParameterLine::VPDMIN),
+        soilmax: number_at(values, ParameterLine::SOILMAX),
+        soilmin: number_at(values, ParameterLine::SOILMIN),
+        leaf: number_at(values, ParameterLine::LEAF),
+        a: number_at(values, ParameterLine::A),
+        e: number_at(values, ParameterLine::E),
+        f1: number_at(values, ParameterLine::F1),
+        f4: number_at(values, ParameterLine::F4),
+        y: number_at(values, ParameterLine::Y),
+    }
+}
+
 // The frame of a line that rows 1 to 3 let pass, by its kind. One call of `hour_at` for every kind of hour: called once it costs no call.
 pub(crate) fn frame_at(values: &[u8]) -> Raw
     requires { ⌜ Values (now values) ⌝ }
@@ -99,6 +126,7 @@ pub(crate) fn frame_at(values: &[u8]) -> Raw
         1 => Raw::Header(header_at(values)),
         3 => Raw::End(end_at(values)),
         6 => Raw::Ceiling(ceiling_at(values)),
+        7 => Raw::Parameters(parameters_at(values)),
         _ => Raw::Hour(hour_at(kind, values)),
     }
 }

@@ -1,5 +1,5 @@
 // Frames (document 01, "Frames"): a line of capital hexadecimal digits, and the record that it says.
-// A line goes to a frame (rows 1 to 3), a frame to a record (rows 5 to 8, 10 and 17). The crate `writer` has the way back.
+// A line goes to a frame (rows 1 to 3), a frame to a record (rows 5 to 8, 10, 17 and 24). The crate `writer` has the way back.
 mod digits;
 mod kinds;
 mod layout;
@@ -19,6 +19,7 @@ pub use records::End;
 pub use records::Header;
 pub use records::Hour;
 pub use records::Ozone;
+pub use records::Parameters;
 pub use records::Parsed;
 pub use records::Raw;
 pub use records::RawHour;
@@ -75,7 +76,7 @@ fn answered(record: Record, answer: Checked) -> Decoded
 fn hour_record(tree: u8, raw: RawHour) -> Decoded
     ensures { λ r. ⌜ decodedAs r ≡ recordOf tree (Raw.Hour raw) ⌝ }
 {
-    let Choice::Tree(f) = trees::figures_of(tree) else {
+    let Choice::Tree(f) = measured::figures_in(measured::no_parameters(), tree) else {
         return Decoded::Refused(Refusal::Tree);
     };
     let measure = f.measure;
@@ -96,6 +97,7 @@ pub fn record_of(tree: u8, frame: Raw) -> Decoded
         Raw::Hour(h) => hour_record(tree, h),
         Raw::End(e) => Decoded::Read(Record::End(e)),
         Raw::Ceiling(c) => answered(Record::Ceiling(c), records::check_ceiling(c)),
+        Raw::Parameters(p) => answered(Record::Parameters(p), records::check_parameters(p)),
     }
 }
 

@@ -81,7 +81,46 @@ impl CeilingLine {
     pub const DIGITS: usize = CeilingLine::OZONE + NUMBER;
 }
 
-// The number of kinds, and the digits of the longest lines.
-pub const KINDS: u8 = 6;
+// 07 | gmax 2 | f_min 2 | light_a 2 | Tmin 2 | Topt 2 | Tmax 2 | VPD max 2 | VPD min 2 | suction max 2 | suction min 2 | leaf 2 | a 2 | e 2 | f1 2 | f4 2 | Y 2
+pub struct ParameterLine;
 
-pub const LONGEST: usize = PressureLine::DIGITS;
+impl ParameterLine {
+    pub const GMAX: usize = FIELDS;
+
+    pub const FMIN: usize = ParameterLine::GMAX + NUMBER;
+
+    pub const LIGHTA: usize = ParameterLine::FMIN + NUMBER;
+
+    pub const TMIN: usize = ParameterLine::LIGHTA + NUMBER;
+
+    pub const TOPT: usize = ParameterLine::TMIN + NUMBER;
+
+    pub const TMAX: usize = ParameterLine::TOPT + NUMBER;
+
+    pub const VPDMAX: usize = ParameterLine::TMAX + NUMBER;
+
+    pub const VPDMIN: usize = ParameterLine::VPDMAX + NUMBER;
+
+    pub const SOILMAX: usize = ParameterLine::VPDMIN + NUMBER;
+
+    pub const SOILMIN: usize = ParameterLine::SOILMAX + NUMBER;
+
+    pub const LEAF: usize = ParameterLine::SOILMIN + NUMBER;
+
+    pub const A: usize = ParameterLine::LEAF + NUMBER;
+
+    pub const E: usize = ParameterLine::A + NUMBER;
+
+    pub const F1: usize = ParameterLine::E + NUMBER;
+
+    pub const F4: usize = ParameterLine::F1 + NUMBER;
+
+    pub const Y: usize = ParameterLine::F4 + NUMBER;
+
+    pub const DIGITS: usize = ParameterLine::Y + NUMBER;
+}
+
+// The number of kinds, and the digits of the longest lines.
+pub const KINDS: u8 = 7;
+
+pub const LONGEST: usize = ParameterLine::DIGITS;

@@ -6,6 +6,7 @@ use frames::Air;
 use frames::Decoded;
 use frames::Hour;
 use frames::Ozone;
+use frames::Parameters;
 use frames::Record;
 use frames::Refusal;
 use frames::Soil;
@@ -78,6 +79,26 @@ fn print_hour(h: Hour) {
     }
 }
 
+fn print_parameters(p: Parameters) {
+    print_next(7);
+    print_next(p.gmax);
+    print_next(p.fmin);
+    print_next(p.lighta);
+    print_next(p.tmin);
+    print_next(p.topt);
+    print_next(p.tmax);
+    print_next(p.vpdmax);
+    print_next(p.vpdmin);
+    print_next(p.soilmax);
+    print_next(p.soilmin);
+    print_next(p.leaf);
+    print_next(p.a);
+    print_next(p.e);
+    print_next(p.f1);
+    print_next(p.f4);
+    print_next(p.y);
+}
+
 // A record's kind and its fields.
 pub(crate) fn print_record(record: Record) {
     match record {
@@ -98,6 +119,7 @@ pub(crate) fn print_record(record: Record) {
             print_next(6);
             print_next(c.ozone);
         },
+        Record::Parameters(p) => print_parameters(p),
     }
 }
 
@@ -110,7 +132,7 @@ pub(crate) fn print_reading(tree: u8, line: &[u8]) {
     }
 }
 
-// `.` for a line that is read, else `1` to `8` for the row, `A` for row 17, `a` to `h` for row 10 with field 1 to 8.
+// `.` for a line that is read, else `1` to `8` for the row, `A` for row 17, `H` for row 24, `a` to `h` for row 10 with field 1 to 8.
 pub(crate) fn mark(decoded: Decoded) -> u8 {
     match decoded {
         Decoded::Read(_) => b'.',

@@ -44,5 +44,6 @@ pub(crate) fn record_of(tree: u8, numeric: bool, raw: Raw) -> Record {
         Raw::Hour(h) => Record::Hour(hour_of(tree, numeric, h)),
         Raw::End(e) => Record::End(e),
         Raw::Ceiling(c) => Record::Ceiling(c),
+        Raw::Parameters(p) => Record::Parameters(p),
     }
 }

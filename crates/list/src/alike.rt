@@ -5,14 +5,15 @@ use account::phase_number;
 use trees::Choice;
 use trees::Measure;
 ghost use mathlib.Core.Path.{_≡_};
-ghost use Rattle.trees.specs.Figures.{figuresOf};
+ghost use Rattle.measured.specs.Parameters.{noParameters};
+ghost use Rattle.measured.specs.Figures.{figuresIn};
 ghost use Rattle.list_spec.specs.Alike.{measureNumber, isAlike};
 
 // The number of a tree's soil measure, 0 where it is no tree.
 fn measure_number(tree: u8) -> u8
-    ensures { λ r. ⌜ r ≡ measureNumber (figuresOf tree) ⌝ }
+    ensures { λ r. ⌜ r ≡ measureNumber (figuresIn noParameters tree) ⌝ }
 {
-    let Choice::Tree(f) = trees::figures_of(tree) else {
+    let Choice::Tree(f) = measured::figures_in(measured::no_parameters(), tree) else {
         return 0;
     };
     let measure = f.measure;

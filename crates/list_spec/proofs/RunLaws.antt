@@ -15,7 +15,7 @@ use Rattle.list_spec.specs.Alike.{unlike}
 use Rattle.list_spec.specs.Feeding.{sizeOut, anyImpossible, feedAllOf, fedAllAs, FeedsAll}
 use Rattle.list_spec.specs.Runs.{LineFed, ListRun, stop, feeds, acceptedIn}
 use Rattle.list_spec.specs.Promise.{At}
-use Rattle.list_spec.proofs.TogetherLaws.{each-same, each-through, each-length, together-is}
+use Rattle.list_spec.proofs.TogetherLaws.{each-same, each-through, together-is}
 
 -- ---- one line
 
@@ -44,10 +44,6 @@ accepted-fed xs ys l k = accepted-left xs ys l (feedAllOf xs l) refl (k .answers
 
 pub refused-same : (xs ys : List Account) (l : List ℕ) (r : FedAll) → FeedsAll xs l r ys → (w : ℕ × ℕ) → fedAllAs r ≡ refused w → ys ≡ xs
 refused-same xs ys l r k w e = k .leaves ∙ refused-left xs (feedAllOf xs l) w (sym (k .answers) ∙ e)
-
-pub fed-length : (xs ys : List Account) (l : List ℕ) (r : FedAll) → FeedsAll xs l r ys → length ys ≡ length xs
-fed-length xs ys l FedAll.Accepted k = each-length (accepted-fed xs ys l k)
-fed-length xs ys l (FedAll.Refused r) k = ap length (refused-same xs ys l (FedAll.Refused r) k (rowOf r) refl)
 
 -- ---- a run
 

@@ -1,17 +1,12 @@
--- A list takes a step together: each place takes it by itself, or the first that refuses answers. The list keeps its length.
+-- A list takes a step together: each place takes it by itself, or the first that refuses answers.
 use Prim.Native.Nat.{ℕ, suc}
 use mathlib.Core.Path.{_≡_, refl, sym, ap, subst, _∙_}
 use mathlib.Core.List.{List, [], _∷_}
-use lib.ListN.{length}
 use Rattle.records.specs.Answers.{Outcome, accepted, refused, onward}
 use Rattle.records.proofs.AnswerLaws.{refused-not-accepted, accepted-same, onward-passed}
 use Rattle.list_spec.specs.Together.{together, Each, FirstRefuses, Together}
 
 -- ---- two lists, place by place
-
-pub each-length : {A B : Type 0} {R : A → B → Type 0} {xs : List A} {ys : List B} → Each R xs ys → length ys ≡ length xs
-each-length Each.none = refl
-each-length (Each.more r rs) = ap suc (each-length rs)
 
 pub each-same : {A : Type 0} {R : A → A → Type 0} → ((a : A) → R a a) → (xs : List A) → Each R xs xs
 each-same each [] = Each.none

@@ -4,13 +4,14 @@ use mathlib.Core.Bool.{Bool, false, not, _||_}
 use mathlib.Core.List.{List, [], _∷_}
 use Rattle.trees.specs.declared.Measure.{Measure}
 use Rattle.trees.specs.declared.Choice.{Choice}
-use Rattle.trees.specs.Figures.{figuresOf}
+use Rattle.measured.specs.Parameters.{noParameters}
+use Rattle.measured.specs.Figures.{figuresIn}
 use Rattle.records.specs.Numbers.{sameNumbers}
 use Rattle.account_spec.specs.declared.Account.{Account}
 use Rattle.account_spec.specs.HourKinds.{kindNumber}
 use Rattle.account_spec.specs.Account.{phaseNumber}
 
--- a fresh account has no tree, and is of one measure with every other fresh one
+-- tree 7 has suction, whatever its parameters; a fresh account has no tree, and is of one measure with every other fresh one
 abbrev byMeasure : Measure → ℕ
 byMeasure Measure.Suction = 1
 byMeasure Measure.Water = 2
@@ -22,7 +23,7 @@ measureNumber Choice.Unknown = 0
 abbrev pub commonNumbers : Account → List ℕ
 commonNumbers a =
     let h = a .season .header in
-    h .days ∷ h .first ∷ h .last ∷ a .sums .hours ∷ phaseNumber (a .phase) ∷ a .season .ceiling ∷ kindNumber (a .kind) ∷ measureNumber (figuresOf (h .tree)) ∷ []
+    h .days ∷ h .first ∷ h .last ∷ a .sums .hours ∷ phaseNumber (a .phase) ∷ a .season .ceiling ∷ kindNumber (a .kind) ∷ measureNumber (figuresIn noParameters (h .tree)) ∷ []
 
 unfoldable pub isAlike : Account → Account → Bool
 isAlike a b = sameNumbers (commonNumbers a) (commonNumbers b)

@@ -4,10 +4,10 @@ use crate::answers::print_factor;
 use crate::answers::print_powers;
 use cases::print;
 use cases::u16_at;
-use trees::Curve;
 use trees::Figures;
 use trees::Measure;
 use trees::Phenology;
+use trees::Source;
 
 // Beech's figures but for those of f_temp.
 fn figures_of(row: &[u8]) -> Figures {
@@ -20,7 +20,7 @@ fn figures_of(row: &[u8]) -> Figures {
         tmax: u16_at(row, 10),
         p: u16_at(row, 15),
         q: u16_at(row, 20),
-        curve: Curve::Beech,
+        source: Source::Worked,
         vpdmax: 1000,
         vpdmin: 3100,
         measure: Measure::Suction,

@@ -146,7 +146,10 @@ pub extern "C" fn pairs(
             return sum;
         }
         let h = hour_of(tree, kind, &fields[9 * i..], temperatures[i]);
-        sum = std::num::wrapping_add_u64(sum, both(flux::hour_dose(tree, first, last, ceiling, h)));
+        sum = std::num::wrapping_add_u64(
+            sum,
+            both(flux::hour_dose(tree, measured::no_parameters(), first, last, ceiling, h)),
+        );
         i += 1;
     }
     sum

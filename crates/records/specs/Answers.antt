@@ -4,7 +4,7 @@ use mathlib.Core.Bool.{Bool, cond}
 use Rattle.records.specs.declared.Raw.{Raw}
 use Rattle.records.specs.declared.Record.{Record}
 use Rattle.records.specs.declared.Refusal.{Refusal}
-use Rattle.records.specs.declared.Refusal.the-variants.{Length, Digit, Kind, Turn, Tree, Year, Period, Level, Due, Range, Count, Buffer, Account, Place, Mixed, Tried, Ceiling, NoCeiling, Unlike, Days, Scratch, ListSize, UnlikeAccounts}
+use Rattle.records.specs.declared.Refusal.the-variants.{Length, Digit, Kind, Turn, Tree, Year, Period, Level, Due, Range, Count, Buffer, Account, Place, Mixed, Tried, Ceiling, NoCeiling, Unlike, Days, Scratch, ListSize, UnlikeAccounts, Parameter}
 use Rattle.records.specs.declared.Parsed.{Parsed}
 use Rattle.records.specs.declared.Checked.{Checked}
 use Rattle.records.specs.declared.Decoded.{Decoded}
@@ -58,6 +58,7 @@ rowOf Days = (20, 0)
 rowOf Scratch = (21, 0)
 rowOf ListSize = (22, 0)
 rowOf UnlikeAccounts = (23, 0)
+rowOf Parameter = (24, 0)
 
 abbrev pub parsedAs : Parsed → Outcome Raw
 parsedAs (Parsed.Frame frame) = accepted frame

@@ -1,9 +1,14 @@
--- When two lists of numbers are the same: as long, and number by number. What a frame or an account says is compared so (rows 16 and 19).
+-- When a number is out of its range; when two lists of numbers are the same.
 use Prim.Native.Nat.{ℕ}
-use mathlib.Core.Bool.{Bool, true, false, _&&_}
+use mathlib.Core.Bool.{Bool, true, false, _&&_, _||_}
 use mathlib.Core.List.{List, [], _∷_}
-use lib.Dec.{eqb}
+use lib.Dec.{eqb, ltb}
 
+-- not from low to high
+abbrev pub isOutside : ℕ → ℕ → ℕ → Bool
+isOutside low high n = ltb n low || ltb high n
+
+-- as long, and number by number: what a frame or an account says is compared so (rows 16, 19 and 23)
 abbrev pub sameNumbers : List ℕ → List ℕ → Bool
 sameNumbers [] [] = true
 sameNumbers [] (n ∷ ns) = false

@@ -1,10 +1,15 @@
--- The rows that a record meets by itself (document 01, "Turned-back lines"): 5 to 8 for a header, 10 for an hour, 17 for a ceiling; and row 18.
-use Prim.Native.Nat.{ℕ, _-_}
+-- The rows that a record meets by itself (document 01, "Turned-back lines"): 5 to 8 for a header, 10 for an hour, 17 for a ceiling, 24 for parameters; and row 18.
+use Prim.Native.Nat.{ℕ, _+_, _-_}
 use mathlib.Core.Bool.{Bool, false, not, _&&_, _||_}
 use lib.Dec.{eqb, ltb}
 use Rattle.trees.specs.declared.Figures.{Figures}
 use Rattle.trees.specs.declared.Choice.{Choice}
-use Rattle.trees.specs.Figures.{figuresOf, rampDays}
+use Rattle.trees.specs.Figures.{rampDays}
+use Rattle.measured.specs.declared.Parameters.{Parameters}
+use Rattle.measured.specs.Parameters.{noParameters}
+use Rattle.measured.specs.Figures.{figuresIn}
+use Rattle.records.specs.Numbers.{isOutside}
+use Rattle.records.specs.Parameters.{parameterOut}
 use Rattle.records.specs.Answers.{Outcome, accepted, refused, row, field}
 use Rattle.records.specs.Temperature.{temperatureOut}
 use Rattle.records.specs.Ozone.{isMissing}
@@ -17,10 +22,6 @@ use Rattle.records.specs.declared.Soil.{Soil}
 use Rattle.records.specs.declared.Soil.the-variants.{Suction, Water}
 use Rattle.records.specs.declared.Hour.{Hour}
 use Rattle.records.specs.declared.Record.{Record}
-
--- not from low to high
-abbrev pub isOutside : ℕ → ℕ → ℕ → Bool
-isOutside low high n = ltb n low || ltb high n
 
 -- row 5 where a number is no tree, else what follows of the tree's figures
 abbrev pub onTree : {A : Type 0} → Choice → (Figures → Outcome A) → Outcome A
@@ -66,9 +67,10 @@ hourChecked unfit h =
     (field 8 (pressureOut (h .air))
     (accepted tt))))))))
 
+-- a header of tree 7 has no ramps: they come with its parameters (W-212)
 unfoldable pub checked : Record → Outcome Unit
 checked (Record.Header h) =
-    onTree (figuresOf (h .tree)) (λ f.
+    onTree (figuresIn noParameters (h .tree)) (λ f.
     row 6 (isOutside 365 366 (h .days))
     (row 7 (periodOut h (rampDays f))
     (row 8 (isOutside 1 10000 (h .level))
@@ -76,6 +78,11 @@ checked (Record.Header h) =
 checked (Record.Hour h) = hourChecked (soilOut (h .soil)) h
 checked (Record.End e) = accepted tt
 checked (Record.Ceiling c) = row 17 (isOutside 1 5000 (c .ozone)) (accepted tt)
+checked (Record.Parameters p) = row 24 (parameterOut p) (accepted tt)
+
+-- row 7 of a measured tree's ramps, tested where they come (W-212)
+abbrev pub rampsOut : Header → Parameters → Bool
+rampsOut h p = periodOut h (p .f1 + p .f4)
 
 -- row 17 refuses a season's ceiling, which is 0 where none was fed (W-207)
 abbrev pub ceilingOut : ℕ → Bool

@@ -4,14 +4,18 @@
 mod period;
 mod ranges;
 
+pub use measured::Parameters;
 pub use period::all_given;
 pub use period::period_hours;
 pub use ranges::ceiling_out;
 pub use ranges::check_ceiling;
 pub use ranges::check_header;
 pub use ranges::check_hour;
+pub use ranges::check_parameters;
 pub use ranges::lacks_ceiling;
 pub use ranges::outside;
+pub use ranges::parameters_out;
+pub use ranges::ramps_out;
 pub use ranges::soil_out;
 ghost use mathlib.Core.Path.{_≡_};
 ghost use Rattle.records.specs.Answers.{rowOf, checkedAs};
@@ -76,6 +80,7 @@ pub enum Record {
     Hour(Hour),
     End(End),
     Ceiling(Ceiling),
+    Parameters(Parameters),
 }
 
 // The numbers of an hour frame as they stand in its line: ozone with FFFF for none, temperature in two's complement, soil in the measure of a tree not yet named.
@@ -97,6 +102,7 @@ pub enum Raw {
     Hour(RawHour),
     End(End),
     Ceiling(Ceiling),
+    Parameters(Parameters),
 }
 
 // Why a call is refused: a case for each row, document 01's 1 to 13 and the requests' from 14 on, in that order. Range names the field, 1 to 8.
@@ -125,6 +131,7 @@ pub enum Refusal {
     Scratch,
     ListSize,
     UnlikeAccounts,
+    Parameter,
 }
 
 // The answer to a line by rows 1 to 3: its frame, or the row that refuses it.
@@ -151,7 +158,7 @@ pub enum Written {
     Refused(Refusal),
 }
 
-// A refusal's row, 1 to 23.
+// A refusal's row, 1 to 24.
 pub fn row_of(refusal: Refusal) -> u8
     ensures { λ r. ⌜ r ≡ rowOf «refusal» .0 ⌝ }
 {
@@ -179,10 +186,11 @@ pub fn row_of(refusal: Refusal) -> u8
         Refusal::Scratch => 21,
         Refusal::ListSize => 22,
         Refusal::UnlikeAccounts => 23,
+        Refusal::Parameter => 24,
     }
 }
 
-// A record's own rows: 5 to 8 for a header, 10 for an hour, 17 for a ceiling.
+// A record's own rows: 5 to 8 for a header, 10 for an hour, 17 for a ceiling, 24 for parameters.
 pub fn check(record: Record) -> Checked
     ensures { λ r. ⌜ checkedAs r ≡ checked «record» ⌝ }
 {
@@ -194,5 +202,6 @@ pub fn check(record: Record) -> Checked
         },
         Record::End(_) => Checked::Sound,
         Record::Ceiling(c) => check_ceiling(c),
+        Record::Parameters(p) => check_parameters(p),
     }
 }

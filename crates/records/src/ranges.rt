@@ -1,16 +1,20 @@
-// The rows that a record meets by itself: 5 to 8 for a header, 10 with its first field out of range for an hour, 17 for a ceiling; and row 18.
+// The rows that a record meets by itself: 5 to 8 for a header, 10 with its first field out of range for an hour, 17 for a ceiling, 24 for parameters; and row 18.
 use crate::Air;
 use crate::Ceiling;
 use crate::Checked;
 use crate::Header;
 use crate::Hour;
 use crate::Ozone;
+use crate::Parameters;
 use crate::Refusal;
 use crate::Soil;
+use power::Reduced;
 use trees::Choice;
 ghost use mathlib.Core.Path.{_≡_};
 ghost use Rattle.records.specs.Answers.{checkedAs};
-ghost use Rattle.records.specs.Ranges.{isOutside, periodOut, ozoneOut, vapourOut, soilOut, pressureOut, hourChecked, checked, ceilingOut, lacksCeiling};
+ghost use Rattle.records.specs.Ranges.{periodOut, rampsOut, ozoneOut, vapourOut, soilOut, pressureOut, hourChecked, checked, ceilingOut, lacksCeiling};
+ghost use Rattle.records.specs.Numbers.{isOutside};
+ghost use Rattle.records.specs.Parameters.{pairOut, isNone, temperaturesOut, parameterOut};
 ghost use Rattle.records.specs.Temperature.{temperatureOut};
 ghost use Rattle.records.specs.declared.Record.{Record};
 
@@ -41,7 +45,7 @@ fn period_out(h: Header, ramps: u32) -> bool
 pub fn check_header(h: Header) -> Checked
     ensures { λ r. ⌜ checkedAs r ≡ checked (Record.Header h) ⌝ }
 {
-    let Choice::Tree(f) = trees::figures_of(h.tree) else {
+    let Choice::Tree(f) = measured::figures_in(measured::no_parameters(), h.tree) else {
         return Checked::Refused(Refusal::Tree);
     };
     if outside(365, 366, h.days) {
@@ -177,4 +181,67 @@ pub fn lacks_ceiling(ceiling: u16, ozone: Ozone) -> bool
         Ozone::Tenths(_) => false,
         Ozone::Missing => ceiling == 0,
     }
+}
+
+// Not rising within 0 to 10000.
+fn pair_out(max: u16, min: u16) -> bool
+    ensures { λ r. ⌜ r ≡ pairOut max min ⌝ }
+{
+    if min <= max { true } else { 10000 < min }
+}
+
+fn is_none(powers: Reduced) -> bool
+    ensures { λ r. ⌜ r ≡ isNone powers ⌝ }
+{
+    match powers {
+        Reduced::Of { p: _, q: _ } => false,
+        Reduced::None => true,
+    }
+}
+
+// Tmin, Topt, Tmax not rising within -20 to 60 °C, or p or q above 22.
+fn temperatures_out(p: Parameters) -> bool
+    ensures { λ r. ⌜ r ≡ temperaturesOut p ⌝ }
+{
+    if measured::degrees(p.tmin) < 30 {
+        return true;
+    }
+    if 110 < measured::degrees(p.tmax) {
+        return true;
+    }
+    is_none(measured::powers(p))
+}
+
+// Row 24.
+pub fn parameters_out(p: Parameters) -> bool
+    ensures { λ r. ⌜ r ≡ parameterOut p ⌝ }
+{
+    outside(1, 500, p.gmax)
+        | outside(1, 99, p.fmin)
+        | outside(1, 200, p.lighta)
+        | temperatures_out(p)
+        | pair_out(p.vpdmax, p.vpdmin)
+        | pair_out(p.soilmax, p.soilmin)
+        | outside(1, 200, p.leaf)
+        | (100 < p.a)
+        | (100 < p.e)
+        | (200 < p.f1)
+        | (200 < p.f4)
+        | (10 < p.y)
+}
+
+pub fn check_parameters(p: Parameters) -> Checked
+    ensures { λ r. ⌜ checkedAs r ≡ checked (Record.Parameters p) ⌝ }
+{
+    if parameters_out(p) {
+        return Checked::Refused(Refusal::Parameter);
+    }
+    Checked::Sound
+}
+
+// Row 7 of a measured tree's ramps.
+pub fn ramps_out(h: Header, p: Parameters) -> bool
+    ensures { λ r. ⌜ r ≡ rampsOut h p ⌝ }
+{
+    period_out(h, (p.f1 as u32) + (p.f4 as u32))
 }

@@ -1,13 +1,11 @@
--- What `f_temp` answers up to 60.0 °C and above it; any figures that have the f_temp of their curve get their own pair.
+-- What `f_temp` answers up to 60.0 °C and above it.
 use Prim.Native.Nat.{ℕ, _<_, _≤_}
-use mathlib.Core.Path.{_≡_, sym, ap}
+use mathlib.Core.Path.{_≡_, ap}
 use borrow.Author.Tests.{lt-ltb, le-ltb}
 use Rattle.exact.specs.declared.Bounds.{Bounds}
 use Rattle.trees.specs.declared.Curve.{Curve}
-use Rattle.trees.specs.declared.Figures.{Figures}
 use Rattle.trees.specs.Figures.{ownerOf}
 use Rattle.trees.specs.Temperature.{temperaturePair}
-use Rattle.trees.specs.Steps.{Tabled}
 use Rattle.records.specs.Answers.{accepted, refused}
 use Rattle.tables.specs.Answers.{temperatureOf}
 
@@ -19,6 +17,3 @@ module _ (curve : Curve) (x : ℕ) where
   pub up-to-60 : x ≤ 1100 → {r : Bounds} → r ≡ temperaturePair (ownerOf curve) x → accepted r ≡ temperatureOf curve x
   unfolding temperatureOf
   up-to-60 h e = rw (le-ltb 1100 x h) (ap accepted e)
-
-pub tabled-pair : {f : Figures} {x : ℕ} → Tabled f → x ≤ 1100 → temperatureOf (f .curve) x ≡ accepted (temperaturePair f x)
-tabled-pair {f} {x} tabled h = sym (up-to-60 (f .curve) x h (tabled .pair x))

@@ -8,6 +8,8 @@ use Rattle.trees.specs.declared.Phenology.{Phenology}
 use Rattle.trees.specs.declared.Phenology.the-variants.{Ramps, Dip, Temperature}
 use Rattle.trees.specs.declared.Curve.{Curve}
 use Rattle.trees.specs.declared.Curve.the-variants.{BorealSpruce, Birch, ContinentalSpruce, Beech, Oak, Evergreen}
+use Rattle.trees.specs.declared.Source.{Source}
+use Rattle.trees.specs.declared.Source.the-variants.{Tabled}
 use Rattle.trees.specs.declared.Figures.{Figures}
 use Rattle.trees.specs.declared.Choice.{Choice}
 use Rattle.trees.specs.declared.Choice.the-variants.{Tree, Unknown}
@@ -27,7 +29,7 @@ treeLine curve′ gmax′ fmin′ lighta′ tmin′ topt′ tmax′ p′ q′ vp
   tmax = celsius tmax′;
   p = p′;
   q = q′;
-  curve = curve′;
+  source = Tabled curve′;
   vpdmax = vpdmax′;
   vpdmin = vpdmin′;
   measure = measure′;

@@ -1,10 +1,12 @@
 -- Serves the code's own steps; no reader need believe it.
 use Prim.Native.Nat.{ℕ}
 use mathlib.Core.Path.{_≡_}
+use Rattle.trees.specs.declared.Curve.{Curve}
+use Rattle.trees.specs.declared.Source.{Source}
 use Rattle.trees.specs.declared.Figures.{Figures}
 use Rattle.trees.specs.Figures.{ownerOf}
 use Rattle.trees.specs.Temperature.{temperaturePair}
 
--- the figures have the f_temp of their curve, so that its table serves them
-pub record Tabled (f : Figures) : Type 0 where
-  pub pair : (x : ℕ) → temperaturePair f x ≡ temperaturePair (ownerOf (f .curve)) x
+-- where the figures name a curve they have its f_temp, so that its table serves them
+pub record HasTable (f : Figures) : Type 0 where
+  pub pair : (curve : Curve) → f .source ≡ Source.Tabled curve → (x : ℕ) → temperaturePair f x ≡ temperaturePair (ownerOf curve) x

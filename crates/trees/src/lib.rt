@@ -29,6 +29,12 @@ pub enum Curve {
     Evergreen,
 }
 
+// Where f_temp is found: in a tree's table, or worked out from the figures (W-212).
+pub enum Source {
+    Tabled(Curve),
+    Worked,
+}
+
 // A tree's figures. Percent: fmin, a, e. Whole degrees above -50 °C: tmin, topt, tmax.
 pub struct Figures {
     // mmol m⁻² s⁻¹
@@ -42,7 +48,7 @@ pub struct Figures {
     // (tmax - topt) / (topt - tmin), reduced
     pub p: u16,
     pub q: u16,
-    pub curve: Curve,
+    pub source: Source,
     // Pa
     pub vpdmax: u16,
     pub vpdmin: u16,
@@ -135,7 +141,7 @@ impl BorealSpruce {
             tmax: BorealSpruce::TMAX,
             p: BorealSpruce::P,
             q: BorealSpruce::Q,
-            curve: Curve::BorealSpruce,
+            source: Source::Tabled(Curve::BorealSpruce),
             vpdmax: BorealSpruce::VPDMAX,
             vpdmin: BorealSpruce::VPDMIN,
             measure: Measure::Water,
@@ -203,7 +209,7 @@ impl Birch {
             tmax: Birch::TMAX,
             p: Birch::P,
             q: Birch::Q,
-            curve: Curve::Birch,
+            source: Source::Tabled(Curve::Birch),
             vpdmax: Birch::VPDMAX,
             vpdmin: Birch::VPDMIN,
             measure: Measure::Water,
@@ -271,7 +277,7 @@ impl ContinentalSpruce {
             tmax: ContinentalSpruce::TMAX,
             p: ContinentalSpruce::P,
             q: ContinentalSpruce::Q,
-            curve: Curve::ContinentalSpruce,
+            source: Source::Tabled(Curve::ContinentalSpruce),
             vpdmax: ContinentalSpruce::VPDMAX,
             vpdmin: ContinentalSpruce::VPDMIN,
             measure: Measure::Suction,
@@ -339,7 +345,7 @@ impl Beech {
             tmax: Beech::TMAX,
             p: Beech::P,
             q: Beech::Q,
-            curve: Curve::Beech,
+            source: Source::Tabled(Curve::Beech),
             vpdmax: Beech::VPDMAX,
             vpdmin: Beech::VPDMIN,
             measure: Measure::Suction,
@@ -407,7 +413,7 @@ impl Oak {
             tmax: Oak::TMAX,
             p: Oak::P,
             q: Oak::Q,
-            curve: Curve::Oak,
+            source: Source::Tabled(Curve::Oak),
             vpdmax: Oak::VPDMAX,
             vpdmin: Oak::VPDMIN,
             measure: Measure::Suction,
@@ -475,7 +481,7 @@ impl Evergreen {
             tmax: Evergreen::TMAX,
             p: Evergreen::P,
             q: Evergreen::Q,
-            curve: Curve::Evergreen,
+            source: Source::Tabled(Curve::Evergreen),
             vpdmax: Evergreen::VPDMAX,
             vpdmin: Evergreen::VPDMIN,
             measure: Measure::Suction,

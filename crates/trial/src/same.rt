@@ -4,22 +4,48 @@ use account::Season;
 use account::Sums;
 use account::kind_number;
 use account::phase_number;
+use frames::Parameters;
 ghost use mathlib.Core.Path.{_≡_};
 ghost use Rattle.records.specs.Numbers.{sameNumbers};
+ghost use Rattle.measured.specs.Parameters.{parameterNumbers};
 ghost use Rattle.account_spec.specs.Account.{seasonNumbers, sumsNumbers};
 ghost use Rattle.trial_spec.specs.Same.{isSame};
+
+fn same_parameters(a: Parameters, b: Parameters) -> bool
+    ensures { λ r. ⌜ r ≡ sameNumbers (parameterNumbers a) (parameterNumbers b) ⌝ }
+{
+    (a.gmax == b.gmax)
+        & (a.fmin == b.fmin)
+        & (a.lighta == b.lighta)
+        & (a.tmin == b.tmin)
+        & (a.topt == b.topt)
+        & (a.tmax == b.tmax)
+        & (a.vpdmax == b.vpdmax)
+        & (a.vpdmin == b.vpdmin)
+        & (a.soilmax == b.soilmax)
+        & (a.soilmin == b.soilmin)
+        & (a.leaf == b.leaf)
+        & (a.a == b.a)
+        & (a.e == b.e)
+        & (a.f1 == b.f1)
+        & (a.f4 == b.f4)
+        & (a.y == b.y)
+}
 
 fn same_season(a: Season, b: Season) -> bool
     ensures { λ r. ⌜ r ≡ sameNumbers (seasonNumbers a) (seasonNumbers b) ⌝ }
 {
     let x = a.header;
     let y = b.header;
+    let p = a.parameters;
+    let q = b.parameters;
     (x.tree == y.tree)
         & (x.days == y.days)
         & (x.first == y.first)
         & (x.last == y.last)
         & (x.level == y.level)
         & (a.ceiling == b.ceiling)
+        & same_parameters(p, q)
 }
 
 fn same_sums(a: Sums, b: Sums) -> bool

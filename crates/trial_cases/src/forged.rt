@@ -29,7 +29,10 @@ fn refusal_of(row: u8, field: u8) -> Refusal {
         18 => Refusal::NoCeiling,
         19 => Refusal::Unlike,
         20 => Refusal::Days,
-        _ => Refusal::Scratch,
+        21 => Refusal::Scratch,
+        22 => Refusal::ListSize,
+        23 => Refusal::UnlikeAccounts,
+        _ => Refusal::Parameter,
     }
 }
 

@@ -1,11 +1,13 @@
 -- Two accounts are the same exactly where they are equal: each field is a number of the list, and the numbers determine the fields.
 use Prim.Native.Nat.{ℕ}
 use mathlib.Core.Path.{_≡_, refl, sym, ap, _∙_}
-use mathlib.Core.Bool.{true}
+use mathlib.Core.Bool.{Bool, true, false, _&&_, and-true, and-false, and-assoc}
 use mathlib.Core.List.{List, [], _∷_}
 use mathlib.Core.Logic.{_↔_}
 use borrow.Author.Tests.{eqb-true, eq-eqb}
+use lib.Dec.{eqb}
 use lib.ListN.{getD}
+use Rattle.records.specs.Numbers.{sameNumbers}
 use Rattle.records.proofs.AnswerLaws.{and-both}
 use Rattle.records.proofs.NumberLaws.{numbers-equal, numbers-same}
 use Rattle.account_spec.specs.declared.Phase.{Phase}
@@ -80,3 +82,17 @@ account-same a =
 
 pub same-is : (a b : Account) → (isSame a b ≡ true) ↔ (a ≡ b)
 same-is a b = (account-equal a b, λ e. rw e (account-same b))
+
+-- ---- numbers compared one after another, from the left
+
+abbrev sameAfter : Bool → List ℕ → List ℕ → Bool
+sameAfter t [] [] = t
+sameAfter t [] (n ∷ ns) = false
+sameAfter t (m ∷ ms) [] = false
+sameAfter t (m ∷ ms) (n ∷ ns) = sameAfter (t && eqb m n) ms ns
+
+pub same-after-is : (t : Bool) (ms ns : List ℕ) → sameAfter t ms ns ≡ (t && sameNumbers ms ns)
+same-after-is t [] [] = sym (and-true t)
+same-after-is t [] (n ∷ ns) = sym (and-false t)
+same-after-is t (m ∷ ms) [] = sym (and-false t)
+same-after-is t (m ∷ ms) (n ∷ ns) = same-after-is (t && eqb m n) ms ns ∙ and-assoc t (eqb m n) (sameNumbers ms ns)

@@ -7,7 +7,8 @@ use borrow.Author.Tests.{le-ltb}
 use lib.Dec.{ltb}
 use lib.ListN.{length, take, drop}
 use lib.Seq.{take-at}
-use Rattle.trees.specs.Figures.{figuresOf}
+use Rattle.measured.specs.Parameters.{noParameters, parametersOf}
+use Rattle.measured.specs.Figures.{figuresIn}
 use Rattle.trees.specs.declared.Choice.{Choice}
 use Rattle.trees.specs.declared.Measure.{Measure}
 use Rattle.records.specs.Answers.{accepted}
@@ -37,7 +38,7 @@ use Rattle.frames.proofs.ReadLaws.{parsed-passed, SoundRead, sound-read, hour-r
 use Rattle.writer.proofs.WidthLaws.{range-fits}
 use Rattle.frames.proofs.FrameLaws.{frame-is, hour-framed, sized-within}
 use Rattle.writer.proofs.LineLaws.{line-parsed, line-frame, line-written}
-use Rattle.frames.proofs.KindLaws.{KindCase, header, hour, end, ceiling, kind-cases}
+use Rattle.frames.proofs.KindLaws.{KindCase, header, hour, end, ceiling, parameters, kind-cases}
 use Rattle.writer.proofs.RowLaws.{write-only}
 
 -- ---- written, then read
@@ -65,9 +66,10 @@ hour-frame h (Humidity n) e = rw e
 record-back : (tree : ℕ) (r : Record) → OfMeasure tree r → InRange r → recordOf tree (frameOf (kindOf r) (numbersOf r)) ≡ soundOf r
 unfolding recordOf frameOf
 record-back tree (Record.Header h) m i = refl
-record-back tree (Record.Hour h) m i = ap (recordOf tree) (hour-frame h (h .air) refl) ∙ hour-measured (figuresOf tree) h m i
+record-back tree (Record.Hour h) m i = ap (recordOf tree) (hour-frame h (h .air) refl) ∙ hour-measured (figuresIn noParameters tree) h m i
 record-back tree (Record.End e) m i = refl
 record-back tree (Record.Ceiling c) m i = refl
+record-back tree (Record.Parameters p) m i = refl
 
 pub read-line : (tree : ℕ) (r : Record) → InWidth r → OfMeasure tree r → checked r ≡ accepted tt → readFrameOf tree (frameLine r) ≡ accepted r
 unfolding readFrameOf soundOf
@@ -138,6 +140,7 @@ module _ (tree : ℕ) (l : List ℕ) (r : Record) (e : recordOf tree (frameAt l)
       read-from l (Record.Hour (hourOf (hourIn l k) (h .figures .measure))) r kind (rw (← kind) (hour-numbers l k is (h .figures .measure))) (h .is)
   line-from (end k) = read-from l (Record.End (endOf (fieldsAt 3 l))) r k refl (sound-read _ r (by-kind k))
   line-from (ceiling k) = read-from l (Record.Ceiling (ceilingOf (fieldsAt 6 l))) r k refl (sound-read _ r (by-kind k))
+  line-from (parameters k) = read-from l (Record.Parameters (parametersOf (fieldsAt 7 l))) r k refl (sound-read _ r (by-kind k))
 
 pub line-read : (tree : ℕ) (l : List ℕ) (r : Record) → readFrameOf tree l ≡ accepted r → (checked r ≡ accepted tt) × (frameLine r ≡ l)
 unfolding readFrameOf

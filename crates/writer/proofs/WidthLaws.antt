@@ -2,6 +2,7 @@
 use mathlib.Core.Path.{_≡_, refl}
 use mathlib.Core.List.{_∷_}
 use native.Mathlib.Omega.{arith}
+use Rattle.measured.specs.Figures.{measuredFigures}
 use Rattle.frames.specs.Kinds.{one, widthsOf}
 use Rattle.frames.specs.Layout.{kindOf, numbersOf}
 use Rattle.records.specs.declared.Air.{Air}
@@ -37,7 +38,9 @@ hour-fits h i w (Humidity n) e =
     rw e (omega arith)
 
 pub range-fits : (r : Record) → InRange r → InWidth r → FitsLine r
+unfolding measuredFigures
 range-fits (Record.Header h) i w = omega arith
 range-fits (Record.Hour h) i w = hour-fits h i w (h .air) refl
 range-fits (Record.End e) i w = omega arith
 range-fits (Record.Ceiling c) i w = omega arith
+range-fits (Record.Parameters p) i w = omega arith

@@ -4,7 +4,8 @@ use mathlib.Core.Bool.{true}
 use mathlib.Core.Path.{_≡_}
 use mathlib.Core.List.{List, [], _∷_, _++_}
 use lib.ListN.{length, take, drop}
-use Rattle.trees.specs.Figures.{figuresOf}
+use Rattle.measured.specs.Parameters.{noParameters}
+use Rattle.measured.specs.Figures.{figuresIn}
 use Rattle.trees.specs.declared.Choice.{Choice}
 use Rattle.trees.specs.declared.Measure.{Measure}
 use Rattle.records.specs.Answers.{accepted, refused}
@@ -17,12 +18,13 @@ use Rattle.records.specs.declared.Soil.{Soil}
 use Rattle.records.specs.declared.Soil.the-variants.{Suction, Water}
 use Rattle.records.specs.declared.Record.{Record}
 
--- day, hour and count are numbers of their width
+-- day, hour, count and a measured tree's temperatures are numbers of their width
 abbrev pub InWidth : Record → Type 0
 InWidth (Record.Header h) = Unit
 InWidth (Record.Hour h) = (h .day < 65536) × (h .hour < 256)
 InWidth (Record.End e) = e .hours < 65536
 InWidth (Record.Ceiling c) = Unit
+InWidth (Record.Parameters p) = (p .tmin < 65536) × (p .topt < 65536) × (p .tmax < 65536)
 
 abbrev pub measureIn : Soil → Measure
 measureIn (Suction n) = Measure.Suction
@@ -36,13 +38,14 @@ HasMeasure Choice.Unknown m = ⊥
 -- a tree of the hour's soil measure; for any other record any number will do
 abbrev pub OfMeasure : ℕ → Record → Type 0
 OfMeasure tree (Record.Header h) = Unit
-OfMeasure tree (Record.Hour h) = HasMeasure (figuresOf tree) (measureIn (h .soil))
+OfMeasure tree (Record.Hour h) = HasMeasure (figuresIn noParameters tree) (measureIn (h .soil))
 OfMeasure tree (Record.End e) = Unit
 OfMeasure tree (Record.Ceiling c) = Unit
+OfMeasure tree (Record.Parameters p) = Unit
 
 -- the rows that refuse a record to be written, row 10 besides
 abbrev pub writerRows : List ℕ
-writerRows = 5 ∷ 6 ∷ 7 ∷ 8 ∷ 12 ∷ 17 ∷ []
+writerRows = 5 ∷ 6 ∷ 7 ∷ 8 ∷ 12 ∷ 17 ∷ 24 ∷ []
 
 pub record RoundTrip : Type 0 where
   -- a record that the writer accepts is read back as itself

@@ -1,4 +1,4 @@
-// The writer of frames (document 01, "Frames"): a record to its line in a lent buffer (rows 5 to 8, 10, 17 and 12).
+// The writer of frames (document 01, "Frames"): a record to its line in a lent buffer (rows 5 to 8, 10, 17, 24 and 12).
 mod digits;
 mod temperature;
 mod writing;

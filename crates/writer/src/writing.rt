@@ -7,6 +7,7 @@ use crate::temperature;
 use frames::Air;
 use frames::Header;
 use frames::Hour;
+use frames::Parameters;
 use frames::Record;
 use frames::Refusal;
 use frames::Written;
@@ -15,6 +16,7 @@ use frames::widths::HeaderLine;
 use frames::widths::HourLine;
 use frames::widths::KIND;
 use frames::widths::NUMBER;
+use frames::widths::ParameterLine;
 use frames::widths::PressureLine;
 ghost use mathlib.Core.Path.{_≡_};
 ghost use mathlib.Core.List.{[], _∷_, _++_};
@@ -112,6 +114,28 @@ fn put_number_line(kind: u8, n: u16, buf: &mut [u8]) -> Written
     Written::Bytes(ONE_NUMBER)
 }
 
+// Kind 07.
+fn put_parameters(p: Parameters, buf: &mut [u8]) -> Written
+    ensures { λ r. ⌜ Prints (accepted (frameLine (Record.Parameters p))) (now (buf .entry)) r (now (buf .exit)) ⌝ }
+{
+    if buf.len() < ParameterLine::DIGITS {
+        return Written::Refused(Refusal::Buffer);
+    }
+    put_byte(buf, KIND, 7);
+    put_four(buf, ParameterLine::GMAX, p.gmax, p.fmin, p.lighta, p.tmin);
+    put_four(buf, ParameterLine::TOPT, p.topt, p.tmax, p.vpdmax, p.vpdmin);
+    put_four(
+        buf,
+        ParameterLine::SOILMAX,
+        p.soilmax,
+        p.soilmin,
+        p.leaf,
+        p.a,
+    );
+    put_four(buf, ParameterLine::E, p.e, p.f1, p.f4, p.y);
+    Written::Bytes(ParameterLine::DIGITS)
+}
+
 // A record's line, whatever its kind.
 pub(crate) fn put(record: Record, buf: &mut [u8]) -> Written
     ensures { λ r. ⌜ Prints (accepted (frameLine «record»)) (now (buf .entry)) r (now (buf .exit)) ⌝ }
@@ -121,5 +145,6 @@ pub(crate) fn put(record: Record, buf: &mut [u8]) -> Written
         Record::Hour(h) => put_hour(h, buf),
         Record::End(e) => put_number_line(3, e.hours, buf),
         Record::Ceiling(c) => put_number_line(6, c.ozone, buf),
+        Record::Parameters(p) => put_parameters(p, buf),
     }
 }

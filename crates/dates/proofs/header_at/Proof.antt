@@ -4,11 +4,12 @@ use mathlib.Core.Bool.{false}
 use borrow.Author.Needs.{needs}
 use Rattle.trees.specs.declared.Figures.{Figures}
 use Rattle.trees.specs.declared.Choice.{Choice}
-use Rattle.trees.specs.Figures.{figuresOf}
+use Rattle.measured.specs.Parameters.{noParameters}
+use Rattle.measured.specs.Figures.{figuresIn}
 use Rattle.records.specs.declared.Header.{Header}
 use Rattle.records.specs.declared.Checked.{Checked}
 use Rattle.records.specs.Answers.{accepted, onward, checkedAs}
-use Rattle.records.specs.Ranges.{isOutside}
+use Rattle.records.specs.Numbers.{isOutside}
 use Rattle.dates_spec.specs.Rules.{placedOf}
 use Rattle.dates_spec.proofs.MadeLaws.{headerWith, placed-no-tree, placed-year-out, placed-checked}
 use Rattle.dates_spec.proofs.RuleLaws.{place-out}
@@ -16,22 +17,25 @@ use Rattle.dates_spec.proofs.PlaceLaws.{place-promise}
 use Rattle.dates.proofs.header_at.Statement.{statement}
 use Rattle.dates.proofs.header_at.Tie as tie
 
+chosen : (c : tie.After-figures-in) → c .figures-in .result ≡ figuresIn noParameters (c .before .before .args .tree)
+chosen c = rw (c .before .no-parameters .ensures) at (c .figures-in .ensures .0)
+
 returns : tie.Need-returns
-returns c = (placed-no-tree _ _ _ _ _ (sym (c .before .before .figures-of .ensures .0) ∙ c .enum-told2 .given .1), place-promise)
+returns c = (placed-no-tree _ _ _ _ _ (sym (chosen (c .before .before)) ∙ c .enum-told2 .given .1), place-promise)
 
 -- past row 5
 module _ (c : tie.After-enum-told) where
   abbrev figures : Figures
   figures = c .enum-told .given .0 .0
 
-  known : figuresOf (c .before .before .before .args .tree) ≡ Choice.Tree figures
-  known = sym (c .before .before .figures-of .ensures .0) ∙ c .enum-told .given .1
+  known : figuresIn noParameters (c .before .before .before .before .args .tree) ≡ Choice.Tree figures
+  known = sym (chosen (c .before .before)) ∙ c .enum-told .given .1
 
 returns-2 : tie.Need-returns-2
 returns-2 c = (placed-year-out _ _ _ _ _ (known (c .before .before)) (sym (c .before .outside .ensures) ∙ c .if1 .taken), place-promise)
 
 -- past row 6
-year : (c : tie.Else1) → isOutside 365 366 (c .before .before .before .before .before .args .days) ≡ false
+year : (c : tie.Else1) → isOutside 365 366 (c .before .before .before .before .before .before .args .days) ≡ false
 year c = sym (c .before .outside .ensures) ∙ c .if1 .left
 
 returns-3 : tie.Need-returns-3
@@ -48,12 +52,12 @@ module _ (c : tie.After-check) where
   passed = past .before .before
 
   abbrev made : Header
-  made = let a = passed .before .before .before .before .before .args in headerWith (a .tree) (a .days) (c .before .before .first-day .result) (c .before .last-day .result) (a .level)
+  made = let a = passed .before .before .before .before .before .before .args in headerWith (a .tree) (a .days) (c .before .before .first-day .result) (c .before .last-day .result) (a .level)
 
-  tested : let a = passed .before .before .before .before .before .args in
+  tested : let a = passed .before .before .before .before .before .before .args in
       onward (checkedAs (c .check .result)) (λ _. accepted made) ≡ placedOf (a .tree) (a .days) (a .level) (a .latitude) (a .height)
   tested =
-      let a = passed .before .before .before .before .before .args in
+      let a = passed .before .before .before .before .before .before .args in
       placed-checked (a .tree) (a .days) (a .level) (a .latitude) (a .height) (known (passed .before .before)) (year passed)
       (sym (past .before .place-out .ensures) ∙ past .if2 .left) _ _ (c .before .before .first-day .ensures) (c .before .last-day .ensures)
       (c .check .result) (c .check .ensures)
@@ -68,6 +72,7 @@ pub header-at-spec : {M : Type 1} → statement M
 header-at-spec =
     tie.close
     (tie.spec
+    (λ c κs. search needs)
     (λ c κs. search needs)
     (λ c. search needs)
     (λ c. search needs)

@@ -5,7 +5,7 @@ use native.Mathlib.Omega.{arith}
 use borrow.Author.Needs.{needs}
 use borrow.Author.Tests.{lt-ltb, le-ltb, ne-eqb}
 use lib.Dec.{ltb}
-use Rattle.records.specs.Ranges.{isOutside}
+use Rattle.records.specs.Numbers.{isOutside}
 use Rattle.frames.specs.Kinds.{among}
 use Rattle.dates_spec.specs.Rules.{placeOut}
 use Rattle.dates.proofs.place_out.Statement.{statement}

@@ -32,6 +32,15 @@ check-ceiling-requires c κs = search needs
 answered-requires-2 : tie.Need-answered-requires-2
 answered-requires-2 c κs = search needs
 
+enum-known-frame-5 : tie.Need-enum-known-frame-5
+enum-known-frame-5 c = search needs
+
+check-parameters-requires : tie.Need-check-parameters-requires
+check-parameters-requires c κs = search needs
+
+answered-requires-3 : tie.Need-answered-requires-3
+answered-requires-3 c κs = search needs
+
 returns : tie.Need-returns
 unfolding recordOf soundOf
 returns c = rw (c .before .before .before .frame .given .1) (rw (c .before .check-header .ensures) at (c .answered .ensures))
@@ -47,6 +56,10 @@ returns-4 : tie.Need-returns-4
 unfolding recordOf soundOf
 returns-4 c = rw (c .before .before .before .frame4 .given .1) (rw (c .before .check-ceiling .ensures) at (c .answered2 .ensures))
 
+returns-5 : tie.Need-returns-5
+unfolding recordOf soundOf
+returns-5 c = rw (c .before .before .before .frame5 .given .1) (rw (c .before .check-parameters .ensures) at (c .answered3 .ensures))
+
 pub record-of-spec : {M : Type 1} → statement M
 record-of-spec =
     tie.close
@@ -60,7 +73,11 @@ record-of-spec =
     enum-known-frame-4
     check-ceiling-requires
     answered-requires-2
+    enum-known-frame-5
+    check-parameters-requires
+    answered-requires-3
     returns
     returns-2
     returns-3
-    returns-4)
+    returns-4
+    returns-5)

@@ -28,6 +28,12 @@ enum-known-record-3 c = search needs
 check-ceiling-requires : tie.Need-check-ceiling-requires
 check-ceiling-requires c κs = search needs
 
+enum-known-record-4 : tie.Need-enum-known-record-4
+enum-known-record-4 c = search needs
+
+check-parameters-requires : tie.Need-check-parameters-requires
+check-parameters-requires c κs = search needs
+
 returns : tie.Need-returns
 returns c = rw (c .before .before .«record» .given .1) (c .check-header .ensures)
 
@@ -42,6 +48,9 @@ returns-3 c = rw (c .enum-told .given .1)
 returns-4 : tie.Need-returns-4
 returns-4 c = rw (c .before .before .record3 .given .1) (c .check-ceiling .ensures)
 
+returns-5 : tie.Need-returns-5
+returns-5 c = rw (c .before .before .record4 .given .1) (c .check-parameters .ensures)
+
 pub check-spec : {M : Type 1} → statement M
 check-spec =
     tie.close
@@ -54,7 +63,10 @@ check-spec =
     enum-told
     enum-known-record-3
     check-ceiling-requires
+    enum-known-record-4
+    check-parameters-requires
     returns
     returns-2
     returns-3
-    returns-4)
+    returns-4
+    returns-5)

@@ -12,7 +12,7 @@ enum-known-answer-2 : tie.Need-enum-known-answer-2
 enum-known-answer-2 c = search needs
 
 returns : tie.Need-returns
-returns c = search needs
+returns c = sym (ap leftBy (c .before .answer .given .1))
 
 returns-2 : tie.Need-returns-2
 returns-2 c = sym (ap leftBy (c .before .answer2 .given .1))

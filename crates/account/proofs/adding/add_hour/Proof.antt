@@ -8,6 +8,7 @@ use Rattle.account_spec.specs.declared.Account.{Account}
 use Rattle.account_spec.specs.Hours.{noneCarried}
 use Rattle.account_spec.specs.Steps.{Dosable, Room}
 use Rattle.account_spec.proofs.HourLaws.{PairSized, pair-sized, dosable-has}
+use Rattle.account_spec.proofs.PossibleLaws.{mostHour-le}
 use Rattle.account.proofs.AddingLaws.{ceiling-few, counted-hour, uncounted-hour}
 use Rattle.account.proofs.adding.add_hour.Statement.{statement}
 use Rattle.account.proofs.adding.add_hour.Tie as tie
@@ -42,10 +43,10 @@ add-sums-2 : tie.Need-add-sums-2
 add-sums-2 c = search needs
 
 add-sums-3 : tie.Need-add-sums-3
-add-sums-3 c = omega (arith, sized (c .before .before .before))
+add-sums-3 c = let paired = c .before .before .before in omega (arith, sized paired, mostHour-le (account paired .season))
 
 add-sums-4 : tie.Need-add-sums-4
-add-sums-4 c = omega (arith, sized (c .before .before .before .before .before))
+add-sums-4 c = let paired = c .before .before .before .before .before in omega (arith, sized paired, mostHour-le (account paired .season))
 
 ozone-sums-requires : tie.Need-ozone-sums-requires
 ozone-sums-requires c κs = search needs

@@ -32,6 +32,12 @@ enum-known-record-3 c = search needs
 set-ceiling-requires : tie.Need-set-ceiling-requires
 set-ceiling-requires c κs = search needs
 
+enum-known-record-4 : tie.Need-enum-known-record-4
+enum-known-record-4 c = search needs
+
+set-parameters-requires : tie.Need-set-parameters-requires
+set-parameters-requires c κs = search needs
+
 returns : tie.Need-returns
 unfolding entered
 returns c = rw (c .before .before .«record» .given .1) (c .«open» .ensures)
@@ -48,6 +54,10 @@ returns-4 : tie.Need-returns-4
 unfolding entered
 returns-4 c = rw (c .before .before .record3 .given .1) (c .set-ceiling .ensures)
 
+returns-5 : tie.Need-returns-5
+unfolding entered
+returns-5 c = rw (c .before .before .record4 .given .1) (c .set-parameters .ensures)
+
 pub enter-spec : {M : Type 1} → statement M
 enter-spec =
     tie.close
@@ -60,7 +70,10 @@ enter-spec =
     end-requires
     enum-known-record-3
     set-ceiling-requires
+    enum-known-record-4
+    set-parameters-requires
     returns
     returns-2
     returns-3
-    returns-4)
+    returns-4
+    returns-5)

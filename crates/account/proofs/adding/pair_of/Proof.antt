@@ -16,13 +16,13 @@ enum-told c = search needs
 returns : tie.Need-returns
 returns c =
     let called = c .before .before .before in
-    let start = called .before .before in
+    let start = called .before .before .before in
     pair-given _ _ (start .pre .0) (start .pre .1) _ (called .hour-dose .ensures .0) _ (c .before .dose .given .1)
 
 returns-2 : tie.Need-returns-2
 returns-2 c =
     let called = c .before .before in
-    let start = called .before .before in
+    let start = called .before .before .before in
     pair-none _ _ (start .pre .0) (start .pre .1) _ (called .hour-dose .ensures .0) _ _ (c .enum-told .given .1)
 
 pub pair-of-spec : {M : Type 1} → statement M

@@ -7,7 +7,7 @@ use borrow.Author.Tests.{not-true, not-false}
 use Rattle.records.specs.declared.Ozone.{Ozone}
 use Rattle.records.specs.Ranges.{lacksCeiling}
 use Rattle.frames.specs.Layout.{ozoneOf}
-use Rattle.account_spec.proofs.RuleLaws.{header-in, mixed-out, due-out, lacks-out, due-in, count-out, count-in, ceiling-in}
+use Rattle.account_spec.proofs.RuleLaws.{header-in, mixed-out, due-out, lacks-out, due-in, count-out, count-in, ceiling-in, parameters-out, ramps-out, ramps-in}
 use Rattle.account.proofs.rows.by_kind.Statement.{statement}
 use Rattle.account.proofs.rows.by_kind.Tie as tie
 
@@ -39,7 +39,16 @@ returns-4 : tie.Need-returns-4
 returns-4 c = rw (c .before .before .before .frame2 .given .1) (count-out _ _ (sym (c .before .count-wrong .ensures) ∙ c .if4 .taken))
 
 returns-5 : tie.Need-returns-5
-returns-5 c =
+returns-5 c = rw (c .before .before .before .frame3 .given .1) (parameters-out _ _ (sym (c .before .parameters-out .ensures) ∙ c .if5 .taken))
+
+returns-6 : tie.Need-returns-6
+returns-6 c =
+    let one = c .before .before .before in
+    rw (one .before .before .before .frame3 .given .1)
+    (ramps-out _ _ (sym (one .before .parameters-out .ensures) ∙ one .if5 .left) (sym (c .before .ramps-out .ensures) ∙ c .if6 .taken))
+
+returns-7 : tie.Need-returns-7
+returns-7 c =
     let ceiling = c .before .before .before .before .args .s .season .ceiling in
     ⊎-elim
     (λ w. c .record-of .ensures ∙ rw (w .2, w .1 .given .1) (header-in _ _))
@@ -49,7 +58,10 @@ returns-5 c =
     (lacks-is ceiling (v .1 .given .0 .0 .ozone) _ (v .7 .ensures) ∙ sym (v .8 .ensures) ∙ v .9 .left)))
     (λ v. ⊎-elim
     (λ u. c .record-of .ensures ∙ rw (u .5, u .1 .given .1) (count-in _ _ (sym (u .3 .ensures) ∙ u .4 .left)))
-    (λ u. c .record-of .ensures ∙ rw (u .2, u .1 .given .1) (ceiling-in _ _))
+    (λ u. ⊎-elim
+    (λ t. c .record-of .ensures ∙ rw (t .2, t .1 .given .1) (ceiling-in _ _))
+    (λ t. c .record-of .ensures ∙ rw (t .8, t .1 .given .1) (ramps-in _ _ (sym (t .3 .ensures) ∙ t .4 .left) (sym (t .6 .ensures) ∙ t .7 .left)))
+    u)
     v)
     w)
     (c .before .before .before .match .came)
@@ -71,5 +83,10 @@ by-kind-spec =
     (λ c κs. search needs)
     returns-4
     (λ c. search needs)
+    (λ c. search needs)
     (λ c κs. search needs)
-    returns-5)
+    returns-5
+    (λ c κs. search needs)
+    returns-6
+    (λ c κs. search needs)
+    returns-7)

@@ -1,27 +1,23 @@
 -- `account_read::possible::broken` meets its contract.
-use mathlib.Core.Path.{sym, ap, _∙_}
+use mathlib.Core.Path.{refl, sym, ap, _∙_}
 use borrow.Author.Needs.{needs}
 use Rattle.records.specs.Answers.{checkedAs}
 use Rattle.account_read.proofs.possible.broken.Statement.{statement}
 use Rattle.account_read.proofs.possible.broken.Tie as tie
 
-check-header-requires : tie.Need-check-header-requires
-check-header-requires c κs = search needs
-
-enum-told : tie.Need-enum-told
-enum-told c = search needs
-
-ceiling-out-requires : tie.Need-ceiling-out-requires
-ceiling-out-requires c κs = search needs
-
-enum-told-2 : tie.Need-enum-told-2
-enum-told-2 c = search needs
-
 returns : tie.Need-returns
-returns c = rw (sym (c .before .before .before .check-header .ensures) ∙ ap checkedAs (c .before .enum-told .given .1)) (c .ceiling-out .ensures)
+returns c = rw (sym (c .before .before .check-header .ensures) ∙ ap checkedAs (c .enum-told .given .1)) refl
 
 returns-2 : tie.Need-returns-2
-returns-2 c = rw (sym (c .before .before .check-header .ensures) ∙ ap checkedAs (c .enum-told2 .given .1))
+returns-2 c =
+    let told = c .before .before in
+    rw (sym (told .before .before .check-header .ensures) ∙ ap checkedAs (told .enum-told2 .given .1), sym (c .before .ceiling-out .ensures) ∙ c .if1 .taken) refl
+
+returns-3 : tie.Need-returns-3
+returns-3 c =
+    let inside = c .before in
+    let told = inside .before .before in
+    rw (sym (told .before .before .check-header .ensures) ∙ ap checkedAs (told .enum-told2 .given .1), sym (inside .before .ceiling-out .ensures) ∙ inside .if1 .left) (c .parameters-broken .ensures)
 
 pub broken-spec : {M : Type 1} → statement M
-broken-spec = tie.close (tie.spec check-header-requires enum-told ceiling-out-requires enum-told-2 returns returns-2)
+broken-spec = tie.close (tie.spec (λ c κs. search needs) (λ c. search needs) returns (λ c. search needs) (λ c κs. search needs) returns-2 (λ c κs. search needs) returns-3)

@@ -1,13 +1,12 @@
 -- `account_read::possible::doses_out` meets its contract.
-use Prim.Native.Nat.{ℕ, _-_, _*_}
-use mathlib.Core.Path.{_≡_, ap}
+use Prim.Native.Nat.{ℕ, _-_, _*_, _≤_}
+use native.Mathlib.Nat.{mul-le-mul-right}
 use mathlib.Core.Bool.{or-false}
 use native.Mathlib.Omega.{arith}
 use borrow.Author.Needs.{needs}
 use borrow.Author.Tests.{lt-ltb, le-ltb}
 use Rattle.account_spec.specs.declared.Season.{Season}
 use Rattle.account_spec.specs.declared.Sums.{Sums}
-use Rattle.account_spec.specs.Limits.{mostHour, gapEach}
 use Rattle.account_read.proofs.possible.doses_out.Statement.{statement}
 use Rattle.account_read.proofs.possible.doses_out.Tie as tie
 
@@ -36,32 +35,33 @@ module _ (c : tie.After-gap-each) where
   abbrev sums : Sums
   sums = c .before .before .before .before .before .before .args .s
 
-  most-is : (n : ℕ) → c .before .most-hour .result * n ≡ mostHour season * n
-  most-is n = ap (λ (t : ℕ). t * n) (c .before .most-hour .ensures)
+  -- sizes of the products
+  most-le : (n : ℕ) → c .before .most-hour .result * n ≤ 1500000 * n
+  most-le n = mul-le-mul-right n (c .before .most-hour .ensures .1)
 
-  gap-is : c .gap-each .result * (sums .counted - sums .missing) ≡ gapEach season * (sums .counted - sums .missing)
-  gap-is = ap (λ (t : ℕ). t * (sums .counted - sums .missing)) (c .gap-each .ensures)
+  gap-le : c .gap-each .result * (sums .counted - sums .missing) ≤ 40 * (sums .counted - sums .missing)
+  gap-le = mul-le-mul-right (sums .counted - sums .missing) (c .gap-each .ensures .1)
 
 returns-2 : tie.Need-returns-2
 returns-2 c =
     let calls = c .before .before in
     let s = sums calls in
     let order = le-ltb (s .upper) (s .lower) (calls .before .before .before .before .if1 .left) in
-    simp (order, calls .before .most-hour .ensures, calls .gap-each .ensures, or-false)
+    simp (order, calls .before .most-hour .ensures .0, calls .gap-each .ensures .0, or-false)
 
 -- ---- nothing overflows
 
 mul-widest : tie.Need-mul-widest
-mul-widest c = omega (arith, gap-is c)
+mul-widest c = omega (arith, gap-le c)
 
 mul-widest-2 : tie.Need-mul-widest-2
-mul-widest-2 c = omega (arith, most-is c (sums c .missing))
+mul-widest-2 c = omega (arith, most-le c (sums c .missing))
 
 add-widest : tie.Need-add-widest
-add-widest c = omega (arith, gap-is c, most-is c (sums c .missing))
+add-widest c = omega (arith, gap-le c, most-le c (sums c .missing))
 
 mul-result : tie.Need-mul-result
-mul-result c = omega (arith, most-is c (sums c .counted))
+mul-result c = omega (arith, most-le c (sums c .counted))
 
 pub doses-out-spec : {M : Type 1} → statement M
 doses-out-spec =

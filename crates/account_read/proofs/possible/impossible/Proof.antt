@@ -8,7 +8,7 @@ use lib.Dec.{ltb}
 use Rattle.records.specs.Period.{periodHours}
 use Rattle.account_spec.specs.declared.Account.{Account}
 use Rattle.account_spec.specs.HourKinds.{kindOut}
-use Rattle.account_spec.specs.Account.{isBegun, isBroken, impossible}
+use Rattle.account_spec.specs.Account.{isBegun, isBroken, unmeasuredIn, impossible}
 use Rattle.account_spec.proofs.PossibleLaws.{byPhase, fresh-is, open-is, closed-is, sums-first}
 use Rattle.account_read.proofs.possible.impossible.Statement.{statement}
 use Rattle.account_read.proofs.possible.impossible.Tie as tie
@@ -25,9 +25,10 @@ module _ (c : tie.Else1) where
 
   past1 :
       (kindOut (account1 .kind) (account1 .sums .hours)
+      || (unmeasuredIn (account1 .season) (account1 .kind) (account1 .sums .hours)
       || ((isBegun (account1 .phase) && isBroken (account1 .season))
       || (ltb (periodHours (account1 .season .header)) (account1 .sums .hours)
-      || byPhase account1)))
+      || byPhase account1))))
       ≡ impossible account1
   past1 = rw (sym (c .before .sums-out .ensures) ∙ c .if1 .left) at (sums-first account1)
 
@@ -42,40 +43,56 @@ module _ (c : tie.Else2) where
   account2 = account1 (c .before .before)
 
   past2 :
-      ((isBegun (account2 .phase) && isBroken (account2 .season)) || (ltb (periodHours (account2 .season .header)) (account2 .sums .hours) || byPhase account2))
+      (unmeasuredIn (account2 .season) (account2 .kind) (account2 .sums .hours)
+      || ((isBegun (account2 .phase) && isBroken (account2 .season)) || (ltb (periodHours (account2 .season .header)) (account2 .sums .hours) || byPhase account2)))
       ≡ impossible account2
   past2 = rw (sym (c .before .kind-out .ensures) ∙ c .if2 .left) at (past1 (c .before .before))
 
-begun-broken-requires : tie.Need-begun-broken-requires
-begun-broken-requires c κs = search needs
+unmeasured-requires : tie.Need-unmeasured-requires
+unmeasured-requires c κs = search needs
 
 returns-3 : tie.Need-returns-3
-returns-3 c = rw (sym (c .before .begun-broken .ensures) ∙ c .if3 .taken) at (past2 (c .before .before))
+returns-3 c = rw (sym (c .before .unmeasured .ensures) ∙ c .if3 .taken) at (past2 (c .before .before))
 
 module _ (c : tie.Else3) where
   abbrev account3 : Account
   account3 = account2 (c .before .before)
 
-  past3 : (ltb (periodHours (account3 .season .header)) (account3 .sums .hours) || byPhase account3) ≡ impossible account3
-  past3 = rw (sym (c .before .begun-broken .ensures) ∙ c .if3 .left) at (past2 (c .before .before))
+  past3 :
+      ((isBegun (account3 .phase) && isBroken (account3 .season)) || (ltb (periodHours (account3 .season .header)) (account3 .sums .hours) || byPhase account3))
+      ≡ impossible account3
+  past3 = rw (sym (c .before .unmeasured .ensures) ∙ c .if3 .left) at (past2 (c .before .before))
+
+begun-broken-requires : tie.Need-begun-broken-requires
+begun-broken-requires c κs = search needs
+
+returns-4 : tie.Need-returns-4
+returns-4 c = rw (sym (c .before .begun-broken .ensures) ∙ c .if4 .taken) at (past3 (c .before .before))
+
+module _ (c : tie.Else4) where
+  abbrev account4 : Account
+  account4 = account3 (c .before .before)
+
+  past4 : (ltb (periodHours (account4 .season .header)) (account4 .sums .hours) || byPhase account4) ≡ impossible account4
+  past4 = rw (sym (c .before .begun-broken .ensures) ∙ c .if4 .left) at (past3 (c .before .before))
 
 period-hours-requires : tie.Need-period-hours-requires
 period-hours-requires c κs = search needs
 
-cast-if4 : tie.Need-cast-if4
-cast-if4 c = search needs
+cast-if5 : tie.Need-cast-if5
+cast-if5 c = search needs
 
-returns-4 : tie.Need-returns-4
-returns-4 c =
-    let a = account3 (c .before .before .before .before) in
-    rw (lt-ltb (periodHours (a .season .header)) (a .sums .hours) (omega arith)) at (past3 (c .before .before .before .before))
+returns-5 : tie.Need-returns-5
+returns-5 c =
+    let a = account4 (c .before .before .before .before) in
+    rw (lt-ltb (periodHours (a .season .header)) (a .sums .hours) (omega arith)) at (past4 (c .before .before .before .before))
 
-module _ (c : tie.Else4) where
-  abbrev account4 : Account
-  account4 = account3 (c .before .before .before .before)
+module _ (c : tie.Else5) where
+  abbrev account5 : Account
+  account5 = account4 (c .before .before .before .before)
 
-  past4 : byPhase account4 ≡ impossible account4
-  past4 = rw (le-ltb (periodHours (account4 .season .header)) (account4 .sums .hours) (omega arith)) at (past3 (c .before .before .before .before))
+  past5 : byPhase account5 ≡ impossible account5
+  past5 = rw (le-ltb (periodHours (account5 .season .header)) (account5 .sums .hours) (omega arith)) at (past4 (c .before .before .before .before))
 
 enum-told : tie.Need-enum-told
 enum-told c = search needs
@@ -92,14 +109,14 @@ enum-told-3 c = search needs
 all-given-requires : tie.Need-all-given-requires
 all-given-requires c κs = search needs
 
-returns-5 : tie.Need-returns-5
-returns-5 c = ap not (c .blank .ensures) ∙ fresh-is (account4 (c .before .before .before)) (c .before .enum-told .given .1) ∙ past4 (c .before .before .before)
-
 returns-6 : tie.Need-returns-6
-returns-6 c = open-is (account4 (c .before .before)) (c .enum-told2 .given .1) ∙ past4 (c .before .before)
+returns-6 c = ap not (c .blank .ensures) ∙ fresh-is (account5 (c .before .before .before)) (c .before .enum-told .given .1) ∙ past5 (c .before .before .before)
 
 returns-7 : tie.Need-returns-7
-returns-7 c = ap not (c .all-given .ensures) ∙ closed-is (account4 (c .before .before .before)) (c .before .enum-told3 .given .1) ∙ past4 (c .before .before .before)
+returns-7 c = open-is (account5 (c .before .before)) (c .enum-told2 .given .1) ∙ past5 (c .before .before)
+
+returns-8 : tie.Need-returns-8
+returns-8 c = ap not (c .all-given .ensures) ∙ closed-is (account5 (c .before .before .before)) (c .before .enum-told3 .given .1) ∙ past5 (c .before .before .before)
 
 pub impossible-spec : {M : Type 1} → statement M
 impossible-spec =
@@ -109,16 +126,18 @@ impossible-spec =
     returns
     kind-out-requires
     returns-2
-    begun-broken-requires
+    unmeasured-requires
     returns-3
-    period-hours-requires
-    cast-if4
+    begun-broken-requires
     returns-4
+    period-hours-requires
+    cast-if5
+    returns-5
     enum-told
     blank-requires
     enum-told-2
     enum-told-3
     all-given-requires
-    returns-5
     returns-6
-    returns-7)
+    returns-7
+    returns-8)

@@ -28,7 +28,7 @@ temperature-requires : tie.Need-temperature-requires
 temperature-requires c κs =
     let start = c .before .before .before in
     let range = checked-passed (Record.Hour (start .args .h)) (start .pre .1 .1 .0) in
-    (start .pre .1 .0, rw (tenths c) (above-highest _ (range .temperature)))
+    (start .pre .0, (start .pre .1 .0, rw (tenths c) (above-highest _ (range .temperature))))
 
 opening-requires : tie.Need-opening-requires
 opening-requires c κs =

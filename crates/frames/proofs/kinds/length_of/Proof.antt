@@ -1,8 +1,8 @@
 -- `frames::kinds::length_of` meets its contract.
 use mathlib.Core.Path.{refl}
-use native.Mathlib.Omega.{arith}
 use Rattle.frames.specs.Kinds.{lengthOf}
-use Rattle.frames.proofs.KindLaws.{kind-none}
+use Rattle.frames.specs.Steps.{withDeficit, withPressure, withHumidity}
+use Rattle.frames.proofs.KindLaws.{KindCase, header, hour, end, ceiling, parameters, kind-other}
 use Rattle.frames.proofs.kinds.length_of.Statement.{statement}
 use Rattle.frames.proofs.kinds.length_of.Tie as tie
 
@@ -31,7 +31,20 @@ unfolding lengthOf
 returns-6 c = rw (c .match .keys6) refl
 
 returns-7 : tie.Need-returns-7
-returns-7 c = kind-none _ (λ h. omega arith)
+unfolding lengthOf
+returns-7 c = rw (c .match .keys7) refl
+
+other : (c : tie.At-match-rest) → KindCase (c .before .args .kind) → ⊥
+other c (header e) = c .match .rest .0 .0 .0 .0 .0 .0 .1 e
+other c (hour (withDeficit e)) = c .match .rest .0 .0 .0 .0 .0 .1 e
+other c (end e) = c .match .rest .0 .0 .0 .0 .1 e
+other c (hour (withPressure e)) = c .match .rest .0 .0 .0 .1 e
+other c (hour (withHumidity e)) = c .match .rest .0 .0 .1 e
+other c (ceiling e) = c .match .rest .0 .1 e
+other c (parameters e) = c .match .rest .1 e
+
+returns-8 : tie.Need-returns-8
+returns-8 c = kind-other _ (other c)
 
 pub length-of-spec : {M : Type 1} → statement M
-length-of-spec = tie.close (tie.spec returns returns-2 returns-3 returns-4 returns-5 returns-6 returns-7)
+length-of-spec = tie.close (tie.spec returns returns-2 returns-3 returns-4 returns-5 returns-6 returns-7 returns-8)

@@ -22,6 +22,9 @@ end-at-requires c κs = search needs
 ceiling-at-requires : tie.Need-ceiling-at-requires
 ceiling-at-requires c κs = search needs
 
+parameters-at-requires : tie.Need-parameters-at-requires
+parameters-at-requires c κs = search needs
+
 hour-at-requires : tie.Need-hour-at-requires
 hour-at-requires c κs = search needs
 
@@ -43,11 +46,17 @@ returns-3 c = λ l says sized.
     let kind = sym (c .before .before .byte-at .ensures l says (sized-ge l sized)) ∙ c .before .match .keys3 in
     ap Raw.Ceiling (c .ceiling-at .ensures l says (sized-le l sized kind)) ∙ sym (frame-is l kind)
 
--- the other kinds are those of hours
 returns-4 : tie.Need-returns-4
+unfolding frameOf
 returns-4 c = λ l says sized.
+    let kind = sym (c .before .before .byte-at .ensures l says (sized-ge l sized)) ∙ c .before .match .keys4 in
+    ap Raw.Parameters (c .parameters-at .ensures l says (sized-le l sized kind)) ∙ sym (frame-is l kind)
+
+-- the other kinds are those of hours
+returns-5 : tie.Need-returns-5
+returns-5 c = λ l says sized.
     let kind = c .before .before .byte-at .ensures l says (sized-ge l sized) in
-    let hour = hour-left _ (kind-cases (byteAt 0 l) (sized-within l sized)) (λ e. omega arith) (λ e. omega arith) (λ e. omega arith) in
+    let hour = hour-left _ (kind-cases (byteAt 0 l) (sized-within l sized)) (λ e. omega arith) (λ e. omega arith) (λ e. omega arith) (λ e. omega arith) in
     ap Raw.Hour ((rw kind at (c .hour-at .ensures)) hour l says (sized-le l sized refl)) ∙ sym (hour-framed l hour refl)
 
 pub frame-at-spec : {M : Type 1} → statement M
@@ -58,8 +67,10 @@ frame-at-spec =
     header-at-requires
     end-at-requires
     ceiling-at-requires
+    parameters-at-requires
     hour-at-requires
     returns
     returns-2
     returns-3
-    returns-4)
+    returns-4
+    returns-5)

@@ -4,26 +4,32 @@ use mathlib.Core.Bool.{false}
 use borrow.Author.Needs.{needs}
 use Rattle.trees.specs.declared.Figures.{Figures}
 use Rattle.trees.specs.declared.Choice.{Choice}
-use Rattle.trees.specs.Figures.{figuresOf, rampDays}
-use Rattle.records.specs.Ranges.{isOutside, periodOut}
+use Rattle.trees.specs.Figures.{rampDays}
+use Rattle.measured.specs.Parameters.{noParameters}
+use Rattle.measured.specs.Figures.{figuresIn}
+use Rattle.records.specs.Numbers.{isOutside}
+use Rattle.records.specs.Ranges.{periodOut}
 use Rattle.records.specs.declared.Header.{Header}
 use Rattle.records.proofs.CheckLaws.{tree-out, year-out, period-out, level-out, level-in}
 use Rattle.records.proofs.ranges.check_header.Statement.{statement}
 use Rattle.records.proofs.ranges.check_header.Tie as tie
 
+chosen : (c : tie.After-figures-in) → c .figures-in .result ≡ figuresIn noParameters (c .before .before .args .h .tree)
+chosen c = rw (c .before .no-parameters .ensures) at (c .figures-in .ensures .0)
+
 returns : tie.Need-returns
-returns c = tree-out _ (sym (c .before .before .figures-of .ensures .0) ∙ c .enum-told .given .1)
+returns c = tree-out _ (sym (chosen (c .before .before)) ∙ c .enum-told .given .1)
 
 -- past row 5
 module _ (c : tie.After-known-told) where
   abbrev header₅ : Header
-  header₅ = c .before .before .before .before .args .h
+  header₅ = c .before .before .before .before .before .args .h
 
   abbrev figures : Figures
   figures = c .before .f .given .0 .0
 
-  tree : figuresOf (header₅ .tree) ≡ Choice.Tree figures
-  tree = sym (c .before .before .before .figures-of .ensures .0) ∙ c .before .f .given .1
+  tree : figuresIn noParameters (header₅ .tree) ≡ Choice.Tree figures
+  tree = sym (chosen (c .before .before .before)) ∙ c .before .f .given .1
 
 returns-2 : tie.Need-returns-2
 returns-2 c = year-out _ (tree (c .before .before)) (sym (c .before .outside .ensures) ∙ c .if1 .taken)
@@ -60,6 +66,7 @@ pub check-header-spec : {M : Type 1} → statement M
 check-header-spec =
     tie.close
     (tie.spec
+    (λ c κs. search needs)
     (λ c κs. search needs)
     (λ c. search needs)
     (λ c. search needs)

@@ -28,6 +28,12 @@ enum-known-record-4 c = search needs
 put-number-line-requires-2 : tie.Need-put-number-line-requires-2
 put-number-line-requires-2 c κs = search needs
 
+enum-known-record-5 : tie.Need-enum-known-record-5
+enum-known-record-5 c = search needs
+
+put-parameters-requires : tie.Need-put-parameters-requires
+put-parameters-requires c κs = search needs
+
 same-length : tie.Need-same-length
 same-length c = search needs
 
@@ -54,6 +60,12 @@ returns-4 : tie.Need-returns-4
 unfolding frameLine
 returns-4 c = rw (c .before .before .before .before .before .record4 .given .1) (c .before .before .put-number-line2 .ensures)
 
+same-length-5 : tie.Need-same-length-5
+same-length-5 c = search needs
+
+returns-5 : tie.Need-returns-5
+returns-5 c = rw (c .before .before .before .before .before .record5 .given .1) (c .before .before .put-parameters .ensures)
+
 pub put-spec : {M : Type 1} → statement M
 put-spec =
     tie.close
@@ -66,6 +78,8 @@ put-spec =
     put-number-line-requires
     enum-known-record-4
     put-number-line-requires-2
+    enum-known-record-5
+    put-parameters-requires
     same-length
     returns
     same-length-2
@@ -73,4 +87,6 @@ put-spec =
     same-length-3
     returns-3
     same-length-4
-    returns-4)
+    returns-4
+    same-length-5
+    returns-5)

@@ -1,0 +1,3 @@
+pub mod Parameters
+pub mod Figures
+pub mod Facts
