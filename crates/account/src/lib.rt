@@ -18,6 +18,7 @@ use frames::Decoded;
 use frames::Header;
 use frames::Parsed;
 use frames::Raw;
+use frames::RawHour;
 use frames::Refusal;
 pub use rows::kind_number;
 pub use rows::phase_number;
@@ -25,6 +26,7 @@ ghost use mathlib.Core.Path.{_≡_};
 ghost use Rattle.records.specs.Answers.{rowOf, reply, checkedAs};
 ghost use Rattle.account_spec.specs.Account.{freshAccount};
 ghost use Rattle.account_spec.specs.Rules.{stateOf, feedFrameOf, unreadRow, Answers, Feeds};
+ghost use Rattle.account_spec.specs.Timely.{timelyOf};
 ghost use Rattle.account_spec.specs.Promise.{SeasonPromise};
 ghost use Rattle.filling_spec.specs.Promise.{FillingPromise};
 
@@ -101,6 +103,16 @@ pub fn answer_to(account: Account, frame: Raw) -> Checked
         Decoded::Read(_) => Checked::Sound,
         Decoded::Refused(refusal) => Checked::Refused(refusal),
     }
+}
+
+// The rows of an hour that look at no reading: 13, 4, 15 and 9.
+pub fn timely(account: Account, raw: RawHour) -> Checked
+    ensures { λ r. ⌜ checkedAs r ≡ timelyOf account raw ⌝ }
+{
+    if account_read::impossible(account) {
+        return Checked::Refused(Refusal::Account);
+    }
+    rows::timely(state_of(account), raw)
 }
 
 // The refusal of a line that rows 1 to 3 refuse: row 13 first.

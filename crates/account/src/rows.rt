@@ -4,15 +4,17 @@ use account_spec::HourKind;
 use account_spec::Season;
 use account_spec::State;
 use frames::Air;
+use frames::Checked;
 use frames::Decoded;
 use frames::Raw;
 use frames::RawHour;
 use frames::Refusal;
 ghost use mathlib.Core.Path.{_≡_};
-ghost use Rattle.records.specs.Answers.{decodedAs};
+ghost use Rattle.records.specs.Answers.{checkedAs, decodedAs};
 ghost use Rattle.account_spec.specs.Account.{phaseNumber, awaits};
 ghost use Rattle.account_spec.specs.HourKinds.{kindNumber, isMixed};
 ghost use Rattle.account_spec.specs.Rules.{ceilingLate, turnIn, outOfTurn, isDue, countWrong, dueOf, turnOf};
+ghost use Rattle.account_spec.specs.Timely.{timelyIn};
 ghost use Rattle.account_spec.specs.Steps.{refusalIn};
 
 // A ceiling comes directly after the header and once.
@@ -113,6 +115,24 @@ fn due(s: State, raw: RawHour) -> bool
         return false;
     }
     (raw.hour as u16) == s.hours % 24
+}
+
+// The rows of an hour that look at no reading: 4, 15 and 9.
+pub(crate) fn timely(s: State, raw: RawHour) -> Checked
+    ensures { λ r. ⌜ checkedAs r ≡ timelyIn s raw ⌝ }
+{
+    if out_of_turn(s, Raw::Hour(raw)) {
+        return Checked::Refused(Refusal::Turn);
+    }
+    let kind = s.kind;
+    let air = raw.air;
+    if mixed(kind, air) {
+        return Checked::Refused(Refusal::Mixed);
+    }
+    if !due(s, raw) {
+        return Checked::Refused(Refusal::Due);
+    }
+    Checked::Sound
 }
 
 // Row 11: count not the hours accepted, or hours still due.

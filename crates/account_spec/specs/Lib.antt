@@ -4,6 +4,7 @@ pub mod Hours
 pub mod Enclosed
 pub mod Account
 pub mod Rules
+pub mod Timely
 pub mod Reading
 pub mod Book
 pub mod Runs

@@ -1,16 +1,16 @@
--- Answers as document 01 numbers them ("Turned-back lines"): accepted with a value, or refused by a row, row 10 with its field.
+-- Answers as document 01 numbers them ("Turned-back lines"): accepted with a value, or refused by a row, rows 10 and 26 with their field.
 use Prim.Native.Nat.{ℕ}
 use mathlib.Core.Bool.{Bool, cond}
 use Rattle.records.specs.declared.Raw.{Raw}
 use Rattle.records.specs.declared.Record.{Record}
 use Rattle.records.specs.declared.Refusal.{Refusal}
-use Rattle.records.specs.declared.Refusal.the-variants.{Length, Digit, Kind, Turn, Tree, Year, Period, Level, Due, Range, Count, Buffer, Account, Place, Mixed, Tried, Ceiling, NoCeiling, Unlike, Days, Scratch, ListSize, UnlikeAccounts, Parameter}
+use Rattle.records.specs.declared.Refusal.the-variants.{Length, Digit, Kind, Turn, Tree, Year, Period, Level, Due, Range, Count, Buffer, Account, Place, Mixed, Tried, Ceiling, NoCeiling, Unlike, Days, Scratch, ListSize, UnlikeAccounts, Parameter, Float}
 use Rattle.records.specs.declared.Parsed.{Parsed}
 use Rattle.records.specs.declared.Checked.{Checked}
 use Rattle.records.specs.declared.Decoded.{Decoded}
 use Rattle.records.specs.declared.Written.{Written}
 
--- refused by a row: its number, and the field that row 10 names (0 for every other row)
+-- refused by a row: its number, and the field that rows 10 and 26 name (0 for every other row)
 pub data Outcome (A : Type 0) : Type 0 where
   accepted : A → Outcome A
   refused : ℕ × ℕ → Outcome A
@@ -33,7 +33,7 @@ abbrev pub reply : {A : Type 0} → Outcome A → Outcome Unit
 reply (accepted a) = accepted tt
 reply (refused w) = refused w
 
--- document 01's number, and row 10's field, for each case of a refusal
+-- document 01's number, and the field of rows 10 and 26, for each case of a refusal
 abbrev pub rowOf : Refusal → ℕ × ℕ
 rowOf Length = (1, 0)
 rowOf Digit = (2, 0)
@@ -59,6 +59,7 @@ rowOf Scratch = (21, 0)
 rowOf ListSize = (22, 0)
 rowOf UnlikeAccounts = (23, 0)
 rowOf Parameter = (24, 0)
+rowOf (Float f) = (26, f)
 
 abbrev pub parsedAs : Parsed → Outcome Raw
 parsedAs (Parsed.Frame frame) = accepted frame

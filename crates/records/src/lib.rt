@@ -105,7 +105,7 @@ pub enum Raw {
     Parameters(Parameters),
 }
 
-// Why a call is refused: a case for each row, document 01's 1 to 13 and the requests' from 14 on, in that order. Range names the field, 1 to 8.
+// Why a call is refused: a case for each row, document 01's 1 to 13 and the requests' from 14 on, in that order. Range and Float name the field, 1 to 8.
 // `rowOf` (specs/Answers.antt) gives each case's number.
 pub enum Refusal {
     Length,
@@ -132,6 +132,7 @@ pub enum Refusal {
     ListSize,
     UnlikeAccounts,
     Parameter,
+    Float(u8),
 }
 
 // The answer to a line by rows 1 to 3: its frame, or the row that refuses it.
@@ -158,7 +159,7 @@ pub enum Written {
     Refused(Refusal),
 }
 
-// A refusal's row, 1 to 24.
+// A refusal's row, 1 to 26.
 pub fn row_of(refusal: Refusal) -> u8
     ensures { λ r. ⌜ r ≡ rowOf «refusal» .0 ⌝ }
 {
@@ -187,6 +188,7 @@ pub fn row_of(refusal: Refusal) -> u8
         Refusal::ListSize => 22,
         Refusal::UnlikeAccounts => 23,
         Refusal::Parameter => 24,
+        Refusal::Float(_) => 26,
     }
 }
 

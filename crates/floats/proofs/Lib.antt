@@ -1,0 +1,5 @@
+pub mod OrderLaws
+pub mod SizeLaws
+pub mod SignLaws
+pub mod FieldLaws
+pub mod AnswerLaws

@@ -1,0 +1,4 @@
+pub mod WholeLaws
+pub mod RangeLaws
+pub mod FeedLaws
+pub mod PromiseLaws

@@ -1,0 +1,4 @@
+pub mod Whole
+pub mod Numbers
+pub mod Feeding
+pub mod Promise
