@@ -73,7 +73,7 @@ ownerOf Beech = beech
 ownerOf Oak = oak
 ownerOf Evergreen = evergreen
 
--- by the tree's number; a number outside 1 to 6 is no tree
+-- by the tree's number; a number outside 1 to 6 is none of these six
 unfoldable pub figuresOf : ℕ → Choice
 figuresOf tree =
     cond (eqb tree 1) (Tree borealSpruce)
@@ -89,7 +89,7 @@ abbrev pub choiceRow : Choice → ℕ
 choiceRow (Tree f) = 0
 choiceRow Unknown = 5
 
--- row 5: tree not 1 to 6
+-- row 5 as far as these six go; with tree 7 (W-212) it is `numberRow`, crates/measured/specs/Figures.antt
 abbrev pub treeRow : ℕ → ℕ
 treeRow tree = cond (ltb tree 1 || ltb 6 tree) 5 0
 
