@@ -15,7 +15,9 @@ from fractions import Fraction
 import account_cases as book
 import vectors
 from account_cases import CLOSED, OPEN, Account
-from paper import TREES, Hour, limits, line_of_hour
+from local_trees import parameters_line
+from paper import MEASURED, TREES, Hour, limits, line_of_hour, measure_of
+from trial_cases import shown
 
 CRATE = vectors.REPOSITORY / "crates" / "floats_cases"
 FIELDS = range(7)
@@ -70,7 +72,7 @@ def row_of(account, day, hour, patterns):
     """The row that refuses the hour, or None."""
     if book.is_impossible(account):
         return (13,)
-    if account.phase != OPEN:
+    if account.phase != OPEN or book.lacks_parameters(account):
         return (4,)
     if account.kind not in (0, 2):
         return (15,)
@@ -82,7 +84,7 @@ def row_of(account, day, hour, patterns):
         return (26, numbers.index(None) + 1)
     if numbers[OZONE] == FFFF and account.ceiling == 0:
         return (18,)
-    for field, (number, (low, high)) in enumerate(zip(numbers, limits(2, TREES[account.tree].measure)), start=1):
+    for field, (number, (low, high)) in enumerate(zip(numbers, limits(2, measure_of(account.tree))), start=1):
         if not low <= number <= high and (field, number) != (1, FFFF):
             return (10, field)
     return None
@@ -154,7 +156,7 @@ class Sheet:
 
     def accounts(self):
         self.command(b"A")
-        self.answers += [" ".join(str(n) for n in account) for account in (self.lines, self.floats)]
+        self.answers += map(shown, (self.lines, self.floats))
 
 
 def opened(sheet, *lines):
@@ -253,10 +255,10 @@ def readings_by_lot(lot, tree):
     return ozone, r["ppfd"], r["radiation"], r["temperature"], r["vpd"], r["wind"], r["soil"]
 
 
-def season(sheet, lot, tree, first):
-    """Every hour of a season as a line and as floats; lines of other kinds between them, and refused ones."""
-    last = first + TREES[tree].f1 + TREES[tree].f4
-    opened(sheet, book.header_line(tree, 365, first, last), book.ceiling_line(lot.of((1, 900, 5000))))
+def season(sheet, lot, tree, first, *own):
+    """Every hour of a season as a line and as floats; lines of other kinds between them, and refused ones. Tree 7's has three days and begins with its own frames."""
+    last = first + (2 if tree == MEASURED else TREES[tree].f1 + TREES[tree].f4)
+    opened(sheet, book.header_line(tree, 365, first, last), *own, book.ceiling_line(lot.of((1, 900, 5000))))
     while sheet.floats.hours < sheet.floats.period:
         day, hour = first + sheet.floats.hours // 24, sheet.floats.hours % 24
         numbers = readings_by_lot(lot, tree)
@@ -282,6 +284,8 @@ def filled():
     patterns_by_lot(sheet, lot)
     for tree in TREES:
         season(sheet, lot, tree, 105)
+    season(sheet, lot, MEASURED, 105, parameters_line())
+    season(sheet, lot, MEASURED, 105, parameters_line(a=20, e=40), book.warmth_line(5, 10, 20))
     expected = {None, (13,), (4,), (15,), (9,), (18,)} | {(row, field) for row in (10, 26) for field in range(1, 8)}
     assert sheet.rows == expected
     return sheet

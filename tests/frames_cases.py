@@ -1,6 +1,6 @@
 #!/usr/bin/env python3
 """The commands for crates/frames_cases and what it must print, reckoned from document 01 ("Frames", "Tree table", "Turned-back lines") and document 02
-(W-204, W-205, W-207, W-212) alone.
+(W-204, W-205, W-207, W-212, W-213) alone.
 
     python3 tests/frames_cases.py
 
@@ -8,10 +8,11 @@ writes crates/frames_cases/stdin and stdout: document 01's examples, every lengt
 records on either side of each limit, lines with another kind's length, and round trips.
 """
 
+from itertools import permutations
 from pathlib import Path
 
 from local_trees import BROKEN, GOOD, LOCAL, parameters_line
-from paper import Parameters, parameter_row
+from paper import Parameters, Warmth, parameter_row, warmth_row
 
 CRATE = Path(__file__).resolve().parent.parent / "crates" / "frames_cases"
 BUFFER = 2097152  # bytes that the program reads
@@ -19,15 +20,16 @@ BUFFER = 2097152  # bytes that the program reads
 DIGITS = b"0123456789ABCDEF"
 RAMPS = {1: 20 + 30, 2: 20 + 30, 3: 0, 4: 20 + 20, 5: 15 + 20, 6: 0, 7: 0}  # f1 + f4 of each tree, in days; those of tree 7 come later
 WATER, SUCTION = (1, 2), (3, 4, 5, 6, 7)  # trees by their soil measure
-LENGTHS = {1: 20, 2: 36, 3: 6, 4: 40, 5: 36, 6: 6, 7: 66}  # digits of a line of each kind
+LENGTHS = {1: 20, 2: 36, 3: 6, 4: 40, 5: 36, 6: 6, 7: 66, 8: 14}  # digits of a line of each kind
 HOUR_WIDTHS = (2, 1, 2, 2, 2, 2, 2, 2, 2)
-WIDTHS = {1: (1, 2, 2, 2, 2), 2: HOUR_WIDTHS, 3: (2,), 4: (*HOUR_WIDTHS, 2), 5: HOUR_WIDTHS, 6: (2,), 7: 16 * (2,)}  # bytes of the fields after the kind
+# bytes of the fields after the kind
+WIDTHS = {1: (1, 2, 2, 2, 2), 2: HOUR_WIDTHS, 3: (2,), 4: (*HOUR_WIDTHS, 2), 5: HOUR_WIDTHS, 6: (2,), 7: 16 * (2,), 8: 3 * (2,)}
 
 # A record is a tuple: (1, tree, days, first, last, level), (3, hours), (2, day, hour, ozone, ppfd, radiation, temperature, vpd, wind, measure, soil),
-# (4, the same fields, pressure), (5, the fields of 2 with humidity where vpd stands), (6, ozone ceiling), or (7, the sixteen parameters as they stand in the line).
-# An hour's ozone is a number or MISSING.
+# (4, the same fields, pressure), (5, the fields of 2 with humidity where vpd stands), (6, ozone ceiling), (7, the sixteen parameters as they stand in the line),
+# or (8, rise, fall, end). An hour's ozone is a number or MISSING.
 # An answer is a record, a number of bytes, or a refusal: ("row", N) or ("row", 10, "field", F).
-HEADER_KIND, HOUR_KIND, END_KIND, PRESSURE_KIND, HUMIDITY_KIND, CEILING_KIND, PARAMETER_KIND = 1, 2, 3, 4, 5, 6, 7
+HEADER_KIND, HOUR_KIND, END_KIND, PRESSURE_KIND, HUMIDITY_KIND, CEILING_KIND, PARAMETER_KIND, WARMTH_KIND = range(1, 9)
 HOUR_KINDS = (HOUR_KIND, PRESSURE_KIND, HUMIDITY_KIND)
 MISSING, FFFF = "missing", 65535
 
@@ -37,7 +39,7 @@ def row(n):
 
 
 def refusal_of(record):
-    """Rows 5 to 8 for a header, row 10 for an hour, row 17 for a ceiling, row 24 for parameters; None where none holds."""
+    """Rows 5 to 8 for a header, row 10 for an hour, row 17 for a ceiling, row 24 for parameters, row 25 for warmth; None where none holds."""
     if record[0] == HEADER_KIND:
         _, tree, days, first, last, level = record
         if tree not in RAMPS:
@@ -60,6 +62,8 @@ def refusal_of(record):
         return row(17)
     if record[0] == PARAMETER_KIND and parameter_row(Parameters(*record[1:])):
         return row(24)
+    if record[0] == WARMTH_KIND and warmth_row(Warmth(*record[1:])):
+        return row(25)
     return None
 
 
@@ -111,7 +115,7 @@ def line_of(record):
 
 
 def write(record, room):
-    """Rows 5 to 8, 10, 17 or 24, then 12; else the number of bytes of the line."""
+    """Rows 5 to 8, 10, 17, 24 or 25, then 12; else the number of bytes of the line."""
     refused = refusal_of(record)
     if refused:
         return refused
@@ -124,10 +128,10 @@ def words(answer):
 
 
 def mark(answer):
-    """One character: `.` read, `1` to `8` the row, `A` row 17, `H` row 24, `a` to `h` row 10 with field 1 to 8."""
+    """One character: `.` read, `1` to `8` the row, `A` row 17, `H` row 24, `I` row 25, `a` to `h` row 10 with field 1 to 8."""
     if answer[0] != "row":
         return "."
-    return "abcdefgh"[answer[3] - 1] if answer[1] == 10 else {17: "A", 24: "H"}.get(answer[1], str(answer[1]))
+    return "abcdefgh"[answer[3] - 1] if answer[1] == 10 else {17: "A", 24: "H", 25: "I"}.get(answer[1], str(answer[1]))
 
 
 # ---- commands, each with its answer
@@ -188,6 +192,7 @@ MOUNTAIN = b"0400010C01F401F4019000E603E8012C03E81B58"  # 700.0 hPa
 HUMID = b"0500010C01F401F4019000E60258012C03E8"  # 60.0 %
 CEILING = b"060320"  # 80.0 ppb
 OWN = parameters_line()
+WARM = b"0800C8012C05DC"  # 200, 300 and 1500 °C days
 MISSING_HOURS = (  # NOON, MOUNTAIN and HUMID without ozone
     b"0200010CFFFF01F4019000E603E8012C03E8",
     b"0400010CFFFF01F4019000E603E8012C03E81B58",
@@ -260,6 +265,21 @@ EXAMPLES = (
     parameters_line(tmin=-20, topt=0, tmax=20),
     parameters_line(tmin=-21, topt=0, tmax=21),
     parameters_line(f1=200, f4=200),
+    WARM,
+    b"0803E801F405DC",
+    b"0803E801F505DC",
+    b"0803E901F405DC",
+    b"080000000005DC",
+    b"0805DC000005DC",
+    b"0805DD000005DC",
+    b"08000005DC05DC",
+    b"08000005DD05DC",
+    b"08000000000000",
+    b"08000000000001",
+    b"08000000001388",
+    b"08000000001389",
+    b"08800080000001",
+    b"08FFFFFFFFFFFF",
 )
 
 
@@ -293,6 +313,10 @@ def own(numbers):
     return (PARAMETER_KIND, *numbers)
 
 
+def warm(rise, fall, end):
+    return (WARMTH_KIND, rise, fall, end)
+
+
 def examples():
     yield from (reading(6, line) for line in EXAMPLES)
     # the given tree matters for an hour frame only
@@ -302,16 +326,16 @@ def examples():
     yield reading(2, b"0200010001F40000000000E603E8012C03E9")
     yield reading(3, b"0200010001F40000000000E603E8012C03E9")
     yield writing_of(end(24), 5)
-    for line in (MOUNTAIN, HUMID, *MISSING_HOURS, CEILING, OWN):
+    for line in (MOUNTAIN, HUMID, *MISSING_HOURS, CEILING, OWN, WARM):
         yield from (reading(tree, line) for tree in (*range(9), 255))
-    yield from (writing(tree, line) for line in (*MISSING_HOURS, CEILING, OWN) for tree in RAMPS)
+    yield from (writing(tree, line) for line in (*MISSING_HOURS, CEILING, OWN, WARM) for tree in RAMPS)
     # an hour of tree 7 is measured in suction
     yield from (reading(7, b"0200010001F40000000000E603E8012C%04X" % soil) for soil in (1001, 10000, 10001))
 
 
 def confused():
     """Lines with the length of another kind, or with another kind's number."""
-    for line in (EVERGREEN, HOUR, END, MOUNTAIN, HUMID, CEILING, OWN, *MISSING_HOURS):
+    for line in (EVERGREEN, HOUR, END, MOUNTAIN, HUMID, CEILING, OWN, WARM, *MISSING_HOURS):
         for kind in range(10):
             yield reading(6, b"%02X" % kind + line[2:])
             yield writing(6, b"%02X" % kind + line[2:])
@@ -329,6 +353,10 @@ def confused():
         *(OWN[:length] for length in (6, 14, 20, 36, 40)),
         b"07" + MOUNTAIN[2:],
         (HOUR + HOUR)[:66],
+        *(b"08" + OWN[2:length] for length in (6, 14, 20, 36, 40, 66)),
+        *(b"%02X" % kind + WARM[2:] for kind in (16, 128, 136, 255)),
+        WARM[:6],
+        WARM + b"000000",
     ):
         yield from (reading(tree, line) for tree in (0, 1, 6))
         yield writing(6, line)
@@ -338,6 +366,9 @@ def confused():
     yield reading(6, b"05" + MOUNTAIN[2:39] + b"g")
     yield reading(6, b"06" + OWN[2:65] + b"g")
     yield reading(6, OWN.lower())
+    yield reading(6, b"09" + WARM[2:13] + b"g")
+    yield reading(6, b"07" + WARM[2:13] + b"g")
+    yield reading(6, WARM.lower())
     # 02 or 05 by the kind alone: VPD past 1000 Pa is no humidity
     for vapour in (0, 1, 999, 1000, 1001, 1002, 10000, 10001, 65535):
         for kind in (HOUR_KIND, HUMIDITY_KIND):
@@ -348,12 +379,12 @@ def confused():
 
 def frames():
     """Rows 1 to 3, and numbers that no row has tested."""
-    for line in (*EXAMPLES, b"", b"01FF000000000000FFFF", b"02" + b"F" * 34, b"04" + b"F" * 38, b"05" + b"F" * 34, b"07" + b"F" * 64):
+    for line in (*EXAMPLES, b"", b"01FF000000000000FFFF", b"02" + b"F" * 34, b"04" + b"F" * 38, b"05" + b"F" * 34, b"07" + b"F" * 64, b"08" + b"F" * 12):
         yield writing(6, line)
 
 
 def lengths():
-    for line in (EVERGREEN, HOUR, END, MOUNTAIN, HUMID, CEILING, OWN):
+    for line in (EVERGREEN, HOUR, END, MOUNTAIN, HUMID, CEILING, OWN, WARM):
         text = (line + b"0123456789ABCDEF" * 5)[:80]
         yield from (reading(6, text[:n]) for n in range(81))
 
@@ -361,7 +392,8 @@ def lengths():
 def changes():
     some = [(tree, HOUR) for tree in (6, 1, 0, 7, 8, 255)] + [(tree, line) for line in (MOUNTAIN, HUMID) for tree in (6, 1, 8)]
     edges = parameters_line(gmax=500, fmin=99, lighta=200, tmin=-20, topt=2, tmax=23, vpdmax=9999, vpdmin=10000, leaf=200, a=100, e=100, f1=200, f4=200, y=10)
-    for tree, line in ((6, BEECH), *some, (6, END), (6, CEILING), (0, CEILING), (6, b"061388"), (7, OWN), (0, edges)):
+    warmths = ((7, WARM), (0, b"0803E801F405DC"), (6, b"08000013881388"))
+    for tree, line in ((6, BEECH), *some, (6, END), (6, CEILING), (0, CEILING), (6, b"061388"), (7, OWN), (0, edges), *warmths):
         yield from (change(tree, place, line) for place in range(len(line)))
     # the digits of ozone
     yield from (change(tree, place, line) for line in MISSING_HOURS for tree in (6, 1, 8) for place in range(8, 12))
@@ -383,6 +415,8 @@ def buffers():
         humid(MISSING, 1200, 600, -205, 600, 250, "water", 300),
         own(LOCAL),
         own(BROKEN[0]),
+        warm(200, 300, 1500),
+        warm(200, 300, 499),
     ):
         yield from (writing_of(record, room) for room in range(ROOM + 1))
 
@@ -476,12 +510,22 @@ def own_edges():
     return map(own, BROKEN + GOOD)
 
 
+def warmth_edges():
+    for rise, fall in ((0, 0), (0, 1), (1, 0), (200, 300), (0, 1500), (1500, 0), (2500, 2500), (0, 5000), (5000, 0)):
+        yield from (warm(rise, fall, end) for end in (0, 1, *range(max(rise + fall - 1, 0), rise + fall + 2), 4999, 5000, 5001, 32768, 65535))
+    # rise plus fall past two bytes
+    for rise, fall in ((32768, 32768), (65535, 1), (1, 65535), (65535, 65535), (65535, 0), (0, 65535)):
+        yield from (warm(rise, fall, end) for end in (0, 1, 5000, 65534, 65535))
+    # each number in another's place
+    yield from (warm(*three) for three in permutations((200, 300, 1500)))
+
+
 def edges():
-    for record in (*header_edges(), *hour_edges(), *pressure_edges(), *humidity_edges(), *ceiling_edges(), *own_edges()):
+    for record in (*header_edges(), *hour_edges(), *pressure_edges(), *humidity_edges(), *ceiling_edges(), *own_edges(), *warmth_edges()):
         yield writing_of(record, 0)
         yield writing_of(record)
     # a record of any other line is the same where FFFF is a number
-    for line in (EVERGREEN, HOUR, END, MOUNTAIN, HUMID, CEILING, b"06FFFF", OWN):
+    for line in (EVERGREEN, HOUR, END, MOUNTAIN, HUMID, CEILING, b"06FFFF", OWN, WARM, b"0800010001FFFF"):
         yield writing(6, line, numeric=True)
 
 
@@ -539,6 +583,11 @@ def trips():
         ceiling(800),
         ceiling(5000),
         own(LOCAL),
+        warm(200, 300, 1500),
+        warm(0, 0, 1),
+        warm(2500, 2500, 5000),
+        warm(0, 258, 4660),
+        warm(258, 0, 4660),
     ):
         yield from (trip(record, tree) for tree in range(9))
     yield from (trip(own(parameters), 7) for parameters in GOOD)

@@ -16,8 +16,8 @@ from paper import season_in
 def gaps(path):
     """The gaps of a season's counted hours with ozone and a dose, and the sums of their lower and of their upper numbers: no ceiling bears on them."""
     season = season_in(Path(path).read_bytes())
-    read = [hour for hour in season.hours if hour.is_counted and hour.ozone is not None]
-    pairs = [pair_of(season.tree, season.first, season.last, 0, hour) for hour in read]
+    read = [(hour, age) for hour, age in zip(season.hours, season.ages) if hour.is_counted and hour.ozone is not None]
+    pairs = [pair_of(season.tree, season.first, season.last, 0, hour, age) for hour, age in read]
     return [upper - lower for lower, upper in pairs if upper > 0], sum(low for low, _ in pairs), sum(up for _, up in pairs)
 
 

@@ -20,7 +20,7 @@ from paper import Parameters
 
 CRATE = vectors.REPOSITORY / "crates" / "trial_cases"
 DIGITS = tuple(max(2, digits) for digits in book.DIGITS)  # of an account's fields; a phase and a kind have two here
-ROWS = tuple((n,) for n in range(1, 25) if n != 10) + tuple((10, field) for field in range(1, 9))
+ROWS = tuple((n,) for n in range(1, 26) if n != 10) + tuple((10, field) for field in range(1, 9))
 
 
 class Trial(NamedTuple):
@@ -59,9 +59,10 @@ def take(account, held):
 
 
 def shown(account):
-    """Every field; a mark where all parameters are 0."""
-    numbers = account.numbers if account.parameters.is_fed else (*account[:15], "-")
-    return " ".join(str(n) for n in numbers)
+    """Every field; a mark where all parameters are 0, and one where warmth and the temperature sums are."""
+    parameters = account.parameters if account.parameters.is_fed else "-"
+    warmth = (*account.warmth, account.sum, account.total) if account.is_warm else "-"
+    return " ".join(str(n) for n in (*account[:15], *parameters, *warmth))
 
 
 def answer(row, account):
@@ -83,7 +84,7 @@ class Sheet:
         """A command for each field in which the new account is not the old one."""
         for at, (was, is_now, digits) in enumerate(zip(old.numbers, new.numbers, DIGITS)):
             if was != is_now:
-                self.command(letter, b"%02X%0*X" % (at, digits, is_now))
+                self.command(letter, b"%02X%0*X" % (at, digits, is_now % 16**digits))
 
     def hold(self, account):
         self.fields(b"H", self.account, account)
@@ -177,7 +178,7 @@ def after(*lines):
 
 def starts():
     """An account and the line that it takes next: fresh, opened, with a ceiling, after 13 hours of each kind, some without ozone, all given, of a long season;
-    a closed one, which takes none; tree 7's, before its parameters and after them."""
+    a closed one, which takes none; tree 7's, before its parameters and after them, before its warmth and after it, through the hour that ends a day."""
     header, ceiling, hours, end = book.header_line(), book.ceiling_line(), list(book.day_lines()), book.end_line()
     yield Account(), header
     yield after(header), hours[0]
@@ -196,14 +197,23 @@ def starts():
     yield after(header), parameters
     yield after(header, parameters), ceiling
     yield after(header, parameters, ceiling, *day[:12]), day[12]
+    warmth = book.warmth_line(10, 20, 40)
+    yield after(header, parameters), warmth
+    yield after(header, parameters, warmth), ceiling
+    yield after(header, parameters, warmth, *hours[:23]), hours[23]
+    two = book.header_line(tree=7, last=2)
+    yield after(two, parameters, warmth, ceiling, *day, book.hour_line(2, temperature=-40)), book.hour_line(2, 1, ppfd=500, radiation=400)
 
 
 def changed_to(account, field, was, most):
-    """What to set a field to: a step up or down, an end of its width, each other kind; of parameters that are not fed the first and the last to 1."""
+    """What to set a field to: a step up or down, an end of its width, each other kind; of parameters that are not fed the first and the last to 1, and so of
+    warmth and the temperature sums."""
     if field == "kind":
         return book.NO_KIND, *book.HOUR_KINDS
     if field in Parameters._fields and not account.parameters.is_fed:
         return (1,) if field in ("gmax", "y") else ()
+    if field in book.WARM_FIELDS and not account.is_warm:
+        return 1, -1
     return was + 1, was - 1, 0, most
 
 
@@ -211,7 +221,7 @@ def changes(account):
     """The account with one field anew, each field in turn."""
     for field, was, most in zip(book.FIELDS, account.numbers, book.WIDEST.numbers):
         for n in dict.fromkeys(changed_to(account, field, was, most)):
-            if 0 <= n <= most and n != was:
+            if (n >= 0 or field == "total") and n <= most and n != was:
                 yield book.with_field(account, field, n)
 
 

@@ -7,7 +7,7 @@ from typing import NamedTuple
 from paper import CEILING, DIGITS, END, MEASURED, MISSING, PARAMETERS, gap_allowed, gap_each
 
 REPOSITORY = Path(__file__).resolve().parent.parent
-REQUESTS = {"W-204": 4, "W-205": 5, "W-207": 6, "W-212": 7}  # the newest kind that the answers in a request's folder know
+REQUESTS = {"W-204": 4, "W-205": 5, "W-207": 6, "W-212": 7, "W-213": 8}  # the newest kind that the answers in a request's folder know
 LONG = 13000  # bytes; of a request's texts from here on few are stored in a crate
 
 

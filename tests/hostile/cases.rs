@@ -2,10 +2,11 @@
 
 use crate::damage::*;
 use crate::frames::{CEILING, NEWEST};
-use crate::parameters::{any_parameters, MEASURED, PARAMETERS};
+use crate::parameters::{MEASURED, PARAMETERS};
 use crate::rng::Rng;
 use crate::season::*;
 use crate::turns::*;
+use crate::warmth::{any_warmth, WARMTH};
 
 enum Maker {
     Chance(fn(&mut Rng) -> Vec<u8>),
@@ -14,7 +15,7 @@ enum Maker {
 }
 use Maker::{Chance, InTurn};
 
-const MAKERS: [(&str, Maker); 33] = [
+const MAKERS: [(&str, Maker); 37] = [
     ("weather", Chance(weather)),
     ("every reading", InTurn(every_reading)),
     ("every field", InTurn(every_field)),
@@ -48,14 +49,19 @@ const MAKERS: [(&str, Maker); 33] = [
     ("every parameter", InTurn(every_parameter)),
     ("every place of parameters", InTurn(every_place)),
     ("wrong parameters", Chance(wrong_own)),
+    ("leaf age by warmth", Chance(warm)),
+    ("every warmth", InTurn(every_warmth)),
+    ("every sum", InTurn(every_sum)),
+    ("wrong warmth", Chance(wrong_warm)),
 ];
-/// The last ones need W-204's kind, W-205's, W-207's or W-212's.
+/// The last ones need W-204's kind, W-205's, W-207's, W-212's or W-213's.
 const MAKERS_IN_USE: usize = match NEWEST {
     ..=3 => 23,
     4 => 25,
     5 => 26,
     6 => 29,
-    _ => 33,
+    7 => 33,
+    _ => 37,
 };
 
 /// A whole season instead, now and then.
@@ -160,6 +166,7 @@ fn damaged_few(rng: &mut Rng) -> Vec<u8> {
             1 => wrong_digit(rng, &mut lines),
             2 => wrong_kind(rng, &mut lines),
             3 => wrong_hour(rng, &mut lines),
+            4 if NEWEST >= WARMTH && rng.one_in(3) => wrong_warmth(rng, &mut lines),
             4 if NEWEST >= PARAMETERS && rng.one_in(2) => wrong_parameters(rng, &season, &mut lines),
             4 if NEWEST >= CEILING => wrong_ceiling(rng, &mut lines),
             _ => wrong_turn(rng, &mut lines),
@@ -254,6 +261,40 @@ fn wrong_own(rng: &mut Rng) -> Vec<u8> {
     text(rng, &lines)
 }
 
+/// A laboratory's tree by warmth over some days.
+fn warm_season(rng: &mut Rng) -> Season {
+    let length = rng.between(1, 12);
+    let mut header = period(rng, MEASURED, length);
+    header.warmth = Some(any_warmth(rng, length));
+    plausible(rng, header)
+}
+
+/// Its hours in plausible weather, at corners, with frost, or few of them counted; the level near now and then.
+fn warm(rng: &mut Rng) -> Vec<u8> {
+    let mut season = warm_season(rng);
+    let days = [season.header.first, season.header.last];
+    match rng.below(4) {
+        0 => all_to_corners(rng, &mut season),
+        1 => few_lit(rng, &mut season, &days),
+        2 => freeze(rng, &mut season),
+        _ => {}
+    }
+    if rng.one_in(3) {
+        near_level(rng, &mut season);
+    }
+    season_text(rng, &season)
+}
+
+/// Its warmth, and now and then other lines, wrong.
+fn wrong_warm(rng: &mut Rng) -> Vec<u8> {
+    let season = if rng.one_in(4) { short_season(rng) } else { warm_season(rng) };
+    let mut lines = if rng.one_in(4) { damage(rng, &season) } else { season.lines() };
+    for _ in 0..rng.pick(&[1, 1, 2]) {
+        wrong_warmth(rng, &mut lines);
+    }
+    text(rng, &lines)
+}
+
 /// A growing season or a whole year, near the level or with corners; now and then with many lines after its end.
 fn whole(rng: &mut Rng) -> Vec<u8> {
     let number = rng.between(1, TREES as i64);
@@ -263,9 +304,7 @@ fn whole(rng: &mut Rng) -> Vec<u8> {
     if length == days {
         (header.days, header.first, header.last) = (days, 1, days);
     }
-    if number == MEASURED {
-        header.own = Some(any_parameters(rng, header.last - header.first));
-    }
+    header = with_own(rng, header);
     let mut season = plausible(rng, header);
     if rng.one_in(2) {
         let of = header.of();

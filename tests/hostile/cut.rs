@@ -97,7 +97,7 @@ impl Cut<'_> {
     /// Drops days of a whole season at either end, with the header and the count changed to suit.
     fn drop_days(&mut self) {
         while self.is_season() {
-            let days = lines(&self.text).len() / 24; // with the two to four other lines no more
+            let days = lines(&self.text).len() / 24; // with the two to five other lines no more
             let sizes = std::iter::successors(Some(days / 2), |size| Some(size / 2)).take_while(|&size| size > 0);
             let candidates: Vec<Vec<u8>> = sizes.flat_map(|size| [self.days(size..days), self.days(0..days - size)]).collect();
             if !candidates.into_iter().any(|candidate| self.take(candidate)) {

@@ -5,6 +5,7 @@ use crate::frames::*;
 use crate::parameters::{any_parameters, broken, Parameters, PARAMETERS};
 use crate::rng::Rng;
 use crate::season::*;
+use crate::warmth::{any_warmth, broken_warmth, WARMTH};
 
 pub type Lines = Vec<Vec<u8>>;
 
@@ -17,12 +18,13 @@ pub fn text(rng: &mut Rng, lines: &Lines) -> Vec<u8> {
     text
 }
 
-/// The last ones need a second hour kind, a ceiling, or parameters.
+/// The last ones need a second hour kind, a ceiling, parameters, or warmth.
 const DAMAGES: usize = match NEWEST {
     ..=3 => 8,
     4 | 5 => 9,
     6 => 11,
-    _ => 12,
+    7 => 12,
+    _ => 13,
 };
 
 /// One to three damages of any kind.
@@ -41,7 +43,8 @@ pub fn damage(rng: &mut Rng, season: &Season) -> Lines {
             8 => other_kind(rng, season, &mut lines),
             9 => wrong_ceiling(rng, &mut lines),
             10 => lost_ozone(rng, &mut lines),
-            _ => wrong_parameters(rng, season, &mut lines),
+            11 => wrong_parameters(rng, season, &mut lines),
+            _ => wrong_warmth(rng, &mut lines),
         }
     }
     lines
@@ -214,6 +217,23 @@ pub fn wrong_parameters(rng: &mut Rng, season: &Season, lines: &mut Lines) {
     }
 }
 
+/// Warmth in range or not, in its place, twice, elsewhere, or in the place of another line; or what is there lost or exchanged with the next line.
+pub fn wrong_warmth(rng: &mut Rng, lines: &mut Lines) {
+    let warmth = if rng.one_in(2) { any_warmth(rng, 5) } else { broken_warmth(rng) };
+    let line = warmth.line().into_bytes();
+    let at = rng.below(lines.len());
+    match rng.below(6) {
+        0 | 1 if lines.len() > 2 => lines[2] = line,
+        2 => lines.insert(lines.len().min(2), line),
+        3 => lines.insert(at, line),
+        4 if lines.len() > 3 => lines.swap(2, 3),
+        5 if lines.len() > 2 => {
+            lines.remove(2);
+        }
+        _ => lines[at] = line,
+    }
+}
+
 /// An hour's ozone lost, under a ceiling or not; or the header's first day.
 fn lost_ozone(rng: &mut Rng, lines: &mut Lines) {
     let at = rng.below(lines.len());
@@ -250,7 +270,7 @@ fn early_end(rng: &mut Rng, lines: &mut Lines) {
 }
 
 pub fn after_the_end(rng: &mut Rng, season: &Season, lines: &mut Lines) {
-    let more = match rng.below(if NEWEST < PARAMETERS { 7 } else { 8 }) {
+    let more = match rng.below(if NEWEST < PARAMETERS { 7 } else if NEWEST < WARMTH { 8 } else { 9 }) {
         0 => vec![],
         1 => header_line(&season.header).into_bytes(),
         2 => hour_line(season.header.last + 1, 0, &season.hours[0]).into_bytes(),
@@ -258,6 +278,7 @@ pub fn after_the_end(rng: &mut Rng, season: &Season, lines: &mut Lines) {
         4 => b" ".to_vec(),
         5 => ceiling_line(any_ceiling(rng)).into_bytes(),
         7 => any_parameters(rng, 0).line().into_bytes(),
+        8 => any_warmth(rng, 0).line().into_bytes(),
         _ => lines[rng.below(lines.len())].clone(),
     };
     lines.push(more);

@@ -1,13 +1,13 @@
-//! The kinds of frames (document 01, "Frames"; document 02, W-204, W-205, W-207 and W-212) and an hour's readings.
+//! The kinds of frames (document 01, "Frames"; document 02, W-204, W-205, W-207, W-212 and W-213) and an hour's readings.
 
 use crate::trees::soil_most;
 use std::ops::{Index, IndexMut};
 
-/// The newest kind that the program under test knows: 3 is document 01's, 4 that of W-204, 5 that of W-205, 6 that of W-207, 7 that of W-212.
-pub const NEWEST: i64 = 7;
+/// The newest kind that the program under test knows: 3 is document 01's, 4 that of W-204, 5 that of W-205, 6 that of W-207, 7 that of W-212, 8 that of W-213.
+pub const NEWEST: i64 = 8;
 
 /// Each kind and its digits.
-const FRAMES: [(i64, usize); 7] = [(1, 20), (2, 36), (3, 6), (4, 40), (5, 36), (6, 6), (7, 66)];
+const FRAMES: [(i64, usize); 8] = [(1, 20), (2, 36), (3, 6), (4, 40), (5, 36), (6, 6), (7, 66), (8, 14)];
 
 /// The kinds up to the newest, with their digits.
 pub fn frames(newest: i64) -> Vec<(i64, usize)> {
@@ -102,7 +102,7 @@ pub fn is_hour(line: &[u8]) -> bool {
 
 /// Where the ceiling's line stands among the first ones of a text, if there is one.
 pub fn ceiling_at<L: AsRef<[u8]>>(lines: &[L]) -> Option<usize> {
-    lines.iter().take(3).position(|line| line.as_ref().starts_with(b"06"))
+    lines.iter().take(4).position(|line| line.as_ref().starts_with(b"06"))
 }
 
 /// How many readings an hour frame of a kind has.

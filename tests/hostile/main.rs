@@ -27,6 +27,7 @@ mod season;
 mod trees;
 mod turns;
 mod vectors;
+mod warmth;
 
 use std::collections::BTreeMap;
 use std::path::{Path, PathBuf};

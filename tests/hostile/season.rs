@@ -1,11 +1,12 @@
 //! A season of hours and its text.
 
 use crate::account::Header;
-use crate::dose::{hour_dose, saturation};
+use crate::dose::saturation;
 use crate::frames::*;
 use crate::parameters::{any_parameters, MEASURED, PARAMETERS};
 use crate::rng::Rng;
 use crate::trees::{tree, Tree};
+use crate::warmth::{any_warmth, WARMTH};
 
 pub struct Season {
     pub header: Header,
@@ -49,14 +50,20 @@ impl Season {
         self.header.first + n as i64 / 24
     }
 
+    /// The place of a ceiling among the lines.
+    pub fn ceiling_place(&self) -> usize {
+        1 + self.header.own.is_some() as usize + self.header.warmth.is_some() as usize
+    }
+
     /// The place of an hour among the lines.
     pub fn line_of(&self, n: usize) -> usize {
-        n + 1 + self.header.own.is_some() as usize + (self.ceiling > 0) as usize
+        n + self.ceiling_place() + (self.ceiling > 0) as usize
     }
 
     pub fn lines(&self) -> Vec<Vec<u8>> {
         let mut lines = vec![header_line(&self.header)];
         lines.extend(self.header.own.map(|own| own.line()));
+        lines.extend(self.header.warmth.map(|warmth| warmth.line()));
         if self.ceiling > 0 {
             lines.push(ceiling_line(self.ceiling));
         }
@@ -67,18 +74,27 @@ impl Season {
         lines.into_iter().map(String::into_bytes).collect()
     }
 
-    /// What an hour adds to the dose, a missing ozone read as a number.
-    fn dose_of(&self, n: usize, readings: &Readings, missing: i64) -> f64 {
-        let Header { first, last, .. } = self.header;
+    /// The temperature sum before each day, in tenths of a degree over hours.
+    pub fn sums(&self) -> Vec<i64> {
+        let totals = self.hours.chunks(24).map(|day| day.iter().map(|readings| readings[TEMPERATURE]).sum::<i64>().max(0));
+        let after = totals.scan(0, |sum, total| {
+            *sum += total;
+            Some(*sum)
+        });
+        std::iter::once(0).chain(after).collect()
+    }
+
+    /// What an hour adds to the dose, a missing ozone read as a number; with the season's sums.
+    fn dose_of(&self, n: usize, readings: &Readings, missing: i64, sums: &[i64]) -> f64 {
         if readings.is_counted() {
-            hour_dose(&self.header.of(), first, last, self.day(n), &readings.filled(missing))
+            self.header.dose(self.day(n), sums[n / 24], &readings.filled(missing))
         } else {
             0.0
         }
     }
 
-    fn dose(&self, missing: i64) -> f64 {
-        self.hours.iter().enumerate().map(|(n, readings)| self.dose_of(n, readings, missing)).sum()
+    fn dose(&self, missing: i64, sums: &[i64]) -> f64 {
+        self.hours.iter().enumerate().map(|(n, readings)| self.dose_of(n, readings, missing, sums)).sum()
     }
 }
 
@@ -119,14 +135,17 @@ pub fn period(rng: &mut Rng, tree: i64, length: i64) -> Header {
     let days = rng.between(365, 366);
     let latest = days - length + 1;
     let first = if rng.one_in(6) { rng.pick(&[1, latest]) } else { rng.between(1, latest) };
-    let header = Header { tree, days, first, last: first + length - 1, level: any_level(rng), own: None };
+    let header = Header { tree, days, first, last: first + length - 1, level: any_level(rng), own: None, warmth: None };
     with_own(rng, header)
 }
 
-/// The header of tree 7 with parameters whose ramps fit the period.
+/// The header of tree 7 with parameters whose ramps fit the period, now and then with warmth.
 pub fn with_own(rng: &mut Rng, mut header: Header) -> Header {
     if header.tree == MEASURED {
         header.own = Some(any_parameters(rng, header.last - header.first));
+        if NEWEST >= WARMTH && rng.one_in(3) {
+            header.warmth = Some(any_warmth(rng, header.last - header.first));
+        }
     }
     header
 }
@@ -286,13 +305,25 @@ pub fn few_lit(rng: &mut Rng, season: &mut Season, days: &[i64]) {
     }
 }
 
+/// Some days so cold that their temperatures add up to less than 0, or to little more.
+pub fn freeze(rng: &mut Rng, season: &mut Season) {
+    let often = rng.pick(&[1, 2, 3]);
+    for day in season.hours.chunks_mut(24) {
+        if rng.one_in(often) {
+            let middle = rng.pick(&[-500, -100, -1, 0, 0]);
+            day.iter_mut().for_each(|readings| readings[TEMPERATURE] = (middle + rng.between(-20, 20)).max(-500));
+        }
+    }
+}
+
 // ---- doses near the level
 
 /// Changes readings until the dose, with missing ozone read as 0 or as the ceiling, lies near a multiple of 10000, and makes that the level.
 pub fn near_level(rng: &mut Rng, season: &mut Season) {
     let nearness = rng.pick(&[0.01, 0.5, 2.0, 6.0, 50.0]);
     let missing = if season.ceiling > 0 { rng.pick(&[0, season.ceiling]) } else { 0 };
-    let mut dose = season.dose(missing);
+    let sums = season.sums(); // they stay as they are
+    let mut dose = season.dose(missing, &sums);
     let level = ((dose / 10000.0).round() as i64).clamp(1, 10000);
     let target = level as f64 * 10000.0 + rng.between(-4, 4) as f64;
     let lit: Vec<usize> = (0..season.hours.len()).filter(|&n| season.hours[n].is_counted()).collect();
@@ -301,8 +332,8 @@ pub fn near_level(rng: &mut Rng, season: &mut Season) {
             break;
         }
         let n = rng.pick(&lit);
-        let changed = one_changed(rng, season.header.tree, &season.hours[n]);
-        let new = dose - season.dose_of(n, &season.hours[n], missing) + season.dose_of(n, &changed, missing);
+        let changed = one_changed(rng, &season.header, &season.hours[n]);
+        let new = dose - season.dose_of(n, &season.hours[n], missing, &sums) + season.dose_of(n, &changed, missing, &sums);
         if (new - target).abs() < (dose - target).abs() {
             dose = new;
             season.hours[n] = changed;
@@ -311,12 +342,13 @@ pub fn near_level(rng: &mut Rng, season: &mut Season) {
     season.header.level = level;
 }
 
-/// One reading moved, by little or by much, within its range; the hour stays counted, and a missing ozone missing.
-fn one_changed(rng: &mut Rng, number: i64, readings: &Readings) -> Readings {
+/// One reading moved, by little or by much, within its range; the hour stays counted, a missing ozone missing, and the temperature where leaf age goes by it.
+fn one_changed(rng: &mut Rng, header: &Header, readings: &Readings) -> Readings {
     let mut changed = *readings;
     let movable = [OZONE, PPFD, TEMPERATURE, VPD, WIND, SOIL, PRESSURE]; // all but radiation
     let reading = rng.pick(&movable[readings.lacks_ozone() as usize..readings_of(readings.kind) - 1]);
-    let (least, most) = range(number, readings.kind, reading);
+    let reading = if header.warmth.is_some() && reading == TEMPERATURE { WIND } else { reading };
+    let (least, most) = range(header.tree, readings.kind, reading);
     let far = rng.pick(&[1, 3, 10, 100, 1000]);
     changed[reading] = (changed[reading] + rng.between(-far, far)).clamp(least, most);
     changed

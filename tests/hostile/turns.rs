@@ -7,6 +7,7 @@ use crate::frames::*;
 use crate::parameters::*;
 use crate::rng::Rng;
 use crate::season::*;
+use crate::warmth::*;
 
 /// A header and its first hours, of any kind.
 fn opening(rng: &mut Rng, number: i64) -> (Season, Lines) {
@@ -170,7 +171,7 @@ pub fn every_border(rng: &mut Rng, turn: u64) -> Vec<u8> {
     let tree = any_short_tree(rng);
     let first = border + rng.between(-2, 1);
     let last = first + rng.between(0, 3);
-    let header = Header { tree, days, first: first.min(days), last: last.min(days), level: any_level(rng), own: None };
+    let header = Header { tree, days, first: first.min(days), last: last.min(days), level: any_level(rng), own: None, warmth: None };
     let header = with_own(rng, header);
     let mut season = plausible(rng, header);
     let days = [border, border + 1].map(|day| day.clamp(header.first, header.last));
@@ -267,7 +268,7 @@ pub fn every_ceiling(rng: &mut Rng, turn: u64) -> Vec<u8> {
     let end = lines.len() - 1;
     let own = season.header.own.is_some() as usize;
     let at = match place {
-        0..=3 => 1 + own,
+        0..=3 => season.ceiling_place(),
         4 => rng.between(2, lines.len() as i64) as usize,
         5 => 0,
         6 => 2 - own, // before the parameters, where there are any
@@ -359,4 +360,69 @@ pub fn every_place(rng: &mut Rng, turn: u64) -> Vec<u8> {
     let places = [0, 1, 2, 3, rng.below(end), end, end + 1];
     lines.insert(places[turn as usize / 24 % places.len()], parameters.line().into_bytes());
     text(rng, &lines)
+}
+
+/// Every edge of row 25, in its place and in every other: row 4 comes before row 25, and a ceiling or an hour before warmth is row 4.
+pub fn every_warmth(rng: &mut Rng, turn: u64) -> Vec<u8> {
+    const WARMTHS: [[i64; 3]; 20] = [
+        [200, 300, 1500],
+        [0, 0, 0],
+        [0, 0, 1],
+        [1, 0, 1],
+        [0, 1, 1],
+        [1, 1, 1],
+        [0, 0, 5000],
+        [0, 0, 5001],
+        [2500, 2500, 5000],
+        [2500, 2501, 5000],
+        [2501, 2500, 5000],
+        [5000, 0, 5000],
+        [0, 5000, 5000],
+        [5001, 0, 5000],
+        [0, 5001, 5000],
+        [0x8000, 0x8000, 1],
+        [0xFFFF, 1, 5000],
+        [1, 0xFFFF, 5000],
+        [0xFFFF, 0xFFFF, 0xFFFF],
+        [1, 0, 0],
+    ];
+    let [rise, fall, end] = WARMTHS[turn as usize % WARMTHS.len()];
+    let place = turn as usize / WARMTHS.len() % 8;
+    let number = if place == 7 { rng.pick(&[3, 6]) } else { MEASURED };
+    let header = short_period(rng, number);
+    let warmth = (place == 3).then(|| any_warmth(rng, 3)); // a second one follows
+    let season = plausible(rng, Header { warmth, ..header });
+    let mut lines = season.lines();
+    let last = lines.len() - 1;
+    let at = [2, 2, 2, 3, season.line_of(0), season.line_of(1), rng.pick(&[0, 1, last, last + 1]), 1][place];
+    lines.insert(at, Warmth { rise, fall, end }.line().into_bytes());
+    text(rng, &lines)
+}
+
+/// The sums at which f_phen bends and a tenth of a degree on either side of them, in one lit day; a day of frost before it now and then.
+pub fn every_sum(rng: &mut Rng, turn: u64) -> Vec<u8> {
+    let length = rng.between(2, 5);
+    let header = period(rng, MEASURED, length);
+    let mut season = plausible(rng, header);
+    let degrees = rng.pick(&[1, 2, 10, 33, 59]);
+    let lit = rng.between(1, length - 1);
+    season.hours.iter_mut().for_each(|readings| readings[TEMPERATURE] = 10 * degrees);
+    if lit > 1 && rng.one_in(3) {
+        season.hours[..24].iter_mut().for_each(|readings| readings[TEMPERATURE] = -1); // the first day adds nothing
+    }
+    few_lit(rng, &mut season, &[header.first + lit]);
+    let reached = season.sums()[lit as usize] / DEGREE_DAY;
+    let other = rng.between(0, reached);
+    let more = rng.between(0, 50);
+    let [rise, fall, end] = match turn % 5 {
+        0 => [reached, more, reached + more],
+        1 => [other, more, reached + more],
+        2 => [other, reached - other, reached],
+        3 => [other, 0, reached],
+        _ => [other, reached - other, reached + more],
+    };
+    season.header.warmth = Some(Warmth { rise, fall, end });
+    let off = (turn / 5 % 3) as i64 - 1;
+    season.hours[24 * lit as usize - 1][TEMPERATURE] += off;
+    text(rng, &season.lines())
 }

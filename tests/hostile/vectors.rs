@@ -8,7 +8,7 @@ use std::path::{Path, PathBuf};
 const SLACK: (f64, f64) = (1e-6, 1e-12);
 
 /// The folders of the requests, each with the newest kind that its texts were answered for.
-const FOLDERS: [(&str, i64); 4] = [("W-204", 4), ("W-205", 5), ("W-207", 6), ("W-212", 7)];
+const FOLDERS: [(&str, i64); 5] = [("W-204", 4), ("W-205", 5), ("W-207", 6), ("W-212", 7), ("W-213", 8)];
 
 /// Holds the account to every text; what was held, or the first text whose answer is another.
 pub fn hold(folder: &Path) -> Result<String, String> {

@@ -1,2 +1,5 @@
 pub mod AddingLaws
+pub mod WarmthLaws
+pub mod RoomLaws
+pub mod EnterLaws
 pub mod Cited

@@ -1,4 +1,4 @@
-// Rows 4 to 11, 15, 17, 18 and 24 for a state: phase, season, kind and number of hours accepted so far (document 01, "Turned-back lines").
+// Rows 4 to 11, 15, 17, 18, 24 and 25 for a state: phase, season, kind and number of hours accepted so far (document 01, "Turned-back lines").
 use crate::Phase;
 use account_spec::HourKind;
 use account_spec::Season;
@@ -11,9 +11,10 @@ use frames::RawHour;
 use frames::Refusal;
 ghost use mathlib.Core.Path.{_≡_};
 ghost use Rattle.records.specs.Answers.{checkedAs, decodedAs};
+ghost use Rattle.account_spec.specs.declared.Phase.the-variants.{Open};
 ghost use Rattle.account_spec.specs.Account.{phaseNumber, awaits};
 ghost use Rattle.account_spec.specs.HourKinds.{kindNumber, isMixed};
-ghost use Rattle.account_spec.specs.Rules.{ceilingLate, turnIn, outOfTurn, isDue, countWrong, dueOf, turnOf};
+ghost use Rattle.account_spec.specs.Rules.{ceilingLate, warmthLate, turnIn, outOfTurn, isDue, countWrong, dueOf, turnOf};
 ghost use Rattle.account_spec.specs.Timely.{timelyIn};
 ghost use Rattle.account_spec.specs.Steps.{refusalIn};
 
@@ -37,10 +38,42 @@ fn awaited(season: Season) -> bool
     false
 }
 
-// Row 4: second header; hour or end when fresh; any when closed; ceiling out of turn; parameters where they are not awaited, any other frame where they are.
-fn turn_in(phase: Phase, awaited: bool, late: bool, frame: Raw) -> bool
-    ensures { λ r. ⌜ r ≡ turnIn phase awaited late frame ⌝ }
+// Warmth comes directly after parameters and once.
+fn warmth_late(s: State) -> bool
+    ensures { λ r. ⌜ r ≡ warmthLate s ⌝ }
 {
+    let season = s.season;
+    let parameters = season.parameters;
+    if !measured::is_fed(parameters) {
+        return true;
+    }
+    let warmth = season.warmth;
+    if measured::has_warmth(warmth) {
+        return true;
+    }
+    ceiling_late(s)
+}
+
+// Row 4 of a frame in an open season.
+fn open_turn(s: State, frame: Raw) -> bool
+    ensures { λ r. ⌜ r ≡ turnIn Open s frame ⌝ }
+{
+    let season = s.season;
+    match frame {
+        Raw::Header(_) => true,
+        Raw::Hour(_) => awaited(season),
+        Raw::End(_) => awaited(season),
+        Raw::Ceiling(_) => awaited(season) | ceiling_late(s),
+        Raw::Parameters(_) => !awaited(season),
+        Raw::Warmth(_) => warmth_late(s),
+    }
+}
+
+// Row 4: second header; hour or end when fresh; any when closed; ceiling or warmth out of turn; parameters where they are not awaited, any other frame where they are.
+pub(crate) fn out_of_turn(s: State, frame: Raw) -> bool
+    ensures { λ r. ⌜ r ≡ outOfTurn s frame ⌝ }
+{
+    let phase = s.phase;
     match phase {
         Phase::Fresh => match frame {
             Raw::Header(_) => false,
@@ -48,24 +81,11 @@ fn turn_in(phase: Phase, awaited: bool, late: bool, frame: Raw) -> bool
             Raw::End(_) => true,
             Raw::Ceiling(_) => true,
             Raw::Parameters(_) => true,
+            Raw::Warmth(_) => true,
         },
-        Phase::Open => match frame {
-            Raw::Header(_) => true,
-            Raw::Hour(_) => awaited,
-            Raw::End(_) => awaited,
-            Raw::Ceiling(_) => awaited | late,
-            Raw::Parameters(_) => !awaited,
-        },
+        Phase::Open => open_turn(s, frame),
         Phase::Closed => true,
     }
-}
-
-fn out_of_turn(s: State, frame: Raw) -> bool
-    ensures { λ r. ⌜ r ≡ outOfTurn s frame ⌝ }
-{
-    let phase = s.phase;
-    let season = s.season;
-    turn_in(phase, awaited(season), ceiling_late(s), frame)
 }
 
 // The kind of the season's hour frames, 0 before the first.
@@ -147,7 +167,7 @@ fn count_wrong(s: State, count: u16) -> bool
     !records::all_given(header, s.hours)
 }
 
-// Rows 5 to 8 of a header, 15, 9, 18 and 10 of an hour, 11 of an end, 17 of a ceiling, 24 and 7 of parameters. `record_of` is called at one place, where the compiler then writes it out.
+// Rows 5 to 8 of a header, 15, 9, 18 and 10 of an hour, 11 of an end, 17 of a ceiling, 24 and 7 of parameters, 25 of warmth. `record_of` is called at one place, where the compiler then writes it out.
 fn by_kind(s: State, frame: Raw) -> Decoded
     ensures { λ r. ⌜ decodedAs r ≡ dueOf s frame ⌝ }
 {
@@ -182,6 +202,7 @@ fn by_kind(s: State, frame: Raw) -> Decoded
                 return Decoded::Refused(Refusal::Period);
             }
         },
+        Raw::Warmth(_) => {},
     }
     let season = s.season;
     let header = season.header;

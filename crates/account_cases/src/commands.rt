@@ -1,4 +1,4 @@
-// Commands, one a line: `N` takes a fresh account, `A` and 84 or 148 digits the account with these fields, `F` and a line feeds that
+// Commands, one a line: `N` takes a fresh account, `A` and 84, 148 or 172 digits the account with these fields, `F` and a line feeds that
 // line. After each the account is read. An empty line says nothing.
 use crate::answers::print_fed;
 use crate::answers::print_reading;

@@ -11,6 +11,7 @@ use account_spec::Totals;
 use account_spec::Verdict;
 use frames::Refusal;
 pub use possible::impossible;
+pub use possible::total_out;
 ghost use mathlib.Core.Path.{_≡_};
 ghost use Rattle.account_spec.specs.Reading.{verdictOf, totalsOf, Reads};
 

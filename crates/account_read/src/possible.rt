@@ -1,6 +1,7 @@
 // Row 13: an account that no season can give (document 01, "Turned-back lines").
 use crate::limits;
 use account_spec::Account;
+use account_spec::Carried;
 use account_spec::HourKind;
 use account_spec::Phase;
 use account_spec::Season;
@@ -11,7 +12,7 @@ ghost use mathlib.Core.Path.{_≡_};
 ghost use mathlib.Core.Bool.{_&&_};
 ghost use Rattle.measured.specs.Parameters.{allZero};
 ghost use Rattle.account_spec.specs.HourKinds.{kindOut};
-ghost use Rattle.account_spec.specs.Account.{isBegun, parametersBroken, isBroken, unmeasuredIn, seasonNumbers, sumsNumbers, isBlank, anyOf, countsOut, dosesOut, aot40Out, sumsOut, impossible};
+ghost use Rattle.account_spec.specs.Account.{isBegun, parametersBroken, isBroken, unmeasuredIn, warmthAlone, totalOut, carriedNumbers, carriedOut, seasonNumbers, sumsNumbers, isBlank, anyOf, countsOut, dosesOut, aot40Out, sumsOut, impossible};
 
 // Parameters that rows 24 or 7 refuse, or of another tree.
 fn parameters_broken(season: Season) -> bool
@@ -31,7 +32,7 @@ fn parameters_broken(season: Season) -> bool
     records::ramps_out(header, parameters)
 }
 
-// Rows 5 to 8 refuse the header, row 17 the ceiling, or row 24 or 7 the parameters.
+// Rows 5 to 8 refuse the header, row 17 the ceiling, row 24 or 7 the parameters, or row 25 the warmth.
 fn broken(season: Season) -> bool
     ensures { λ r. ⌜ r ≡ isBroken season ⌝ }
 {
@@ -43,7 +44,11 @@ fn broken(season: Season) -> bool
     if records::ceiling_out(season.ceiling) {
         return true;
     }
-    parameters_broken(season)
+    if parameters_broken(season) {
+        return true;
+    }
+    let warmth = season.warmth;
+    records::warmth_broken(warmth)
 }
 
 // Tree 7 without parameters, and yet a kind, a ceiling or hours.
@@ -65,7 +70,52 @@ fn unmeasured(season: Season, kind: HourKind, hours: u16) -> bool
     }
 }
 
-// Open or closed with a header broken by rows 5 to 8, a ceiling by row 17, or parameters by row 24 or 7.
+// Warmth without parameters.
+fn warmth_alone(season: Season) -> bool
+    ensures { λ r. ⌜ r ≡ warmthAlone season ⌝ }
+{
+    let warmth = season.warmth;
+    if !measured::has_warmth(warmth) {
+        return false;
+    }
+    let parameters = season.parameters;
+    !measured::is_fed(parameters)
+}
+
+// A total of so many hours above 600 tenths for each, or under -500 for each.
+pub fn total_out(hours: u16, total: i16) -> bool
+    ensures { λ r. ⌜ r ≡ totalOut hours total ⌝ }
+{
+    let n = frames::complement(total) as u32;
+    if n < 32768 {
+        600 * (hours as u32) < n
+    } else {
+        500 * (hours as u32) < 65536 - n
+    }
+}
+
+// The sum and the total are 0.
+fn uncarried(c: Carried) -> bool
+    ensures { λ r. ⌜ r ≡ allZero (carriedNumbers c) ⌝ }
+{
+    (c.sum == 0) & (frames::complement(c.total) == 0)
+}
+
+// A temperature sum or a running total that no hours give, or any without warmth.
+fn carried_out(season: Season, hours: u16, c: Carried) -> bool
+    ensures { λ r. ⌜ r ≡ carriedOut season hours c ⌝ }
+{
+    let warmth = season.warmth;
+    if !measured::has_warmth(warmth) {
+        return !uncarried(c);
+    }
+    if 600 * (24 * ((hours / 24) as u32)) < c.sum {
+        return true;
+    }
+    total_out(hours % 24, c.total)
+}
+
+// Open or closed with a header broken by rows 5 to 8, a ceiling by row 17, parameters by row 24 or 7, or warmth by row 25.
 fn begun_broken(phase: Phase, season: Season) -> bool
     ensures { λ r. ⌜ r ≡ (isBegun phase && isBroken season) ⌝ }
 {
@@ -80,6 +130,10 @@ fn blank_season(season: Season) -> bool
 {
     let parameters = season.parameters;
     if measured::is_fed(parameters) {
+        return false;
+    }
+    let w = season.warmth;
+    if measured::has_warmth(w) {
         return false;
     }
     let h = season.header;
@@ -103,7 +157,7 @@ fn blank_sums(s: Sums) -> bool
         & (s.most == 0)
 }
 
-// Header fields, ceiling, parameters and sums 0.
+// Header fields, ceiling, parameters, warmth and sums 0.
 fn blank(a: Account) -> bool
     ensures { λ r. ⌜ r ≡ isBlank a ⌝ }
 {
@@ -174,7 +228,7 @@ fn kind_out(kind: HourKind, hours: u16) -> bool
     }
 }
 
-// Row 13: the account is one that no list of lines gives. The row is one condition of fifteen, in any order: with the sums first the account is not
+// Row 13: the account is one that no list of lines gives. The row is one condition of seventeen, in any order: with the sums first the account is not
 // copied before its test.
 pub fn impossible(a: Account) -> bool
     ensures { λ r. ⌜ r ≡ impossible a ⌝ }
@@ -190,6 +244,13 @@ pub fn impossible(a: Account) -> bool
         return true;
     }
     if unmeasured(season, kind, sums.hours) {
+        return true;
+    }
+    if warmth_alone(season) {
+        return true;
+    }
+    let carried = a.carried;
+    if carried_out(season, sums.hours, carried) {
         return true;
     }
     if begun_broken(phase, season) {

@@ -18,7 +18,8 @@ use Rattle.flux_spec.specs.Dose.{isCounted, excess}
 use Rattle.account_spec.specs.declared.Season.{Season}
 use Rattle.account_spec.specs.declared.Sums.{Sums}
 use Rattle.account_spec.specs.Limits.{mostAot40}
-use Rattle.account_spec.specs.Hours.{ceilingIn, Carried, carriedAfter, hourSums, sumsOf}
+use Rattle.account_spec.specs.declared.Carried.{Carried}
+use Rattle.account_spec.specs.Hours.{ceilingIn, carriedAfter, hourSums, sumsOf}
 use Rattle.account_spec.specs.Enclosed.{AllChecked}
 use Rattle.account_spec.specs.Book.{countedOf, excessOver}
 use Rattle.account_spec.proofs.SumsLaws.{by-counted, hour-figure}

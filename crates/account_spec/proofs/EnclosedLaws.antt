@@ -4,7 +4,7 @@ use Prim.Native.Nat.{ℕ, _+_, _-_, _*_, _≤_, max}
 use mathlib.Core.Bool.{Bool, true, false, cond}
 use mathlib.Core.Path.{_≡_, refl, sym, ap, subst, _∙_}
 use mathlib.Core.List.{List, [], _∷_, _++_}
-use native.Mathlib.Nat.{le-trans, mul-le-mul-right}
+use native.Mathlib.Nat.{mul-le-mul-right}
 use native.Mathlib.Omega.{arith}
 use Rattle.exact.specs.Frac.{Frac, _⊕_}
 use Rattle.exact.proofs.FracLaws.{≼-trans, ⊕-mono, ⊕-low, ⊕-high}
@@ -21,10 +21,11 @@ use Rattle.flux_spec.specs.Enclosure.{mostDose, gapMost}
 use Rattle.account_spec.specs.declared.Season.{Season}
 use Rattle.account_spec.specs.declared.Sums.{Sums}
 use Rattle.account_spec.specs.Limits.{isMeasured, mostHour, gapEach}
-use Rattle.account_spec.specs.Hours.{noSums, plus, standIn, ceilingIn, Carried, carriedAfter, sumsOf, podOf}
+use Rattle.account_spec.specs.declared.Carried.{Carried}
+use Rattle.account_spec.specs.Hours.{noSums, plus, standIn, ceilingIn, carriedAfter, sumsOf, podOf}
 use Rattle.account_spec.specs.Enclosed.{AllChecked, AllMost, AllDosed, AllRead, gapHour, Encloses, SumsSized, HoursEnclosed}
 use Rattle.account_spec.specs.Book.{countedOf, excessOver}
-use Rattle.account_spec.proofs.SumsLaws.{lower-is, upper-is, counted-le, missing-none}
+use Rattle.account_spec.proofs.SumsLaws.{carried-fills, lower-is, upper-is, counted-le, missing-none}
 use Rattle.account_spec.proofs.Aot40Laws.{excess-cons, least-is, most-is, aot40-in}
 use Rattle.account_spec.proofs.PossibleLaws.{SumsIn}
 use Rattle.account_spec.proofs.HourLaws.{none-encloses, none-sized, hour-encloses, hour-sized, season-stand}
@@ -106,8 +107,12 @@ module _ (stand : Stand) (sound : Sound (stand .figures)) (few : stand .ceiling 
   unfolding sumsOf podOf
   list-filled c hs all fs AllFill.none = none-filled (accepted stand) c [] AllFill.none
   list-filled c hs all fs (AllFill.hours {h} {f} {hs = rest} {fs = more} fill fills) =
+      let next = carriedAfter (accepted stand) c h in
       rw (excess-cons f more)
-      (plus-encloses (hour-encloses stand sound few c h (all .0) f fill) (list-filled (carriedAfter (accepted stand) c h) rest (all .1) more fills))
+      (plus-encloses (hour-encloses stand sound few c h (all .0) f fill)
+      (subst (λ (d : Carried). Encloses (sumsOf (accepted stand) next rest) (podOf (accepted stand) d more) (excessOver (countedOf more)))
+      (sym (carried-fills (accepted stand) c fill))
+      (list-filled next rest (all .1) more fills)))
 
   module _ (each : ℕ) where
     list-sized :
@@ -163,7 +168,7 @@ season-read season [] all = refl
 season-read season (h ∷ hs) all = ap (λ (n : ℕ). allReadAs n (h ∷ hs)) (ceiling-is season h hs all)
 
 tree-few : (tree : Outcome Figures) (season : Season) → season .ceiling ≤ 5000 →
-    ceilingIn (onward tree (λ f. accepted (standOf f (season .header .first) (season .header .last) (season .ceiling)))) ≤ 5000
+    ceilingIn (onward tree (λ f. accepted (standOf f (record { warmth = season .warmth; sum = 0 }) (season .header .first) (season .header .last) (season .ceiling)))) ≤ 5000
 tree-few (accepted f) season few = few
 tree-few (refused w) season few = omega arith
 

@@ -30,7 +30,8 @@ use Rattle.flux_spec.proofs.EnclosureLaws.{TreeNamed, tree-named, enclosure}
 use Rattle.account_spec.specs.declared.Season.{Season}
 use Rattle.account_spec.specs.declared.Sums.{Sums}
 use Rattle.account_spec.specs.Limits.{isMeasured, mostHour}
-use Rattle.account_spec.specs.Hours.{standIn, Carried, pairOf, countedSums, uncountedSums, hourSums, hourPod}
+use Rattle.account_spec.specs.declared.Carried.{Carried}
+use Rattle.account_spec.specs.Hours.{standIn, standAt, pairOf, countedSums, uncountedSums, hourSums, hourPod}
 use Rattle.account_spec.specs.Enclosed.{HasDose, gapHour, Encloses, SumsSized}
 use Rattle.account_spec.specs.Steps.{Dosable}
 use Rattle.account_spec.proofs.SumsLaws.{by-counted}
@@ -81,12 +82,12 @@ module _
     abbrev apart : ℕ
     apart = gapMost (stand .figures)
 
-    pair : PairEnclosed stand h
-    pair = enclosure .pair stand sound few h passed
+    pair : PairEnclosed (standAt stand c) h
+    pair = enclosure .pair (standAt stand c) sound few h passed
 
     module _ (f : Hour) (fills : Fills (stand .ceiling) h f) where
       -- a counted hour adds its pair
-      counted-encloses : Encloses (countedSums (hourPair stand h) (stand .ceiling) h) (λ k. doseAt k stand f) (excess f)
+      counted-encloses : Encloses (countedSums (hourPair (standAt stand c) h) (stand .ceiling) h) (λ k. doseAt k (standAt stand c) f) (excess f)
       counted-encloses =
           let within = filling-within (stand .ceiling) h f fills in
           record {
@@ -141,19 +142,20 @@ figures-by season f false e named =
       most = λ air. rw e (omega (arith, mostDose-le (f .gmax) air, own .gmax));
     }
 
--- the season's stand has its tree's figures and its ceiling
+-- the season's stand has its tree's figures, its warmth and its ceiling
 pub record SeasonStand (season : Season) (stand : Stand) : Type 0 where
   pub sound : Sound (stand .figures)
   pub gap : gapMost (stand .figures) ≤ gapHour season
   pub most : (air : Air) → mostDose (stand .figures .gmax) air ≤ mostHour season
   pub ceiling : stand .ceiling ≡ season .ceiling
+  pub warmth : stand .age .warmth ≡ season .warmth
 
 pub season-stand : (season : Season) (stand : Stand) → standIn season ≡ accepted stand → SeasonStand season stand
 unfolding standIn
 season-stand season stand e =
     let found = onward-passed (treeOf (season .parameters) (season .header .tree)) _ stand e in
     let own = figures-by season (found .0) (isMeasured season) refl (tree-named (season .parameters) (season .header .tree) (found .0) (found .1)) in
-    subst (SeasonStand season) (accepted-same (found .2)) (record { sound = own .sound; gap = own .gap; most = own .most; ceiling = refl })
+    subst (SeasonStand season) (accepted-same (found .2)) (record { sound = own .sound; gap = own .gap; most = own .most; ceiling = refl; warmth = refl })
 
 pub record PairSized (season : Season) (pair : Bounds) : Type 0 where
   pub order : pair .lower ≤ pair .upper
@@ -163,14 +165,14 @@ module _ (season : Season) (h : Hour) where
   -- `hour_dose` goes by the season's stand
   pub dosable-stand : (d : Dosable season h) → standIn season ≡ accepted (d .0)
   unfolding standIn
-  dosable-stand d = let p = stand-passed _ _ _ _ h (d .0) (d .1) in rw (p .named) (ap accepted (sym (p .is)))
+  dosable-stand d = let p = stand-passed _ _ _ _ _ h (d .0) (d .1) in rw (p .named) (ap accepted (sym (p .is)))
 
   pub dosable-has : Dosable season h → HasDose season h
-  dosable-has d = (d .0, dosable-stand d, stand-passed _ _ _ _ h (d .0) (d .1) .checks)
+  dosable-has d = (d .0, dosable-stand d, stand-passed _ _ _ _ _ h (d .0) (d .1) .checks)
 
   pub pair-sized : season .ceiling ≤ 5000 → (c : Carried) → HasDose season h → PairSized season (pairOf (standIn season) c h)
   unfolding pairOf
   pair-sized few c has =
       let own = season-stand season (has .0) (has .1) in
-      let one = enclosure .pair (has .0) (own .sound) (omega (arith, own .ceiling)) h (has .2) in
+      let one = enclosure .pair (standAt (has .0) c) (own .sound) (omega (arith, own .ceiling)) h (has .2) in
       rw (has .1) (record { order = one .order; most = le-trans (one .most) (own .most (h .air)) })

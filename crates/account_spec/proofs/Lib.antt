@@ -1,6 +1,7 @@
 pub mod SumsLaws
 pub mod Aot40Laws
 pub mod SameLaws
+pub mod CarriedLaws
 pub mod PossibleLaws
 pub mod RuleLaws
 pub mod HourLaws

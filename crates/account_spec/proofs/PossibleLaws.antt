@@ -9,7 +9,7 @@ use borrow.Author.Tests.{ltb-false, le-ltb, eq-eqb, eqb-true, not-false}
 use Rattle.measured.specs.Parameters.{allZero}
 use Rattle.records.specs.declared.Record.{Record}
 use Rattle.records.specs.Answers.{Outcome, accepted, refused}
-use Rattle.records.specs.Ranges.{checked, ceilingOut}
+use Rattle.records.specs.Ranges.{checked, ceilingOut, warmthBroken}
 use Rattle.records.specs.Period.{periodHours, allGiven}
 use Rattle.records.proofs.AnswerLaws.{and-both, or-neither}
 use Rattle.frames.proofs.RangeLaws.{period-le}
@@ -19,8 +19,9 @@ use Rattle.account_spec.specs.declared.Sums.{Sums}
 use Rattle.account_spec.specs.declared.Account.{Account}
 use Rattle.account_spec.specs.Limits.{isMeasured, mostHour, gapEach, mostAot40}
 use Rattle.account_spec.specs.HourKinds.{kindOut}
-use Rattle.account_spec.specs.Account.{isFresh, isClosed, isBegun, isRefused, parametersBroken, isBroken, unmeasuredIn, seasonNumbers, isBlank, anyOf, sumsOut, impossible}
+use Rattle.account_spec.specs.Account.{isFresh, isClosed, isBegun, isRefused, parametersBroken, isBroken, unmeasuredIn, warmthAlone, carriedOut, seasonNumbers, isBlank, anyOf, sumsOut, impossible}
 use Rattle.account_spec.specs.Steps.{Room}
+use Rattle.account_spec.proofs.CarriedLaws.{sum-le, total-in}
 
 -- sums that hours can give
 pub record SumsIn (season : Season) (s : Sums) : Type 0 where
@@ -38,7 +39,10 @@ pub record Possible (a : Account) : Type 0 where
   pub header : isBegun (a .phase) ≡ true → checked (Record.Header (a .season .header)) ≡ accepted tt
   pub ceiling : isBegun (a .phase) ≡ true → ceilingOut (a .season .ceiling) ≡ false
   pub parameters : isBegun (a .phase) ≡ true → parametersBroken (a .season) ≡ false
+  pub warmth : isBegun (a .phase) ≡ true → warmthBroken (a .season .warmth) ≡ false
   pub measured : unmeasuredIn (a .season) (a .kind) (a .sums .hours) ≡ false
+  pub alone : warmthAlone (a .season) ≡ false
+  pub carried : carriedOut (a .season) (a .sums .hours) (a .carried) ≡ false
   pub hours : a .sums .hours ≤ periodHours (a .season .header)
   pub sums : SumsIn (a .season) (a .sums)
   pub kind : kindOut (a .kind) (a .sums .hours) ≡ false
@@ -74,24 +78,29 @@ open-is a e = rw e
 pub closed-is : (a : Account) → a .phase ≡ Closed → not (allGiven (a .season .header) (a .sums .hours)) ≡ byPhase a
 closed-is a e = rw e
 
-third-first : (b p s k u x y : Bool) → (s || (k || (u || (b || (p || (x || y)))))) ≡ (b || p || s || k || u || x || y)
-third-first true p s k u x y = rw (or-true u, or-true k) (or-true s)
-third-first false true s k u x y = rw (or-true u, or-true k) (or-true s)
-third-first false false true k u x y = refl
-third-first false false false true u x y = refl
-third-first false false false false true x y = refl
-third-first false false false false false x y = refl
+third-first : (b p s k u w c x y : Bool) → (s || (k || (u || (w || (c || (b || (p || (x || y)))))))) ≡ (b || p || s || k || u || w || c || x || y)
+third-first true p s k u w c x y = rw (or-true c, or-true w, or-true u, or-true k) (or-true s)
+third-first false true s k u w c x y = rw (or-true c, or-true w, or-true u, or-true k) (or-true s)
+third-first false false true k u w c x y = refl
+third-first false false false true u w c x y = refl
+third-first false false false false true w c x y = refl
+third-first false false false false false true c x y = refl
+third-first false false false false false false true x y = refl
+third-first false false false false false false false x y = refl
 
 pub sums-first : (a : Account) →
     (anyOf (sumsOut (a .season) (a .sums))
     || (kindOut (a .kind) (a .sums .hours)
     || (unmeasuredIn (a .season) (a .kind) (a .sums .hours)
-    || ((isBegun (a .phase) && isBroken (a .season)) || (ltb (periodHours (a .season .header)) (a .sums .hours) || byPhase a)))))
+    || (warmthAlone (a .season)
+    || (carriedOut (a .season) (a .sums .hours) (a .carried)
+    || ((isBegun (a .phase) && isBroken (a .season)) || (ltb (periodHours (a .season .header)) (a .sums .hours) || byPhase a)))))))
     ≡ impossible a
 unfolding impossible
 sums-first a =
     third-first (isBegun (a .phase) && isBroken (a .season)) (ltb (periodHours (a .season .header)) (a .sums .hours)) (anyOf (sumsOut (a .season) (a .sums)))
-    (kindOut (a .kind) (a .sums .hours)) (unmeasuredIn (a .season) (a .kind) (a .sums .hours)) (isFresh (a .phase) && not (isBlank a))
+    (kindOut (a .kind) (a .sums .hours)) (unmeasuredIn (a .season) (a .kind) (a .sums .hours)) (warmthAlone (a .season))
+    (carriedOut (a .season) (a .sums .hours) (a .carried)) (isFresh (a .phase) && not (isBlank a))
     (isClosed (a .phase) && not (allGiven (a .season .header) (a .sums .hours)))
 
 -- ---- row 13, one condition after the other
@@ -144,13 +153,18 @@ module _ (a : Account) where
   possible-is e =
       let given = or-neither _ (isClosed (a .phase) && not (allGiven (a .season .header) (a .sums .hours))) e in
       let blank = or-neither _ (isFresh (a .phase) && not (isBlank a)) (given .0) in
-      let measured = or-neither _ (unmeasuredIn (a .season) (a .kind) (a .sums .hours)) (blank .0) in
+      let carried = or-neither _ (carriedOut (a .season) (a .sums .hours) (a .carried)) (blank .0) in
+      let alone = or-neither _ (warmthAlone (a .season)) (carried .0) in
+      let measured = or-neither _ (unmeasuredIn (a .season) (a .kind) (a .sums .hours)) (alone .0) in
       let kind = or-neither _ (kindOut (a .kind) (a .sums .hours)) (measured .0) in
       let sums = or-neither _ (anyOf (sumsOut (a .season) (a .sums))) (kind .0) in
       let hours = or-neither (isBegun (a .phase) && isBroken (a .season)) (ltb (periodHours (a .season .header)) (a .sums .hours)) (sums .0) in
       let broken : isBegun (a .phase) ≡ true → isBroken (a .season) ≡ false = and-false (isBegun (a .phase)) _ (hours .0) in
+      let warm : isBegun (a .phase) ≡ true → (isRefused (checked (Record.Header (a .season .header))) || ceilingOut (a .season .ceiling) || parametersBroken (a .season) ≡ false) × (warmthBroken (a .season .warmth) ≡ false) =
+      λ h. or-neither (isRefused (checked (Record.Header (a .season .header))) || ceilingOut (a .season .ceiling) || parametersBroken (a .season)) _ (broken h)
+      in
       let sound : isBegun (a .phase) ≡ true → (isRefused (checked (Record.Header (a .season .header))) || ceilingOut (a .season .ceiling) ≡ false) × (parametersBroken (a .season) ≡ false) =
-      λ h. or-neither (isRefused (checked (Record.Header (a .season .header))) || ceilingOut (a .season .ceiling)) _ (broken h)
+      λ h. or-neither (isRefused (checked (Record.Header (a .season .header))) || ceilingOut (a .season .ceiling)) _ (warm h .0)
       in
       let rows : isBegun (a .phase) ≡ true → (isRefused (checked (Record.Header (a .season .header))) ≡ false) × (ceilingOut (a .season .ceiling) ≡ false) =
       λ h. or-neither (isRefused (checked (Record.Header (a .season .header)))) _ (sound h .0)
@@ -159,7 +173,10 @@ module _ (a : Account) where
         header = λ h. accepted-is (checked (Record.Header (a .season .header))) (rows h .0);
         ceiling = λ h. rows h .1;
         parameters = λ h. sound h .1;
+        warmth = λ h. warm h .1;
         measured = measured .1;
+        alone = alone .1;
+        carried = carried .1;
         hours = ltb-false _ _ (hours .1);
         sums = sums-in (a .season) (a .sums) (sums .1);
         kind = kind .1;
@@ -171,11 +188,13 @@ module _ (a : Account) where
   unfolding impossible
   possible-false p =
       simp (
-        false-and (isBegun (a .phase)) (isBroken (a .season)) (λ h. simp (p .header h, p .ceiling h, p .parameters h)),
+        false-and (isBegun (a .phase)) (isBroken (a .season)) (λ h. simp (p .header h, p .ceiling h, p .parameters h, p .warmth h)),
         le-ltb (periodHours (a .season .header)) (a .sums .hours) (p .hours),
         in-sums (a .season) (a .sums) (p .sums),
         p .kind,
         p .measured,
+        p .alone,
+        p .carried,
         false-and (isFresh (a .phase)) (not (isBlank a)) (λ h. ap not (p .blank h)),
         false-and (isClosed (a .phase)) (not (allGiven (a .season .header) (a .sums .hours))) (λ h. ap not (p .given h)),
       )
@@ -217,4 +236,6 @@ room-is a e =
       upper = omega (arith, mul-le-mul-left (mostHour (a .season)) counted);
       least = omega (arith, mul-le-mul-left (mostAot40 (a .season)) counted);
       most = omega (arith, mul-le-mul-left (mostAot40 (a .season)) counted);
+      sum = omega (arith, sum-le (a .season) (a .sums .hours) (a .carried) (p .carried), p .hours, period);
+      total = total-in (a .season) (a .sums .hours) (a .carried) (p .carried);
     }

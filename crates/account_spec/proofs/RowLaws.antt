@@ -10,7 +10,7 @@ use lib.ListN.{getD}
 use Rattle.records.specs.declared.Raw.{Raw}
 use Rattle.records.specs.declared.RawHour.{RawHour}
 use Rattle.records.specs.declared.Refusal.{Refusal}
-use Rattle.records.specs.declared.Refusal.the-variants.{Length, Digit, Kind, Turn, Tree, Year, Period, Level, Due, Range, Count, Buffer, Account, Place, Mixed, Tried, Ceiling, NoCeiling, Parameter}
+use Rattle.records.specs.declared.Refusal.the-variants.{Length, Digit, Kind, Turn, Tree, Year, Period, Level, Due, Range, Count, Buffer, Account, Place, Mixed, Tried, Ceiling, NoCeiling, Parameter, Warmth}
 use Rattle.records.specs.Answers.{refused, rowOf}
 use Rattle.records.proofs.AnswerLaws.{and-both, or-either}
 use Rattle.records.specs.Ranges.{lacksCeiling, rampsOut}
@@ -29,7 +29,7 @@ use Rattle.account_spec.proofs.RuleLaws.{mixed-out, due-out, lacks-out,
 
 -- row 10 besides
 abbrev answerRows : List ℕ
-answerRows = 1 ∷ 2 ∷ 3 ∷ 4 ∷ 5 ∷ 6 ∷ 7 ∷ 8 ∷ 9 ∷ 11 ∷ 15 ∷ 17 ∷ 18 ∷ 24 ∷ []
+answerRows = 1 ∷ 2 ∷ 3 ∷ 4 ∷ 5 ∷ 6 ∷ 7 ∷ 8 ∷ 9 ∷ 11 ∷ 15 ∷ 17 ∷ 18 ∷ 24 ∷ 25 ∷ []
 
 module _ (s : State) where
   hour-only :
@@ -53,6 +53,7 @@ module _ (s : State) where
       row-only (outOfTurn s (Raw.Parameters p)) _ _ _ refl
       (onward-only (recordOf (s .season .header .tree) (Raw.Parameters p)) _ (only-wider refl (record-only _ (Raw.Parameters p)))
       (λ r. row-only (rampsOut (s .season .header) p) _ _ _ refl (accepted-only _)))
+  frame-only (Raw.Warmth w) = row-only (outOfTurn s (Raw.Warmth w)) _ _ _ refl (only-wider refl (record-only _ (Raw.Warmth w)))
   frame-only (Raw.Ceiling c) = row-only (outOfTurn s (Raw.Ceiling c)) _ _ _ refl (only-wider refl (record-only _ (Raw.Ceiling c)))
 
   answer-only : (l : List ℕ) → Only answerRows (answerOf s l)
@@ -70,7 +71,7 @@ pub record RefusalRow (n f : ℕ) : Type 0 where
 abbrev refusals : List Refusal
 refusals =
     Account ∷ Length ∷ Digit ∷ Kind ∷ Turn ∷ Tree ∷ Year ∷ Period ∷ Level ∷ Due ∷ Account ∷ Count ∷ Buffer ∷ Account ∷ Place ∷ Mixed ∷ Tried ∷ Ceiling
-    ∷ NoCeiling ∷ Account ∷ Account ∷ Account ∷ Account ∷ Account ∷ Parameter ∷ []
+    ∷ NoCeiling ∷ Account ∷ Account ∷ Account ∷ Account ∷ Account ∷ Parameter ∷ Warmth ∷ []
 
 abbrev refusalAt : ℕ → Refusal
 refusalAt n = getD refusals n Account

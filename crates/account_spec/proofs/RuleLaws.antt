@@ -8,6 +8,7 @@ use native.Mathlib.Omega.{arith}
 use borrow.Author.Tests.{not-false}
 use types.Run.{OneOf}
 use denote.Enum.Declared.{tagOf}
+use Rattle.trees.specs.declared.Warmth.{Warmth}
 use Rattle.records.specs.declared.Header.{Header}
 use Rattle.records.specs.declared.Raw.{Raw}
 use Rattle.records.specs.declared.RawHour.{RawHour}
@@ -44,7 +45,7 @@ fresh-false Fresh k = ⊎-elim (λ z. absurd (omega arith)) (λ z. absurd (omega
 fresh-false Open k = refl
 fresh-false Closed k = refl
 
--- ---- a header's rows; row 15, then 9 and 18, before row 10; row 11; row 17; row 24, then 7
+-- ---- a header's rows; row 15, then 9 and 18, before row 10; row 11; row 17; row 25; row 24, then 7
 
 module _ (s : State) where
   pub header-in : (h : Header) → recordOf (s .season .header .tree) (Raw.Header h) ≡ dueOf s (Raw.Header h)
@@ -98,6 +99,10 @@ module _ (s : State) where
   pub ceiling-in : (c : Ceiling) → recordOf (s .season .header .tree) (Raw.Ceiling c) ≡ dueOf s (Raw.Ceiling c)
   unfolding dueOf
   ceiling-in c = refl
+
+  pub warmth-in : (w : Warmth) → recordOf (s .season .header .tree) (Raw.Warmth w) ≡ dueOf s (Raw.Warmth w)
+  unfolding dueOf
+  warmth-in w = refl
 
   module _ (p : Parameters) where
     pub parameters-out : parameterOut p ≡ true → refused (24, 0) ≡ dueOf s (Raw.Parameters p)

@@ -15,8 +15,9 @@ use Rattle.flux_spec.specs.Dose.{NotAbove, NotBelow}
 use Rattle.flux_spec.specs.Enclosure.{mostDose}
 use Rattle.account_spec.specs.declared.Season.{Season}
 use Rattle.account_spec.specs.declared.Sums.{Sums}
+use Rattle.account_spec.specs.declared.Carried.{Carried}
 use Rattle.account_spec.specs.Limits.{isMeasured}
-use Rattle.account_spec.specs.Hours.{standIn, ceilingIn, Carried, sumsOf, podOf}
+use Rattle.account_spec.specs.Hours.{standIn, ceilingIn, sumsOf, podOf}
 use Rattle.account_spec.specs.Book.{countedOf, excessOver}
 
 -- row 10 lets each hour pass

@@ -15,25 +15,32 @@ use Rattle.flux_spec.specs.Dose.{NotAbove, NotBelow}
 use Rattle.flux_spec.specs.Enclosure.{gapMost}
 use Rattle.account_spec.specs.declared.Season.{Season}
 use Rattle.account_spec.specs.declared.Account.{Account}
+use Rattle.account_spec.specs.declared.Carried.{Carried}
 use Rattle.account_spec.specs.declared.Totals.{Totals}
 use Rattle.account_spec.specs.declared.Fed.{Fed}
 use Rattle.account_spec.specs.declared.Reading.{Reading}
 use Rattle.account_spec.specs.Limits.{mostHour, gapEach, mostAot40}
-use Rattle.account_spec.specs.Hours.{standIn, Carried}
+use Rattle.account_spec.specs.Hours.{standIn, noneCarried, carriedOver}
 use Rattle.account_spec.specs.Enclosed.{AllChecked, AllMost, AllDosed, AllRead, gapHour, HoursEnclosed}
 use Rattle.account_spec.specs.Account.{freshAccount}
 use Rattle.account_spec.specs.Rules.{leftBy}
 use Rattle.account_spec.specs.Reading.{exceededWord, belowWord, wordOf, verdictWord}
-use Rattle.account_spec.specs.Book.{Book, emptyBook, bookAnswer, bookNext, countedOf, missingOf, excessOver, podIn, bookPod, Above}
+use Rattle.account_spec.specs.Book.{Book, emptyBook, bookAnswer, bookNext, countedOf, missingOf, excessOver, bookCarried, podIn, bookPod, Above}
 use Rattle.account_spec.specs.Runs.{Event, fed, taken, Run, Call, line, reading, RunOf, replyIn, repliesOf}
 
 -- ---- a line
+
+-- what leaf age by warmth takes from the hours (W-213): the account carries the sum of the book's earlier days and the running day's total, and the exact dose goes by them
+pub record CarriedKept (a : Account) (b : Book) : Type 0 where
+  pub account : a .carried ≡ bookCarried b
+  pub dose : carriedOver (standIn (b .season)) noneCarried (b .hours) ≡ bookCarried b
 
 -- the line gets the book's answer; row 13 never comes up; a refused line leaves the account as it was
 pub record LineKept (a : Account) (b : Book) (l : List ℕ) (r : Fed) : Type 0 where
   pub answer : replyIn r ≡ reply (bookAnswer b l)
   pub possible : (field : ℕ) → replyIn r ≡ refused (13, field) → ⊥
   pub unchanged : (row : ℕ × ℕ) → replyIn r ≡ refused row → leftBy r ≡ a
+  pub carried : CarriedKept (leftBy r) (bookNext b (bookAnswer b l))
 
 -- ---- a reading
 

@@ -2,6 +2,7 @@
 use frames::Header;
 use frames::Parameters;
 use frames::Refusal;
+use frames::Warmth;
 
 // An account's phase: before a header, after it, and after the right end frame.
 pub enum Phase {
@@ -18,11 +19,13 @@ pub enum HourKind {
     Humidity,
 }
 
-// What the frames before the first hour said: the header, the ozone ceiling in tenths of ppb (0: not fed), a measured tree's parameters (all 0: not fed).
+// What the frames before the first hour said: the header, the ozone ceiling in tenths of ppb (0: not fed), a measured tree's parameters and its leaf age by warmth
+// (all 0: not fed).
 pub struct Season {
     pub header: Header,
     pub ceiling: u16,
     pub parameters: Parameters,
+    pub warmth: Warmth,
 }
 
 // What hours add up to: POD1 at least lower and at most upper nmol m⁻², AOT40 at least `least` and at most `most` tenths of ppb h, their number, how many are
@@ -37,12 +40,20 @@ pub struct Sums {
     pub missing: u16,
 }
 
+// What leaf age by warmth takes from the hours before (W-213), in tenths of a degree over hours: the temperature sum of the earlier days, a day's negative total taken
+// as 0, and the running day's total. Both 0 where no frame of warmth was fed.
+pub struct Carried {
+    pub sum: u32,
+    pub total: i16,
+}
+
 // The season so far.
 pub struct Account {
     pub phase: Phase,
     pub season: Season,
     pub kind: HourKind,
     pub sums: Sums,
+    pub carried: Carried,
 }
 
 // What a line's answer depends on: an account's, or a book's, phase, season, kind and number of hours accepted.

@@ -14,4 +14,5 @@ pub use stdio::buffer;
 pub use stdio::print;
 pub use stdio::print_next;
 pub use stdio::print_number;
+pub use stdio::print_signed;
 pub use stdio::read;

@@ -33,3 +33,21 @@ pub fn print_next(n: u64) {
     print(b" ");
     print_number(n);
 }
+
+fn magnitude(n: i16) -> u64 {
+    if n < 0 {
+        (-(n + 1)) as u64 + 1
+    } else {
+        n as u64
+    }
+}
+
+// A space and a number of either sign.
+pub fn print_signed(n: i16) {
+    if n < 0 {
+        print(b" -");
+    } else {
+        print(b" ");
+    }
+    print_number(magnitude(n));
+}

@@ -2,6 +2,7 @@
 mod answers;
 mod fields;
 mod parameters;
+mod warmth;
 
 pub use answers::print_fed;
 pub use answers::print_refusal;

@@ -1,7 +1,7 @@
 -- A state that takes an hour line without ozone takes it with a number in ozone's place too.
 use Prim.Native.Nat.{ℕ, _≤_}
 use mathlib.Core.Path.{_≡_, refl, sym, ap, _∙_}
-use mathlib.Core.Bool.{Bool, true, false, false≢true}
+use mathlib.Core.Bool.{true, false, false≢true}
 use mathlib.Core.List.{List}
 use Rattle.trees.specs.declared.Measure.{Measure}
 use Rattle.records.specs.declared.Hour.{Hour}
@@ -18,8 +18,7 @@ use Rattle.account_spec.specs.declared.Phase.{Phase}
 use Rattle.account_spec.specs.declared.Phase.the-variants.{Fresh, Open, Closed}
 use Rattle.account_spec.specs.declared.State.{State}
 use Rattle.account_spec.specs.HourKinds.{isMixed}
-use Rattle.account_spec.specs.Account.{awaits}
-use Rattle.account_spec.specs.Rules.{turnIn, outOfTurn, ceilingLate, isDue, turnOf, answerOf}
+use Rattle.account_spec.specs.Rules.{turnIn, outOfTurn, isDue, turnOf, answerOf}
 use Rattle.account_spec.proofs.RuleLaws.{due-in, HourPassed, hour-passed}
 use Rattle.filling_spec.specs.Lines.{lineWith, lacksOzone}
 use Rattle.filling_spec.proofs.LineLaws.{hour-inside, line-filled}
@@ -37,13 +36,14 @@ lacking-by l (accepted (Raw.Hour raw)) e k = record { raw = raw; parsed = e; mis
 lacking-by l (accepted (Raw.End x)) e k = absurd (false≢true (rw e at k))
 lacking-by l (accepted (Raw.Ceiling c)) e k = absurd (false≢true (rw e at k))
 lacking-by l (accepted (Raw.Parameters p)) e k = absurd (false≢true (rw e at k))
+lacking-by l (accepted (Raw.Warmth w)) e k = absurd (false≢true (rw e at k))
 lacking-by l (refused w) e k = absurd (false≢true (rw e at k))
 
 -- an hour's turn does not go by what it says
-turn-same : (p : Phase) (awaited late : Bool) (x y : RawHour) → turnIn p awaited late (Raw.Hour x) ≡ turnIn p awaited late (Raw.Hour y)
-turn-same Fresh awaited late x y = refl
-turn-same Open awaited late x y = refl
-turn-same Closed awaited late x y = refl
+turn-same : (p : Phase) (s : State) (x y : RawHour) → turnIn p s (Raw.Hour x) ≡ turnIn p s (Raw.Hour y)
+turn-same Fresh s x y = refl
+turn-same Open s x y = refl
+turn-same Closed s x y = refl
 
 -- the same day, hour and air, and ozone is read: all that rows 4, 15, 9 and 18 go by
 record Alike (x y : RawHour) : Type 0 where
@@ -77,7 +77,7 @@ module _ (s : State) (x : RawHour) (q : Record) (e : turnOf s (Raw.Hour x) ≡ a
   turn-alike y r alike is =
       let one : isMixed (s .kind) (y .air) ≡ false = rw (alike .air) (passed .one-kind) in
       let due : isDue s y ≡ true = rw (alike .day, alike .hour) (passed .due) in
-      rw (turn-same (s .phase) (awaits (s .season)) (ceilingLate s) y x, in-turn) (sym (due-in s y one due (rw (alike .has) refl)) ∙ is)
+      rw (turn-same (s .phase) s y x, in-turn) (sym (due-in s y one due (rw (alike .has) refl)) ∙ is)
 
 pub record AnswerFilled (s : State) (n : ℕ) (l : List ℕ) (r : Record) : Type 0 where
   pub hour : Hour

@@ -83,6 +83,7 @@ module _ {low high : ℕ} where
   same-entry (Record.End x) e = record { phase = refl; season = e .season; hours = e .hours }
   same-entry (Record.Ceiling x) e = record { phase = e .phase; season = rw (e .season) refl; hours = e .hours }
   same-entry (Record.Parameters x) e = record { phase = e .phase; season = rw (e .season) refl; hours = e .hours }
+  same-entry (Record.Warmth x) e = record { phase = e .phase; season = rw (e .season) refl; hours = e .hours }
 
   entry-beside : {b c : Book} {r q : Record} → Beside low high b c → FilledRecord low high r q → Beside low high (bookEntry b r) (bookEntry c q)
   entry-beside {r = r} e FilledRecord.same = same-entry r e

@@ -21,7 +21,7 @@ use Rattle.frames.specs.Fields.{fieldsAt}
 use Rattle.frames.specs.Layout.{soilOf, airOf, rawHourOf, hourOf, frameOf, frameAt, frameLine}
 use Rattle.frames.specs.Steps.{IsHour, withDeficit, withPressure, withHumidity}
 use Rattle.frames.specs.Frames.{parsedOf, recordOf, readFrameOf}
-use Rattle.frames.proofs.KindLaws.{KindCase, header, hour, end, ceiling, parameters, kind-cases}
+use Rattle.frames.proofs.KindLaws.{KindCase, header, hour, end, ceiling, parameters, warmth, kind-cases}
 use Rattle.frames.proofs.FrameLaws.{frame-is, hour-framed, sized-within}
 use Rattle.frames.proofs.ReadLaws.{parsed-passed, sound-read, hour-read}
 use Rattle.writer.specs.RoundTrip.{measureIn, HasMeasure}
@@ -35,6 +35,7 @@ hourOr other (Record.Hour h) = h
 hourOr other (Record.End x) = other
 hourOr other (Record.Ceiling x) = other
 hourOr other (Record.Parameters x) = other
+hourOr other (Record.Warmth x) = other
 
 pub hour-inside : {g h : Hour} → Record.Hour g ≡ Record.Hour h → g ≡ h
 hour-inside {g = g} e = ap (hourOr g) e
@@ -58,6 +59,7 @@ Wide (Raw.Hour raw) = (raw .day < 65536) × (raw .hour < 256)
 Wide (Raw.End e) = Unit
 Wide (Raw.Ceiling c) = Unit
 Wide (Raw.Parameters p) = Unit
+Wide (Raw.Warmth w) = Unit
 
 frame-wide : (l : List ℕ) → KindCase (byteAt 0 l) → Wide (frameAt l)
 unfolding frameOf
@@ -66,6 +68,7 @@ frame-wide l (hour is) = let k = byteAt 0 l in rw (hour-framed l is refl) (hour-
 frame-wide l (end k) = rw (frame-is l k) tt
 frame-wide l (ceiling k) = rw (frame-is l k) tt
 frame-wide l (parameters k) = rw (frame-is l k) tt
+frame-wide l (warmth k) = rw (frame-is l k) tt
 
 raw-wide : (l : List ℕ) (raw : RawHour) → parsedOf l ≡ accepted (Raw.Hour raw) → Wide (Raw.Hour raw)
 raw-wide l raw e =
@@ -87,6 +90,7 @@ filled-raw tree n l h (Raw.Hour raw) p r = record { raw = raw; parsed = p; read 
 filled-raw tree n l h (Raw.End x) p r = let e = sound-read _ _ r .same in let z : _≡_ {A = ℕ} 0 1 = cc in absurd (omega arith)
 filled-raw tree n l h (Raw.Ceiling x) p r = let e = sound-read _ _ r .same in let z : _≡_ {A = ℕ} 0 1 = cc in absurd (omega arith)
 filled-raw tree n l h (Raw.Parameters x) p r = let e = sound-read _ _ r .same in let z : _≡_ {A = ℕ} 0 1 = cc in absurd (omega arith)
+filled-raw tree n l h (Raw.Warmth x) p r = let e = sound-read _ _ r .same in let z : _≡_ {A = ℕ} 0 1 = cc in absurd (omega arith)
 
 soil-measured : (m : Measure) (n : ℕ) → measureIn (soilOf m n) ≡ m
 soil-measured Measure.Suction n = refl

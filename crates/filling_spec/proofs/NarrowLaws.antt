@@ -16,9 +16,11 @@ use Rattle.flux_spec.proofs.EnclosureLaws.{enclosure}
 use Rattle.account_spec.specs.declared.Phase.{Phase}
 use Rattle.account_spec.specs.declared.Season.{Season}
 use Rattle.account_spec.specs.declared.Sums.{Sums}
-use Rattle.account_spec.specs.Hours.{noSums, plus, standIn, Carried, carriedAfter, pairOf, uncountedSums, hourSums, sumsOf}
+use Rattle.account_spec.specs.declared.Carried.{Carried}
+use Rattle.account_spec.specs.Hours.{noSums, plus, standIn, standAt, carriedAfter, pairOf, uncountedSums, hourSums, sumsOf}
 use Rattle.account_spec.specs.Enclosed.{HasDose, AllDosed}
 use Rattle.account_spec.specs.Reading.{exceededWord, belowWord, wordOf, verdictOf}
+use Rattle.account_spec.proofs.SumsLaws.{carried-ozone}
 use Rattle.account_spec.proofs.HourLaws.{season-stand}
 use Rattle.account_spec.proofs.VerdictLaws.{word-is, exceeded-is, is-exceeded, below-is, below-begun, is-below}
 use Rattle.filling_spec.proofs.BesideLaws.{FilledHour, FilledHours}
@@ -77,7 +79,7 @@ module _ {low high ceiling : ℕ} (within : high ≤ ceiling) where
   unfolding hourSums pairOf
   hour-narrowed stand e c FilledHour.same = same-narrowed _
   hour-narrowed stand e c {h = h} (FilledHour.filled missing n above below) =
-      let grows = enclosure .ozone stand h in
+      let grows = enclosure .ozone (standAt stand c) h in
       cond-narrowed (isCounted h)
       (rw (missing-is (h .ozone) missing)
       (record {
@@ -90,6 +92,11 @@ module _ {low high ceiling : ℕ} (within : high ≤ ceiling) where
         zero = λ none. let is : n ≡ 0 = omega arith in rw is (refl, refl);
         full = λ all. let is : n ≡ stand .ceiling = omega arith in rw is (refl, refl);
       }))
+
+  -- what is carried does not go by ozone
+  carried-filled : (stand : Outcome Stand) (c : Carried) {h f : Hour} → FilledHour low high h f → carriedAfter stand c f ≡ carriedAfter stand c h
+  carried-filled stand c FilledHour.same = refl
+  carried-filled stand c {h = h} (FilledHour.filled missing n above below) = carried-ozone stand c n h
 
   -- ---- hours in a row
 
@@ -104,7 +111,9 @@ module _ {low high ceiling : ℕ} (within : high ≤ ceiling) where
   unfolding sumsOf
   hours-narrowed season e c all FilledHours.none = same-narrowed noSums
   hours-narrowed season e c all (FilledHours.hours {h = h} one rest) =
-      plus-narrowed (has-narrowed season e c (all .0) one) (hours-narrowed season e (carriedAfter (standIn season) c h) (all .1) rest)
+      let stand = standIn season in
+      rw (carried-filled stand c one)
+      (plus-narrowed (has-narrowed season e c (all .0) one) (hours-narrowed season e (carriedAfter stand c h) (all .1) rest))
 
 -- ---- the verdict
 

@@ -27,6 +27,7 @@ lacksIn (accepted (Raw.Hour raw)) = isMissing (ozoneOf (raw .ozone))
 lacksIn (accepted (Raw.End e)) = false
 lacksIn (accepted (Raw.Ceiling c)) = false
 lacksIn (accepted (Raw.Parameters p)) = false
+lacksIn (accepted (Raw.Warmth w)) = false
 lacksIn (refused row) = false
 
 unfoldable pub lacksOzone : List ℕ → Bool

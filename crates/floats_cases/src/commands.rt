@@ -1,9 +1,9 @@
 // Commands, one a line, over two accounts that are held. `N` makes both fresh, `C` and four digits sets the counted hours of both, `F` and a line feeds both; `L` and a line
 // feeds the first; `G`, a day, an hour and seven floats' bits feeds the second; `A` prints both. `F`, `L` and `G` print the answers.
-use crate::answers::print_account;
 use crate::answers::print_fed;
 use crate::bits::readings_at;
 use account::Account;
+use cases::print;
 use cases::u8_at;
 use cases::u16_at;
 
@@ -18,12 +18,20 @@ fn counted(a: Account, n: u16) -> Account {
     let phase = a.phase;
     let season = a.season;
     let kind = a.kind;
+    let carried = a.carried;
     Account {
         phase: phase,
         season: season,
         kind: kind,
         sums: sums,
+        carried: carried,
     }
+}
+
+// All fields of an account, on a line.
+fn show(a: Account) {
+    cases_account::print_account(a);
+    print(b"\n");
 }
 
 // What a command leaves.
@@ -55,8 +63,8 @@ fn obeyed(held: Held, command: &[u8]) -> Held {
             readings_at(rest),
         )),
         b'A' => {
-            print_account(lines);
-            print_account(floats);
+            show(lines);
+            show(floats);
         }
         _ => {},
     }

@@ -7,19 +7,19 @@ use mir.Syntax.{w64}
 use mir.Val.{Fits}
 use Rattle.trees.specs.declared.Figures.{Figures}
 use Rattle.trees.specs.Sound.{Sound}
-use Rattle.trees.specs.Phenology.{phenologyOf}
 use Rattle.trees.specs.Temperature.{temperaturePair}
 use Rattle.trees.specs.Deficit.{deficitOf, lowerDeficit, upperDeficit, lowerFactor, upperFactor}
 use Rattle.trees.specs.SoilWater.{soilWaterOf}
 use Rattle.trees.proofs.DeficitLaws.{deficit-limits}
-use Rattle.trees.proofs.FactorLaws.{soilWater-limits, phenology-limits}
-use Rattle.trees.proofs.TermLaws.{deficit-small, soilWater-small, phenology-small}
+use Rattle.trees.proofs.FactorLaws.{soilWater-limits}
+use Rattle.trees.proofs.TermLaws.{deficit-small, soilWater-small}
 use Rattle.flux.specs.Steps.{Factor}
 use Rattle.flux_spec.specs.declared.Stand.{Stand}
 use Rattle.flux_spec.specs.Light.{lightLow, lightUp}
 use Rattle.flux_spec.specs.Deficit.{airDeficits, deficitLow, deficitUp}
 use Rattle.flux_spec.specs.Conductance.{aboveOf, phenologyIn}
 use Rattle.flux_spec.specs.Pair.{openingLow, openingUp, shareLow, shareUp}
+use Rattle.flux_spec.proofs.PhenologyLaws.{phenologyIn-limits, phenologyIn-den}
 use Rattle.exact.specs.declared.Fraction.{Fraction}
 use Rattle.exact.specs.Frac.{Frac, Is, natural, _over_, _≼_}
 use Rattle.exact.specs.Rounding.{roundUp, roundDown, timesUp, timesDown}
@@ -44,9 +44,9 @@ module _ (n : ℕ) (x : Fraction) {most : ℕ} (factor : Factor most x) where
   pub up-le : (n * x .num + (x .den - 1)) / x .den ≤ n
   up-le = rw (timesUp-is n value) at (timesUp-le n {x = value} value-le)
 
-module _ (n : ℕ) (x : Fraction) (factor : Factor (10 ^ 6) x) where
+module _ (n : ℕ) (x : Fraction) (factor : Factor (2 * 10 ^ 9) x) where
   module _ (small : n ≤ 10 ^ 9 + 1) where
-    product-le : n * x .num ≤ (10 ^ 9 + 1) * 10 ^ 6
+    product-le : n * x .num ≤ (10 ^ 9 + 1) * (2 * 10 ^ 9)
     product-le = omega (arith, mul-le-mul-left n (factor .below), mul-le-mul small (factor .small))
 
     pub mul-fits : Fits w64 (n * x .num)
@@ -138,12 +138,12 @@ module _ (f : Figures) (s : Sound f) {r : Fraction} where
   pub upper-factor : (a : Air) (x : ℕ) → Is r (upperFactor f (airDeficits a x)) → Factor (2 * 10 ^ 14) r
   upper-factor a x i = deficit-factor (lowerDeficit (airDeficits a x)) (omega (arith, deficits-den a x)) i
 
-  pub soilWater-factor : (reading : ℕ) → Is r (soilWaterOf f reading) → Factor (10 ^ 6) r
-  soilWater-factor reading i = factor-is i (soilWater-limits f s reading .below) (soilWater-small f s reading .den)
+  pub soilWater-factor : (reading : ℕ) → Is r (soilWaterOf f reading) → Factor (2 * 10 ^ 9) r
+  soilWater-factor reading i = factor-is i (soilWater-limits f s reading .below) (omega (arith, soilWater-small f s reading .den))
 
-  pub phenology-factor : (first last day temperature : ℕ) → Is r (phenologyOf f first last day temperature) → Factor (10 ^ 6) r
-  phenology-factor first last day temperature i =
-      factor-is i (phenology-limits f s first last day temperature .below) (phenology-small f s first last day temperature .den)
+module _ (stand : Stand) (s : Sound (stand .figures)) (h : Hour) {r : Fraction} where
+  pub phenology-factor : stand .age .warmth .rise < 65536 → stand .age .warmth .fall < 65536 → Is r (phenologyIn stand h) → Factor (2 * 10 ^ 9) r
+  phenology-factor rise fall i = factor-is i (phenologyIn-limits stand s h .below) (phenologyIn-den stand s h rise fall)
 
 -- ---- the pairs
 

@@ -7,6 +7,7 @@ use crate::ozone;
 use crate::scale;
 use crate::share;
 use exact::Bounds;
+use exact::Fraction;
 use flux_spec::Stand;
 use frames::Hour;
 use power::Factor;
@@ -17,11 +18,12 @@ use trees::Figures;
 use trees::Source;
 ghost use mathlib.Core.Path.{_≡_};
 ghost use Prim.Native.Nat.{_+_, _-_, _*_, _≤_};
+ghost use Rattle.exact.specs.Frac.{Is};
 ghost use Rattle.trees.specs.Figures.{ownerOf};
 ghost use Rattle.trees.specs.Sound.{Sound};
 ghost use Rattle.trees.specs.Steps.{HasTable};
 ghost use Rattle.trees.specs.Temperature.{temperaturePair};
-ghost use Rattle.flux_spec.specs.Conductance.{aboveOf};
+ghost use Rattle.flux_spec.specs.Conductance.{aboveOf, phenologyIn};
 ghost use Rattle.flux_spec.specs.Deficit.{airDeficits};
 ghost use Rattle.flux_spec.specs.Pair.{openingLow, openingUp, shareLow, shareUp, rootLow, quotient, hourPair};
 ghost use Rattle.records.specs.Answers.{accepted};
@@ -80,6 +82,20 @@ fn opening(f: Figures, t: Bounds, vpd: Deficits, h: Hour) -> Bounds
     }
 }
 
+// f_phen, by the temperature sum where a frame of warmth stands.
+fn phenology(stand: Stand, h: Hour, t: u16) -> Fraction
+    requires { ⌜ t ≡ aboveOf (h .temperature) ⌝ }
+    ensures { λ r. ⌜ Is r (phenologyIn stand h) ⌝ }
+{
+    let f = stand.figures;
+    let age = stand.age;
+    let warmth = age.warmth;
+    if measured::has_warmth(warmth) {
+        return trees::phen::f_phen_by_warmth(f, warmth, age.sum);
+    }
+    trees::phen::f_phen(f, stand.first, stand.last, h.day, t)
+}
+
 // f_phen × f_light × the opening, in units of 10⁻⁷.
 fn shares(stand: Stand, o: Bounds, h: Hour, t: u16) -> Bounds
     requires sound { ⌜ Sound (stand .figures) ⌝ }
@@ -91,7 +107,7 @@ fn shares(stand: Stand, o: Bounds, h: Hour, t: u16) -> Bounds
     ensures upper { λ r. ⌜ r .upper ≡ shareUp stand h ⌝ }
 {
     let f = stand.figures;
-    let phen = trees::phen::f_phen(f, stand.first, stand.last, h.day, t);
+    let phen = phenology(stand, h, t);
     let l = light::factor(f.lighta, h.ppfd);
     Bounds {
         lower: share::share_low(l.lower, phen, o.lower),

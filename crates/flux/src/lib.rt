@@ -11,6 +11,7 @@ mod share;
 mod vapour;
 
 use exact::Bounds;
+pub use flux_spec::Age;
 pub use flux_spec::Dosed;
 use flux_spec::Named;
 use flux_spec::Stand;
@@ -43,12 +44,16 @@ fn tree_of(parameters: Parameters, tree: u8) -> Named
     }
 }
 
-// The dose of an hour by a tree's figures: rows 7, 17, 18 and 10.
-fn dose_by(figures: Figures, first: u16, last: u16, ceiling: u16, h: Hour) -> Dosed
+// The dose of an hour by a tree's figures: rows 25, 7, 17, 18 and 10.
+fn dose_by(figures: Figures, age: Age, first: u16, last: u16, ceiling: u16, h: Hour) -> Dosed
     requires sound { ⌜ Sound figures ⌝ }
     requires tabled { ⌜ HasTable figures ⌝ }
-    ensures { λ r. ⌜ dosedAs r ≡ hourDoseOf (accepted figures) first last ceiling h ⌝ }
+    ensures { λ r. ⌜ dosedAs r ≡ hourDoseOf (accepted figures) age first last ceiling h ⌝ }
 {
+    let warmth = age.warmth;
+    if records::warmth_broken(warmth) {
+        return Dosed::Refused(Refusal::Warmth);
+    }
     if rows::days_out(figures, first, last) {
         return Dosed::Refused(Refusal::Period);
     }
@@ -70,6 +75,7 @@ fn dose_by(figures: Figures, first: u16, last: u16, ceiling: u16, h: Hour) -> Do
     }
     let stand = Stand {
         figures,
+        age,
         first,
         last,
         ceiling,
@@ -77,24 +83,25 @@ fn dose_by(figures: Figures, first: u16, last: u16, ceiling: u16, h: Hour) -> Do
     Dosed::Pair(hour::dosed(stand, h, vapour::deficits(h)))
 }
 
-// What an hour adds to POD1, for the tree with a number, its parameters (tree 7 goes by them, no other tree), the first and the last day of the period and the
-// ozone ceiling (0: none): its pair where it is counted, else 0 and 0.
+// What an hour adds to POD1, for the tree with a number, its parameters (tree 7 goes by them, no other tree), leaf age by warmth (all 0: by the day), the first and
+// the last day of the period and the ozone ceiling (0: none): its pair where it is counted, else 0 and 0.
 pub fn hour_dose(
     tree: u8,
     parameters: Parameters,
+    age: Age,
     first: u16,
     last: u16,
     ceiling: u16,
     h: Hour,
 ) -> Dosed
-    ensures { λ r. ⌜ dosedAs r ≡ hourDoseOf (treeOf parameters tree) first last ceiling h ⌝ }
+    ensures { λ r. ⌜ dosedAs r ≡ hourDoseOf (treeOf parameters tree) age first last ceiling h ⌝ }
     ensures enclosure { λ _. ⌜ Enclosure ⌝ }
     ensures facts { λ _. ⌜ HourFacts ⌝ }
     ensures bench_cases { λ _. ⌜ BenchCases ⌝ }
 {
     let named = tree_of(parameters, tree);
     match named {
-        Named::Tree(figures) => dose_by(figures, first, last, ceiling, h),
+        Named::Tree(figures) => dose_by(figures, age, first, last, ceiling, h),
         Named::Refused(refusal) => Dosed::Refused(refusal),
     }
 }

@@ -5,7 +5,7 @@ ghost use Prim.Native.Nat.{_+_, _-_, _*_, _/_, _^_, _≤_, _<_, max};
 ghost use Rattle.flux.specs.Steps.{Factor};
 
 // The greatest denominator whose product with a number of 10⁻⁹ is taken at once.
-const SHORT: u64 = 1000000;
+const SHORT: u64 = 2000000000;
 
 // The base of a number's two digits.
 const BASE: u64 = 32768;
@@ -13,7 +13,7 @@ const BASE: u64 = 32768;
 // A number times a factor, rounded down.
 fn times_down(n: u64, x: Fraction) -> u64
     requires number { ⌜ n ≤ 10 ^ 9 + 1 ⌝ }
-    requires factor { ⌜ Factor (10 ^ 6) x ⌝ }
+    requires factor { ⌜ Factor (2 * 10 ^ 9) x ⌝ }
     ensures is { λ r. ⌜ r ≡ n * x .num / x .den ⌝ }
     ensures le { λ r. ⌜ r ≤ n ⌝ }
 {
@@ -26,7 +26,7 @@ fn times_down(n: u64, x: Fraction) -> u64
 // A number times a factor, rounded up.
 fn times_up(n: u64, x: Fraction) -> u64
     requires number { ⌜ n ≤ 10 ^ 9 + 1 ⌝ }
-    requires factor { ⌜ Factor (10 ^ 6) x ⌝ }
+    requires factor { ⌜ Factor (2 * 10 ^ 9) x ⌝ }
     ensures is { λ r. ⌜ r ≡ (n * x .num + (x .den - 1)) / x .den ⌝ }
     ensures le { λ r. ⌜ r ≤ n ⌝ }
 {
@@ -92,7 +92,7 @@ fn at_least(fmin: u16, n: u64) -> u64
 pub(crate) fn opening_low(fmin: u16, t: u64, vpd: Fraction, sw: Fraction) -> u64
     requires number { ⌜ t ≤ 10 ^ 9 + 1 ⌝ }
     requires vpd { ⌜ Factor (2 * 10 ^ 14) vpd ⌝ }
-    requires sw { ⌜ Factor (10 ^ 6) sw ⌝ }
+    requires sw { ⌜ Factor (2 * 10 ^ 9) sw ⌝ }
     ensures { λ r. ⌜ r ≡ max (fmin * 10 ^ 7) (t * vpd .num / vpd .den * sw .num / sw .den) ⌝ }
 {
     at_least(fmin, times_down(deficit_down(t, vpd), sw))
@@ -102,7 +102,7 @@ pub(crate) fn opening_low(fmin: u16, t: u64, vpd: Fraction, sw: Fraction) -> u64
 pub(crate) fn opening_up(fmin: u16, t: u64, vpd: Fraction, sw: Fraction) -> u64
     requires number { ⌜ t ≤ 10 ^ 9 + 1 ⌝ }
     requires vpd { ⌜ Factor (2 * 10 ^ 14) vpd ⌝ }
-    requires sw { ⌜ Factor (10 ^ 6) sw ⌝ }
+    requires sw { ⌜ Factor (2 * 10 ^ 9) sw ⌝ }
     ensures { λ r. ⌜ r ≡ max (fmin * 10 ^ 7) (((t * vpd .num + (vpd .den - 1)) / vpd .den * sw .num + (sw .den - 1)) / sw .den) ⌝ }
 {
     at_least(fmin, times_up(deficit_up(t, vpd), sw))
@@ -111,7 +111,7 @@ pub(crate) fn opening_up(fmin: u16, t: u64, vpd: Fraction, sw: Fraction) -> u64
 // f_phen × f_light × that, from the lower bounds, rounded down.
 pub(crate) fn share_low(light: u64, phen: Fraction, opening: u64) -> u64
     requires light { ⌜ light ≤ 10 ^ 9 + 1 ⌝ }
-    requires phen { ⌜ Factor (10 ^ 6) phen ⌝ }
+    requires phen { ⌜ Factor (2 * 10 ^ 9) phen ⌝ }
     requires opening { ⌜ opening ≤ 10 ^ 9 + 1 ⌝ }
     ensures { λ r. ⌜ r ≡ light * phen .num / phen .den * opening / 10 ^ 11 ⌝ }
 {
@@ -121,7 +121,7 @@ pub(crate) fn share_low(light: u64, phen: Fraction, opening: u64) -> u64
 // f_phen × f_light × that, from the upper bounds, rounded up.
 pub(crate) fn share_up(light: u64, phen: Fraction, opening: u64) -> u64
     requires light { ⌜ light ≤ 10 ^ 9 + 1 ⌝ }
-    requires phen { ⌜ Factor (10 ^ 6) phen ⌝ }
+    requires phen { ⌜ Factor (2 * 10 ^ 9) phen ⌝ }
     requires opening { ⌜ opening ≤ 10 ^ 9 + 1 ⌝ }
     ensures { λ r. ⌜ r ≡ ((light * phen .num + (phen .den - 1)) / phen .den * opening + (10 ^ 11 - 1)) / 10 ^ 11 ⌝ }
 {

@@ -1,14 +1,18 @@
 // Rows of a call: tree (two hexadecimal digits), first and last day and the ceiling (four each), the soil's measure (S suction, W water), the hour's
-// line, with single spaces; for tree 7 that line filled up to 40 characters, a space and the line of its parameters. The answer for each row on a line of its own.
+// line, with single spaces; for tree 7 that line filled up to 40 characters, a space and the line of its parameters, and for leaf age by warmth a space, the
+// line of its sums, a space and the temperature sum (eight digits). The answer for each row on a line of its own.
 use crate::answers::print_dosed;
 use cases::i16_at;
 use cases::print;
 use cases::u8_at;
 use cases::u16_at;
+use cases::u32_at;
+use flux::Age;
 use frames::Air;
 use frames::Hour;
 use frames::Parameters;
 use frames::Soil;
+use frames::Warmth;
 
 fn soil_of(measure: u8, n: u16) -> Soil {
     if measure == b'W' {
@@ -71,15 +75,30 @@ fn parameters_of(row: &[u8]) -> Parameters {
     }
 }
 
+// All 0 where the row has none; the line of the sums starts with its kind.
+fn age_of(row: &[u8]) -> Age {
+    let warmth = Warmth {
+        rise: u16_at(row, 130),
+        fall: u16_at(row, 134),
+        end: u16_at(row, 138),
+    };
+    Age {
+        warmth,
+        sum: u32_at(row, 143),
+    }
+}
+
 fn print_row(row: &[u8]) {
     if row.len() < 56 {
         return;
     }
     let h = hour_of(row, row[18]);
     let parameters = parameters_of(row);
+    let age = age_of(row);
     print_dosed(flux::hour_dose(
         u8_at(row, 0),
         parameters,
+        age,
         u16_at(row, 3),
         u16_at(row, 8),
         u16_at(row, 13),

@@ -13,6 +13,7 @@ use Rattle.measured.specs.declared.Parameters.{Parameters}
 use Rattle.measured.specs.Figures.{measuredFigures, figuresIn}
 use Rattle.records.specs.Parameters.{parameterOut}
 use Rattle.records.proofs.ParameterLaws.{parameters-sound, figures-in-sound}
+use Rattle.flux_spec.specs.declared.Age.{Age}
 use Rattle.flux_spec.specs.Enclosure.{gapMost, Limited, MeasuredLimited, Answered, Enclosure}
 use Rattle.flux_spec.specs.HourDose.{treeOf, standOf, standFor, addedPair, hourDoseOf}
 use Rattle.exact.specs.declared.Bounds.{Bounds}
@@ -73,14 +74,14 @@ tree-named ps tree f e =
     record { chosen = chosen; measured = measured; sound = figures-in-sound ps tree f chosen measured }
 
 answered :
-    (ps : Parameters) (tree first last ceiling : ℕ) (h : Hour) (pair : Bounds) → hourDoseOf (treeOf ps tree) first last ceiling h ≡ accepted pair →
-    Answered ps tree first last ceiling h pair
+    (ps : Parameters) (age : Age) (tree first last ceiling : ℕ) (h : Hour) (pair : Bounds) → hourDoseOf (treeOf ps tree) age first last ceiling h ≡ accepted pair →
+    Answered ps age tree first last ceiling h pair
 unfolding hourDoseOf
-answered ps tree first last ceiling h pair e =
-    let found = onward-passed (standFor (treeOf ps tree) first last ceiling h) _ pair e in
+answered ps age tree first last ceiling h pair e =
+    let found = onward-passed (standFor (treeOf ps tree) age first last ceiling h) _ pair e in
     let stand = found .0 in
-    let p = stand-passed (treeOf ps tree) first last ceiling h stand (found .1) in
-    let own = standOf (stand .figures) first last ceiling in
+    let p = stand-passed (treeOf ps tree) age first last ceiling h stand (found .1) in
+    let own = standOf (stand .figures) age first last ceiling in
     let sound = tree-named ps tree (stand .figures) (p .named) .sound in
     record {
       figures = stand .figures;

@@ -17,11 +17,12 @@ use Rattle.records.specs.declared.Hour.{Hour}
 use Rattle.records.specs.declared.RawHour.{RawHour}
 use Rattle.records.specs.declared.Record.{Record}
 use Rattle.records.specs.Answers.{Outcome, accepted, refused}
-use Rattle.records.specs.Ranges.{ozoneOut, vapourOut, soilOut, periodOut, hourChecked, checked, ceilingOut, lacksCeiling}
+use Rattle.records.specs.Ranges.{ozoneOut, vapourOut, soilOut, periodOut, hourChecked, checked, ceilingOut, warmthBroken, lacksCeiling}
 use Rattle.records.specs.Temperature.{temperatureOut}
 use Rattle.records.proofs.AnswerLaws.{accepted-same, refused-not-accepted, or-neither, row-passed, onward-passed}
 use Rattle.records.proofs.OzoneLaws.{ceiling-le}
 use Rattle.frames.specs.Layout.{ozoneOf, soilOf, hourOf}
+use Rattle.flux_spec.specs.declared.Age.{Age}
 use Rattle.flux_spec.specs.declared.Stand.{Stand}
 use Rattle.flux_spec.specs.Dose.{isCounted}
 use Rattle.flux_spec.specs.Pair.{hourPair}
@@ -46,50 +47,56 @@ module _ (ps : Parameters) (tree : ℕ) where
 
 -- ---- refused, by each row
 
-module _ (tree : Outcome Figures) (first last ceiling : ℕ) (h : Hour) where
-  pub no-tree-is : (w : ℕ × ℕ) → tree ≡ refused w → refused w ≡ hourDoseOf tree first last ceiling h
+module _ (tree : Outcome Figures) (age : Age) (first last ceiling : ℕ) (h : Hour) where
+  pub no-tree-is : (w : ℕ × ℕ) → tree ≡ refused w → refused w ≡ hourDoseOf tree age first last ceiling h
   unfolding hourDoseOf standFor
   no-tree-is w e = rw e
 
   module _ (f : Figures) (e : tree ≡ accepted f) where
-    pub named-is : (o : Outcome Bounds) → o ≡ hourDoseOf (accepted f) first last ceiling h → o ≡ hourDoseOf tree first last ceiling h
+    pub named-is : (o : Outcome Bounds) → o ≡ hourDoseOf (accepted f) age first last ceiling h → o ≡ hourDoseOf tree age first last ceiling h
     named-is o is = rw e is
 
-    pub days-out-is : daysOut f first last ≡ true → refused (7, 0) ≡ hourDoseOf tree first last ceiling h
+    pub warmth-out-is : warmthBroken (age .warmth) ≡ true → refused (25, 0) ≡ hourDoseOf tree age first last ceiling h
     unfolding hourDoseOf standFor
-    days-out-is out = rw (e, out)
+    warmth-out-is out = rw (e, out)
 
-    module _ (days : daysOut f first last ≡ false) where
-      pub ceiling-out-is : ceilingOut ceiling ≡ true → refused (17, 0) ≡ hourDoseOf tree first last ceiling h
+    module _ (warm : warmthBroken (age .warmth) ≡ false) where
+      pub days-out-is : daysOut f first last ≡ true → refused (7, 0) ≡ hourDoseOf tree age first last ceiling h
       unfolding hourDoseOf standFor
-      ceiling-out-is out = rw (e, days, out)
+      days-out-is out = rw (e, warm, out)
 
-      module _ (within : ceilingOut ceiling ≡ false) where
-        pub lacks-ceiling-is : lacksCeiling ceiling (h .ozone) ≡ true → refused (18, 0) ≡ hourDoseOf tree first last ceiling h
+      module _ (days : daysOut f first last ≡ false) where
+        pub ceiling-out-is : ceilingOut ceiling ≡ true → refused (17, 0) ≡ hourDoseOf tree age first last ceiling h
         unfolding hourDoseOf standFor
-        lacks-ceiling-is lacks = rw (e, days, within, lacks)
+        ceiling-out-is out = rw (e, warm, days, out)
 
-        module _ (has : lacksCeiling ceiling (h .ozone) ≡ false) where
-          pub reading-out-is :
-              (row : ℕ × ℕ) → hourChecked (soilUnfit (f .measure) (h .soil)) h ≡ refused row → refused row ≡ hourDoseOf tree first last ceiling h
+        module _ (within : ceilingOut ceiling ≡ false) where
+          pub lacks-ceiling-is : lacksCeiling ceiling (h .ozone) ≡ true → refused (18, 0) ≡ hourDoseOf tree age first last ceiling h
           unfolding hourDoseOf standFor
-          reading-out-is row out = rw (e, days, within, has, out)
+          lacks-ceiling-is lacks = rw (e, warm, days, within, lacks)
 
-          -- ---- accepted
+          module _ (has : lacksCeiling ceiling (h .ozone) ≡ false) where
+            pub reading-out-is :
+                (row : ℕ × ℕ) → hourChecked (soilUnfit (f .measure) (h .soil)) h ≡ refused row → refused row ≡ hourDoseOf tree age first last ceiling h
+            unfolding hourDoseOf standFor
+            reading-out-is row out = rw (e, warm, days, within, has, out)
 
-          module _ (passed : hourChecked (soilUnfit (f .measure) (h .soil)) h ≡ accepted tt) where
-            pub stand-is : standFor tree first last ceiling h ≡ accepted (standOf f first last ceiling)
-            unfolding standFor
-            stand-is = rw (e, days, within, has, passed)
+            -- ---- accepted
 
-            pub counted-is :
-                isCounted h ≡ true → (pair : Bounds) → pair ≡ hourPair (standOf f first last ceiling) h → accepted pair ≡ hourDoseOf tree first last ceiling h
-            unfolding hourDoseOf
-            counted-is counted pair p = rw (stand-is, counted, p)
+            module _ (passed : hourChecked (soilUnfit (f .measure) (h .soil)) h ≡ accepted tt) where
+              pub stand-is : standFor tree age first last ceiling h ≡ accepted (standOf f age first last ceiling)
+              unfolding standFor
+              stand-is = rw (e, warm, days, within, has, passed)
 
-            pub uncounted-is : isCounted h ≡ false → accepted (record { lower = 0; upper = 0 }) ≡ hourDoseOf tree first last ceiling h
-            unfolding hourDoseOf
-            uncounted-is dark = rw (stand-is, dark)
+              pub counted-is :
+                  isCounted h ≡ true → (pair : Bounds) → pair ≡ hourPair (standOf f age first last ceiling) h →
+                  accepted pair ≡ hourDoseOf tree age first last ceiling h
+              unfolding hourDoseOf
+              counted-is counted pair p = rw (stand-is, counted, p)
+
+              pub uncounted-is : isCounted h ≡ false → accepted (record { lower = 0; upper = 0 }) ≡ hourDoseOf tree age first last ceiling h
+              unfolding hourDoseOf
+              uncounted-is dark = rw (stand-is, dark)
 
 -- ---- row 10 with the measure, and without it
 
@@ -121,24 +128,25 @@ checked-fit m h own e = rw (own, or-false (soilOut (h .soil))) e
 
 -- ---- what an hour that no row refuses has passed
 
-pub record Passed (tree : Outcome Figures) (first last ceiling : ℕ) (h : Hour) (stand : Stand) : Type 0 where
+pub record Passed (tree : Outcome Figures) (age : Age) (first last ceiling : ℕ) (h : Hour) (stand : Stand) : Type 0 where
   pub named : tree ≡ accepted (stand .figures)
-  pub is : stand ≡ standOf (stand .figures) first last ceiling
+  pub is : stand ≡ standOf (stand .figures) age first last ceiling
   pub within : ceiling ≤ 5000
   pub checks : checked (Record.Hour h) ≡ accepted tt
 
 pub stand-passed :
-    (tree : Outcome Figures) (first last ceiling : ℕ) (h : Hour) (stand : Stand) → standFor tree first last ceiling h ≡ accepted stand →
-    Passed tree first last ceiling h stand
+    (tree : Outcome Figures) (age : Age) (first last ceiling : ℕ) (h : Hour) (stand : Stand) → standFor tree age first last ceiling h ≡ accepted stand →
+    Passed tree age first last ceiling h stand
 unfolding standFor
-stand-passed (accepted f) first last ceiling h stand e =
-    let days = row-passed (daysOut f first last) _ _ stand e in
+stand-passed (accepted f) age first last ceiling h stand e =
+    let warm = row-passed (warmthBroken (age .warmth)) _ _ stand e in
+    let days = row-passed (daysOut f first last) _ _ stand (warm .1) in
     let within = row-passed (ceilingOut ceiling) _ _ stand (days .1) in
     let has = row-passed (lacksCeiling ceiling (h .ozone)) _ _ stand (within .1) in
     let range = onward-passed (hourChecked (soilUnfit (f .measure) (h .soil)) h) _ stand (has .1) in
     rw (← accepted-same (range .2))
     (record { named = refl; is = refl; within = ceiling-le ceiling (within .0); checks = fit-checked (f .measure) h (range .1) })
-stand-passed (refused w) first last ceiling h stand e = refused-not-accepted e
+stand-passed (refused w) age first last ceiling h stand e = refused-not-accepted e
 
 -- ---- an hour frame, read in the tree's measure, of a season whose header row 7 lets pass
 
@@ -154,11 +162,11 @@ own-measure Measure.Suction n = refl
 own-measure Measure.Water n = refl
 
 pub frame-stand :
-    (header : Header) (ceiling : ℕ) (f : Figures) (raw : RawHour) (tree : Outcome Figures) → tree ≡ accepted f →
+    (header : Header) (age : Age) (ceiling : ℕ) (f : Figures) (raw : RawHour) (tree : Outcome Figures) → tree ≡ accepted f → warmthBroken (age .warmth) ≡ false →
     periodOut header (f .f1 + f .f4) ≡ false → header .days ≤ 366 → ceilingOut ceiling ≡ false → lacksCeiling ceiling (ozoneOf (raw .ozone)) ≡ false →
     checked (Record.Hour (hourOf raw (f .measure))) ≡ accepted tt →
-    standFor tree (header .first) (header .last) ceiling (hourOf raw (f .measure)) ≡ accepted (standOf f (header .first) (header .last) ceiling)
+    standFor tree age (header .first) (header .last) ceiling (hourOf raw (f .measure)) ≡ accepted (standOf f age (header .first) (header .last) ceiling)
 unfolding hourOf
-frame-stand header ceiling f raw tree e period most within has passed =
-    stand-is _ (header .first) (header .last) ceiling _ f e (days-in header f period most) within has
+frame-stand header age ceiling f raw tree e warm period most within has passed =
+    stand-is _ age (header .first) (header .last) ceiling _ f e warm (days-in header f period most) within has
     (checked-fit (f .measure) _ (own-measure (f .measure) (raw .soil)) passed)

@@ -7,6 +7,7 @@ pub mod PairLaws
 pub mod BudgetLaws
 pub mod DeficitLaws
 pub mod OpeningLaws
+pub mod PhenologyLaws
 pub mod ShareLaws
 pub mod DecayTests
 pub mod DecayLaws

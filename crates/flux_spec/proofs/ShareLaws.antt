@@ -12,7 +12,6 @@ use Rattle.exact.proofs.FracLaws.{≼-refl, ≼-trans, ≼-antisym, ≈-le, ⊗
 use Rattle.exact.proofs.RoundingLaws.{times-down, times-up, product-down, product-up, over-gap, over-order, times-order, times-gap, timesDown-le, timesUp-le}
 use Rattle.trees.specs.declared.Figures.{Figures}
 use Rattle.trees.specs.Sound.{Sound}
-use Rattle.trees.proofs.FactorLaws.{phenology-limits}
 use Rattle.records.specs.declared.Hour.{Hour}
 use Rattle.humidity_spec.specs.Pair.{entryK}
 use Rattle.flux_spec.specs.declared.Stand.{Stand}
@@ -24,6 +23,7 @@ use Rattle.flux_spec.specs.Facts.{ShareFacts, HourFacts}
 use Rattle.flux_spec.proofs.BudgetLaws.{isSteep, widthIn, nearIn}
 use Rattle.flux_spec.proofs.ConcentrationLaws.{ozone-facts}
 use Rattle.flux_spec.proofs.LightLaws.{light-facts}
+use Rattle.flux_spec.proofs.PhenologyLaws.{phenologyIn-limits}
 use Rattle.flux_spec.proofs.OpeningLaws.{openingAt-le, openingAt-mono, opening-low, opening-high, opening-gap, opening-order, openingLow-le, openingUp-le}
 
 -- two numbers of 10⁻⁹, the greater ones at most 8 and so much above
@@ -45,8 +45,7 @@ module _ (stand : Stand) (s : Sound (stand .figures)) (h : Hour) where
   phen = phenologyIn stand h
 
   phen-le : phen ≼ natural 1
-  unfolding phenologyIn
-  phen-le = phenology-limits f s (stand .first) (stand .last) (h .day) (aboveOf (h .temperature)) .below
+  phen-le = phenologyIn-limits stand s h .below
 
   -- f_phen × f_light, in units of 10⁻⁹
   abbrev low : ℕ

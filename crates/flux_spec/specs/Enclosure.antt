@@ -19,6 +19,7 @@ use Rattle.records.specs.declared.Record.{Record}
 use Rattle.records.specs.Answers.{accepted}
 use Rattle.records.specs.Ozone.{isMissing, withOzone, Fills}
 use Rattle.records.specs.Ranges.{checked}
+use Rattle.flux_spec.specs.declared.Age.{Age}
 use Rattle.flux_spec.specs.declared.Stand.{Stand}
 use Rattle.flux_spec.specs.Dose.{fluxAt, doseAt, NotAbove, NotBelow}
 use Rattle.flux_spec.specs.Pair.{lowerOf, upperOf, hourPair}
@@ -84,12 +85,12 @@ pub record MeasuredLimited (f : Figures) : Type 0 where
   pub most : (air : Air) → mostDose (f .gmax) air ≤ 1500000
 
 -- what `hour_dose` answers with a pair: the hour's where it is counted, else 0 and 0
-pub record Answered (ps : Parameters) (tree first last ceiling : ℕ) (h : Hour) (pair : Bounds) : Type 0 where
+pub record Answered (ps : Parameters) (age : Age) (tree first last ceiling : ℕ) (h : Hour) (pair : Bounds) : Type 0 where
   pub figures : Figures
   pub named : treeOf ps tree ≡ accepted figures
-  pub is : pair ≡ addedPair (standOf figures first last ceiling) h
-  pub enclosed : HourEnclosed (standOf figures first last ceiling) h
-  pub filled : PairEnclosed (standOf figures first last ceiling) h
+  pub is : pair ≡ addedPair (standOf figures age first last ceiling) h
+  pub enclosed : HourEnclosed (standOf figures age first last ceiling) h
+  pub filled : PairEnclosed (standOf figures age first last ceiling) h
 
 pub record Enclosure : Type 0 where
   pub trees : (tree : ℕ) (f : Figures) → figuresOf tree ≡ Choice.Tree f → Limited f
@@ -97,5 +98,5 @@ pub record Enclosure : Type 0 where
   pub hour : (stand : Stand) → Sound (stand .figures) → (h : Hour) → checked (Record.Hour h) ≡ accepted tt → HourEnclosed stand h
   pub ozone : (stand : Stand) (h : Hour) → OzoneGrows stand h
   pub pair : (stand : Stand) → Sound (stand .figures) → stand .ceiling ≤ 5000 → (h : Hour) → checked (Record.Hour h) ≡ accepted tt → PairEnclosed stand h
-  pub answer : (ps : Parameters) (tree first last ceiling : ℕ) (h : Hour) (pair : Bounds) → hourDoseOf (treeOf ps tree) first last ceiling h ≡ accepted pair
-      → Answered ps tree first last ceiling h pair
+  pub answer : (ps : Parameters) (age : Age) (tree first last ceiling : ℕ) (h : Hour) (pair : Bounds) → hourDoseOf (treeOf ps tree) age first last ceiling h ≡ accepted pair
+      → Answered ps age tree first last ceiling h pair

@@ -1,5 +1,5 @@
--- What an hour adds to POD1, as two whole numbers; rows 24, 5, 7, 17, 18 and 10, in that order, for parameters of tree 7 that are out, a number that is no tree,
--- days that are no period, a ceiling out of range, a missing ozone with none and readings out of range.
+-- What an hour adds to POD1, as two whole numbers; rows 24, 5, 25, 7, 17, 18 and 10, in that order, for parameters of tree 7 that are out, a number that is no tree,
+-- warmth that is out, days that are no period, a ceiling out of range, a missing ozone with none and readings out of range.
 use Prim.Native.Nat.{ℕ, _+_}
 use mathlib.Core.Bool.{Bool, true, false, cond, _&&_, _||_}
 use lib.Dec.{eqb}
@@ -12,7 +12,8 @@ use Rattle.records.specs.declared.Soil.{Soil}
 use Rattle.records.specs.declared.Hour.{Hour}
 use Rattle.records.specs.Answers.{Outcome, accepted, refused, row, onward, rowOf}
 use Rattle.records.specs.Parameters.{parameterOut}
-use Rattle.records.specs.Ranges.{onTree, periodOut, soilOut, hourChecked, ceilingOut, lacksCeiling}
+use Rattle.records.specs.Ranges.{onTree, periodOut, soilOut, hourChecked, ceilingOut, warmthBroken, lacksCeiling}
+use Rattle.flux_spec.specs.declared.Age.{Age}
 use Rattle.flux_spec.specs.declared.Stand.{Stand}
 use Rattle.flux_spec.specs.declared.Dosed.{Dosed}
 use Rattle.flux_spec.specs.declared.Named.{Named}
@@ -27,9 +28,9 @@ abbrev pub namedAs : Named → Outcome Figures
 namedAs (Named.Tree f) = accepted f
 namedAs (Named.Refused r) = refused (rowOf r)
 
--- the tree's figures, the first and the last day of the period, the ozone ceiling
-abbrev pub standOf : Figures → ℕ → ℕ → ℕ → Stand
-standOf f first last ceiling = record { figures = f; first = first; last = last; ceiling = ceiling }
+-- the tree's figures, leaf age by warmth, the first and the last day of the period, the ozone ceiling
+abbrev pub standOf : Figures → Age → ℕ → ℕ → ℕ → Stand
+standOf f age first last ceiling = record { figures = f; age = age; first = first; last = last; ceiling = ceiling }
 
 -- row 7 where the year is not known: no year has more than 366 days
 abbrev pub daysOut : Figures → ℕ → ℕ → Bool
@@ -46,23 +47,24 @@ otherMeasure Measure.Water (Soil.Water n) = false
 abbrev pub soilUnfit : Measure → Soil → Bool
 soilUnfit measure soil = soilOut soil || otherMeasure measure soil
 
--- what the dose goes by besides the hour, out of the tree's figures, the first and the last day and the ceiling; row 10 names the first field out of
+-- what the dose goes by besides the hour, out of the tree's figures, leaf age, the first and the last day and the ceiling; row 10 names the first field out of
 -- range, and so is a soil in the other measure
-unfoldable pub standFor : Outcome Figures → ℕ → ℕ → ℕ → Hour → Outcome Stand
-standFor (accepted f) first last ceiling h =
-    row 7 (daysOut f first last)
+unfoldable pub standFor : Outcome Figures → Age → ℕ → ℕ → ℕ → Hour → Outcome Stand
+standFor (accepted f) age first last ceiling h =
+    row 25 (warmthBroken (age .warmth))
+    (row 7 (daysOut f first last)
     (row 17 (ceilingOut ceiling)
     (row 18 (lacksCeiling ceiling (h .ozone))
     (onward (hourChecked (soilUnfit (f .measure) (h .soil)) h) (λ _.
-    accepted (standOf f first last ceiling)))))
-standFor (refused w) first last ceiling h = refused w
+    accepted (standOf f age first last ceiling))))))
+standFor (refused w) age first last ceiling h = refused w
 
 -- an hour that is not counted adds nothing
 abbrev pub addedPair : Stand → Hour → Bounds
 addedPair stand h = cond (isCounted h) (hourPair stand h) (record { lower = 0; upper = 0 })
 
-unfoldable pub hourDoseOf : Outcome Figures → ℕ → ℕ → ℕ → Hour → Outcome Bounds
-hourDoseOf tree first last ceiling h = onward (standFor tree first last ceiling h) (λ stand. accepted (addedPair stand h))
+unfoldable pub hourDoseOf : Outcome Figures → Age → ℕ → ℕ → ℕ → Hour → Outcome Bounds
+hourDoseOf tree age first last ceiling h = onward (standFor tree age first last ceiling h) (λ stand. accepted (addedPair stand h))
 
 abbrev pub dosedAs : Dosed → Outcome Bounds
 dosedAs (Dosed.Pair pair) = accepted pair

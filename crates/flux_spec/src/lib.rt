@@ -2,10 +2,18 @@
 use exact::Bounds;
 use frames::Refusal;
 use trees::Figures;
+use trees::Warmth;
 
-// What an hour's dose goes by besides the hour: the tree's figures, the first and the last day of the period, the ozone ceiling (0: none).
+// Leaf age by warmth (W-213): its frame's sums (all 0: not fed, f_phen goes by the day), and the temperature sum of the earlier days, in tenths of a degree over hours.
+pub struct Age {
+    pub warmth: Warmth,
+    pub sum: u32,
+}
+
+// What an hour's dose goes by besides the hour: the tree's figures, leaf age, the first and the last day of the period, the ozone ceiling (0: none).
 pub struct Stand {
     pub figures: Figures,
+    pub age: Age,
     pub first: u16,
     pub last: u16,
     pub ceiling: u16,

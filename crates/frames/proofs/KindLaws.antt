@@ -105,6 +105,7 @@ pub data KindCase (b : ℕ) : Type 0 where
   end : b ≡ 3 → KindCase b
   ceiling : b ≡ 6 → KindCase b
   parameters : b ≡ 7 → KindCase b
+  warmth : b ≡ 8 → KindCase b
 
 pub kind-cases : (b : ℕ) → (1 ≤ b) × (b ≤ length kinds) → KindCase b
 kind-cases zero h = absurd (omega arith)
@@ -115,17 +116,19 @@ kind-cases (suc (suc (suc (suc zero)))) h = hour (withPressure refl)
 kind-cases (suc (suc (suc (suc (suc zero))))) h = hour (withHumidity refl)
 kind-cases (suc (suc (suc (suc (suc (suc zero)))))) h = ceiling refl
 kind-cases (suc (suc (suc (suc (suc (suc (suc zero))))))) h = parameters refl
-kind-cases (suc (suc (suc (suc (suc (suc (suc (suc b)))))))) h = absurd (omega arith)
+kind-cases (suc (suc (suc (suc (suc (suc (suc (suc zero)))))))) h = warmth refl
+kind-cases (suc (suc (suc (suc (suc (suc (suc (suc (suc b))))))))) h = absurd (omega arith)
 
 pub kind-other : (b : ℕ) → (KindCase b → ⊥) → 0 ≡ lengthOf b
 kind-other b none = kind-none b (λ h. ⊎-elim (λ le. absurd (none (kind-cases b (h, le)))) (λ past. past) (le-or-lt b (length kinds)))
 
-pub hour-left : (b : ℕ) → KindCase b → (b ≡ 1 → ⊥) → (b ≡ 3 → ⊥) → (b ≡ 6 → ⊥) → (b ≡ 7 → ⊥) → IsHour b
-hour-left b (header e) p q r s = absurd (p e)
-hour-left b (hour is) p q r s = is
-hour-left b (end e) p q r s = absurd (q e)
-hour-left b (ceiling e) p q r s = absurd (r e)
-hour-left b (parameters e) p q r s = absurd (s e)
+pub hour-left : (b : ℕ) → KindCase b → (b ≡ 1 → ⊥) → (b ≡ 3 → ⊥) → (b ≡ 6 → ⊥) → (b ≡ 7 → ⊥) → (b ≡ 8 → ⊥) → IsHour b
+hour-left b (header e) p q r s t = absurd (p e)
+hour-left b (hour is) p q r s t = is
+hour-left b (end e) p q r s t = absurd (q e)
+hour-left b (ceiling e) p q r s t = absurd (r e)
+hour-left b (parameters e) p q r s t = absurd (s e)
+hour-left b (warmth e) p q r s t = absurd (t e)
 
 pub deficit-left : (b : ℕ) → IsHour b → (b ≡ 4 → ⊥) → (b ≡ 5 → ⊥) → b ≡ 2
 deficit-left b (withDeficit e) p q = e

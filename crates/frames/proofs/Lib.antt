@@ -4,5 +4,6 @@ pub mod KindLaws
 pub mod FrameLaws
 pub mod RangeLaws
 pub mod TemperatureLaws
+pub mod ComplementLaws
 pub mod ReadLaws
 pub mod RowLaws

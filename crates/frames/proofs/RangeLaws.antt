@@ -1,5 +1,5 @@
--- A record that rows 5 to 8, 10, 17 and 24 let pass is in range.
-use Prim.Native.Nat.{ℕ, zero, suc, _≤_, _<_}
+-- A record that rows 5 to 8, 10, 17, 24 and 25 let pass is in range.
+use Prim.Native.Nat.{ℕ, zero, suc, _+_, _≤_, _<_}
 use mathlib.Core.Path.{_≡_, sym, _∙_}
 use mathlib.Core.Bool.{false, _||_}
 use mathlib.Core.Logic.{⊎-elim}
@@ -9,6 +9,7 @@ use lib.Dec.{ltb}
 use Rattle.exact.proofs.OrderLaws.{le-or-lt}
 use Rattle.trees.specs.declared.Figures.{Figures}
 use Rattle.trees.specs.declared.Choice.{Choice}
+use Rattle.trees.specs.declared.Warmth.{Warmth}
 use Rattle.trees.specs.Figures.{figuresOf}
 use Rattle.trees.specs.Sound.{Sound}
 use Rattle.measured.specs.declared.Parameters.{Parameters}
@@ -19,7 +20,7 @@ use Rattle.records.specs.Temperature.{temperatureOut}
 use Rattle.frames.specs.Layout.{vapourNumber, soilNumber}
 use Rattle.records.specs.Ozone.{tenthsOr}
 use Rattle.records.specs.Numbers.{isOutside}
-use Rattle.records.specs.Ranges.{ozoneOut, vapourOut, soilOut, pressureOut, periodOut, checked}
+use Rattle.records.specs.Ranges.{ozoneOut, vapourOut, soilOut, pressureOut, periodOut, warmthOut, checked}
 use Rattle.records.specs.Period.{periodHours}
 use Rattle.records.specs.declared.Header.{Header}
 use Rattle.records.specs.declared.Ozone.{Ozone}
@@ -67,12 +68,17 @@ pub record HourIn (h : Hour) : Type 0 where
   pub soil : soilNumber (h .soil) ≤ 10000
   pub pressure : PressureIn (h .air)
 
+pub record WarmthIn (w : Warmth) : Type 0 where
+  pub ramps : w .rise + w .fall ≤ w .end
+  pub end : Inside 1 5000 (w .end)
+
 abbrev pub InRange : Record → Type 0
 InRange (Record.Header h) = HeaderIn h
 InRange (Record.Hour h) = HourIn h
 InRange (Record.End e) = Unit
 InRange (Record.Ceiling c) = Inside 1 5000 (c .ozone)
 InRange (Record.Parameters p) = Sound (measuredFigures p)
+InRange (Record.Warmth w) = WarmthIn w
 
 ozone-le : (o : Ozone) → ozoneOut o ≡ false → tenthsOr 0 o ≤ 5000
 ozone-le (Tenths n) e = ltb-false 5000 n e
@@ -161,6 +167,15 @@ ceiling-passed : (c : Ceiling) → checked (Record.Ceiling c) ≡ accepted tt �
 unfolding checked
 ceiling-passed c e = inside-is 1 5000 (c .ozone) (row-passed (isOutside 1 5000 (c .ozone)) _ _ tt e .0)
 
+pub warmth-in : (w : Warmth) → warmthOut w ≡ false → WarmthIn w
+warmth-in w e =
+    let p = or-neither (ltb (w .end) (w .rise + w .fall)) _ e in
+    record { ramps = ltb-false (w .end) (w .rise + w .fall) (p .0); end = inside-is 1 5000 (w .end) (p .1) }
+
+warmth-passed : (w : Warmth) → checked (Record.Warmth w) ≡ accepted tt → WarmthIn w
+unfolding checked
+warmth-passed w e = warmth-in w (row-passed (warmthOut w) _ _ tt e .0)
+
 -- a period has the hours of a year at most
 pub period-le : (h : Header) → checked (Record.Header h) ≡ accepted tt → periodHours h ≤ 8784
 period-le h e = let range = header-passed h e in omega arith
@@ -171,3 +186,4 @@ checked-passed (Record.Hour h) e = hour-passed h e
 checked-passed (Record.End end) e = tt
 checked-passed (Record.Ceiling c) e = ceiling-passed c e
 checked-passed (Record.Parameters p) e = parameters-sound p (parameters-passed p e)
+checked-passed (Record.Warmth w) e = warmth-passed w e

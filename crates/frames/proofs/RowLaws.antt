@@ -1,4 +1,4 @@
--- The reader answers rows 1 to 3, 5 to 8, 10, 17 and 24 and no other.
+-- The reader answers rows 1 to 3, 5 to 8, 10, 17, 24 and 25 and no other.
 use Prim.Native.Nat.{ℕ}
 use mathlib.Core.Path.{_≡_, refl, sym, subst}
 use mathlib.Core.Bool.{Bool, true, false, cond, _&&_, or-true}
@@ -16,7 +16,7 @@ use Rattle.frames.specs.Kinds.{among, isLength, lengthOf}
 use Rattle.records.specs.Temperature.{temperatureOut}
 use Rattle.records.specs.Numbers.{isOutside}
 use Rattle.records.specs.Parameters.{parameterOut}
-use Rattle.records.specs.Ranges.{onTree, periodOut, ozoneOut, vapourOut, soilOut, pressureOut, checked}
+use Rattle.records.specs.Ranges.{onTree, periodOut, ozoneOut, vapourOut, soilOut, pressureOut, warmthOut, checked}
 use Rattle.frames.specs.Frames.{parsedOf, soundOf, recordOf, readFrameOf}
 use Rattle.frames.specs.Rows.{oneOf, readerRows, ReaderRows}
 use Rattle.records.specs.declared.Raw.{Raw}
@@ -62,7 +62,7 @@ only-wider {rows = rows} {more = more} all o = record {
 field-in : (rows : List ℕ) (f : ℕ) → within 1 8 f ≡ true → oneOf rows 10 f ≡ true
 field-in rows f e = rw e (or-true (among rows 10 && eqb f 0))
 
--- rows 5 to 8, 17 and 24 are in the list
+-- rows 5 to 8, 17, 24 and 25 are in the list
 pub record Ranged (rows : List ℕ) : Type 0 where
   pub tree : oneOf rows 5 0 ≡ true
   pub year : oneOf rows 6 0 ≡ true
@@ -70,6 +70,7 @@ pub record Ranged (rows : List ℕ) : Type 0 where
   pub level : oneOf rows 8 0 ≡ true
   pub ceiling : oneOf rows 17 0 ≡ true
   pub parameter : oneOf rows 24 0 ≡ true
+  pub warmth : oneOf rows 25 0 ≡ true
 
 pub checked-only : {rows : List ℕ} → Ranged rows → (r : Record) → Only rows (checked r)
 unfolding checked
@@ -92,12 +93,13 @@ checked-only {rows} a (Record.Hour h) =
 checked-only a (Record.End e) = accepted-only _
 checked-only a (Record.Ceiling c) = row-only (isOutside 1 5000 (c .ozone)) _ _ _ (a .ceiling) (accepted-only _)
 checked-only a (Record.Parameters p) = row-only (parameterOut p) _ _ _ (a .parameter) (accepted-only _)
+checked-only a (Record.Warmth w) = row-only (warmthOut w) _ _ _ (a .warmth) (accepted-only _)
 
 -- ---- the reader
 
 read-ranged : Ranged readerRows
 unfolding among
-read-ranged = record { tree = refl; year = refl; period = refl; level = refl; ceiling = refl; parameter = refl }
+read-ranged = record { tree = refl; year = refl; period = refl; level = refl; ceiling = refl; parameter = refl; warmth = refl }
 
 module _ (l : List ℕ) where
   by-kind : isLength (length l) ≡ true → allDigits l ≡ true → (t : Bool) → eqb (lengthOf (byteAt 0 l)) (length l) ≡ t → Only readerRows (parsedOf l)
@@ -129,6 +131,7 @@ record-only tree (Raw.Hour raw) = onTree-only (figuresIn noParameters tree) _ re
 record-only tree (Raw.End e) = sound-only (Record.End e)
 record-only tree (Raw.Ceiling c) = sound-only (Record.Ceiling c)
 record-only tree (Raw.Parameters p) = sound-only (Record.Parameters p)
+record-only tree (Raw.Warmth w) = sound-only (Record.Warmth w)
 
 read-only : (tree : ℕ) (l : List ℕ) → Only readerRows (readFrameOf tree l)
 unfolding readFrameOf

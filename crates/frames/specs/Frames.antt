@@ -32,6 +32,7 @@ recordOf tree (Raw.Hour raw) = onTree (figuresIn noParameters tree) (λ f. sound
 recordOf tree (Raw.End e) = soundOf (Record.End e)
 recordOf tree (Raw.Ceiling c) = soundOf (Record.Ceiling c)
 recordOf tree (Raw.Parameters p) = soundOf (Record.Parameters p)
+recordOf tree (Raw.Warmth w) = soundOf (Record.Warmth w)
 
 unfoldable pub readFrameOf : ℕ → List ℕ → Outcome Record
 readFrameOf tree l = onward (parsedOf l) (recordOf tree)

@@ -37,9 +37,13 @@ ceilingWidths = two ∷ []
 abbrev parameterWidths : List Width
 parameterWidths = two ∷ two ∷ two ∷ two ∷ two ∷ two ∷ two ∷ two ∷ two ∷ two ∷ two ∷ two ∷ two ∷ two ∷ two ∷ two ∷ []
 
+-- 08: rise, fall and end of leaf age by warmth (W-213)
+abbrev warmthWidths : List Width
+warmthWidths = two ∷ two ∷ two ∷ []
+
 -- the table, from kind 01 on: the widths of the fields that follow the kind's byte
 abbrev pub kinds : List (List Width)
-kinds = headerWidths ∷ hourWidths ∷ endWidths ∷ pressureWidths ∷ humidityWidths ∷ ceilingWidths ∷ parameterWidths ∷ []
+kinds = headerWidths ∷ hourWidths ∷ endWidths ∷ pressureWidths ∷ humidityWidths ∷ ceilingWidths ∷ parameterWidths ∷ warmthWidths ∷ []
 
 -- the widths of a kind's fields, none where there is no such kind
 abbrev pub widthsOf : ℕ → List Width

@@ -15,7 +15,7 @@ oneOf rows n f = among rows n && eqb f 0 || eqb n 10 && within 1 8 f
 
 -- the rows that refuse a line read alone, row 10 besides
 abbrev pub readerRows : List ℕ
-readerRows = 1 ∷ 2 ∷ 3 ∷ 5 ∷ 6 ∷ 7 ∷ 8 ∷ 17 ∷ 24 ∷ []
+readerRows = 1 ∷ 2 ∷ 3 ∷ 5 ∷ 6 ∷ 7 ∷ 8 ∷ 17 ∷ 24 ∷ 25 ∷ []
 
 -- the reader answers no other row
 pub record ReaderRows : Type 0 where

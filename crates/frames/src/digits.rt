@@ -1,5 +1,6 @@
 // Capital hexadecimal digits, and the numbers that two and four of them say, high byte first.
 use crate::widths::BYTE;
+use crate::widths::HourLine;
 use crate::widths::LONGEST;
 ghost use mathlib.Core.Path.{_≡_};
 ghost use Prim.Native.Nat.{_+_, _≤_};
@@ -29,9 +30,9 @@ pub(crate) struct Line {
     pub values: [u8; LONGEST],
 }
 
-// No way out at a byte that is no digit: with no branch the bytes are read many at a time.
-pub(crate) fn line_of(s: &[u8]) -> Line
-    requires { ⌜ length (now s) ≤ longest ⌝ }
+// A line of n characters. No way out at a byte that is no digit: with no branch the bytes are read many at a time.
+fn line_of_length(s: &[u8], n: usize) -> Line
+    requires { ⌜ (n ≡ length (now s)) × (n ≤ longest) ⌝ }
     ensures digits { λ r. ⌜ r .digits ≡ allDigits (now (s .entry)) ⌝ }
     ensures values { λ r. ⌜ Values (r .values) ⌝ }
     ensures says { λ r. ⌜ (allDigits (now (s .entry)) ≡ true → Says (r .values) (now (s .entry))) ⌝ }
@@ -39,7 +40,7 @@ pub(crate) fn line_of(s: &[u8]) -> Line
     let mut digits = true;
     let mut values = [0; LONGEST];
     let mut i = 0;
-    while i < s.len() {
+    while i < n {
         digits = digits & is_digit(s[i]);
         values[i] = value(s[i]);
         i += 1;
@@ -48,6 +49,19 @@ pub(crate) fn line_of(s: &[u8]) -> Line
         digits: digits,
         values: values,
     }
+}
+
+// An hour line's length is a constant to the compiler, which then writes its loop out.
+pub(crate) fn line_of(s: &[u8]) -> Line
+    requires { ⌜ length (now s) ≤ longest ⌝ }
+    ensures digits { λ r. ⌜ r .digits ≡ allDigits (now (s .entry)) ⌝ }
+    ensures values { λ r. ⌜ Values (r .values) ⌝ }
+    ensures says { λ r. ⌜ (allDigits (now (s .entry)) ≡ true → Says (r .values) (now (s .entry))) ⌝ }
+{
+    if s.len() == HourLine::DIGITS {
+        return line_of_length(s, HourLine::DIGITS);
+    }
+    line_of_length(s, s.len())
 }
 
 pub(crate) fn byte_at(values: &[u8], at: usize) -> u8

@@ -6,6 +6,7 @@ use crate::widths::HourLine;
 use crate::widths::KINDS;
 use crate::widths::ParameterLine;
 use crate::widths::PressureLine;
+use crate::widths::WarmthLine;
 ghost use mathlib.Core.Path.{_≡_};
 ghost use Rattle.frames.specs.Kinds.{isLength, lengthOf};
 
@@ -21,6 +22,7 @@ pub(crate) fn length_of(kind: u8) -> usize
         5 => HourLine::DIGITS,
         6 => CeilingLine::DIGITS,
         7 => ParameterLine::DIGITS,
+        8 => WarmthLine::DIGITS,
         _ => 0,
     }
 }

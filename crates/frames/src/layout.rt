@@ -9,6 +9,7 @@ use crate::Parameters;
 use crate::Raw;
 use crate::RawHour;
 use crate::Soil;
+use crate::Warmth;
 use crate::digits::byte_at;
 use crate::digits::number_at;
 use crate::temperature;
@@ -19,11 +20,13 @@ use crate::widths::HourLine;
 use crate::widths::KIND;
 use crate::widths::ParameterLine;
 use crate::widths::PressureLine;
+use crate::widths::WarmthLine;
 use trees::Measure;
 ghost use mathlib.Core.Path.{_≡_};
 ghost use mathlib.Core.List.{List};
 ghost use Prim.Native.Nat.{ℕ};
 ghost use Rattle.measured.specs.Parameters.{parametersOf};
+ghost use Rattle.measured.specs.Warmth.{warmthOf};
 ghost use Rattle.frames.specs.Steps.{Values, Says, IsHour, Makes, Sized};
 ghost use Rattle.frames.specs.Layout.{ozoneNumber, ozoneOf, vapourNumber, soilNumber, headerOf, airOf, rawHourOf, endOf, ceilingOf, frameAt, airKind, soilOf, hourOf};
 
@@ -116,6 +119,17 @@ fn parameters_at(values: &[u8]) -> Parameters
     }
 }
 
+fn warmth_at(values: &[u8]) -> Warmth
+    requires { ⌜ Values (now values) ⌝ }
+    ensures { λ r. ⌜ Makes (now (values .entry)) 8 r warmthOf ⌝ }
+{
+    Warmth {
+        rise: number_at(values, WarmthLine::RISE),
+        fall: number_at(values, WarmthLine::FALL),
+        end: number_at(values, WarmthLine::END),
+    }
+}
+
 // The frame of a line that rows 1 to 3 let pass, by its kind. One call of `hour_at` for every kind of hour: called once it costs no call.
 pub(crate) fn frame_at(values: &[u8]) -> Raw
     requires { ⌜ Values (now values) ⌝ }
@@ -127,6 +141,7 @@ pub(crate) fn frame_at(values: &[u8]) -> Raw
         3 => Raw::End(end_at(values)),
         6 => Raw::Ceiling(ceiling_at(values)),
         7 => Raw::Parameters(parameters_at(values)),
+        8 => Raw::Warmth(warmth_at(values)),
         _ => Raw::Hour(hour_at(kind, values)),
     }
 }

@@ -1,5 +1,5 @@
 // Frames (document 01, "Frames"): a line of capital hexadecimal digits, and the record that it says.
-// A line goes to a frame (rows 1 to 3), a frame to a record (rows 5 to 8, 10, 17 and 24). The crate `writer` has the way back.
+// A line goes to a frame (rows 1 to 3), a frame to a record (rows 5 to 8, 10, 17, 24 and 25). The crate `writer` has the way back.
 mod digits;
 mod kinds;
 mod layout;
@@ -26,9 +26,11 @@ pub use records::RawHour;
 pub use records::Record;
 pub use records::Refusal;
 pub use records::Soil;
+pub use records::Warmth;
 pub use records::Written;
 pub use records::check;
 pub use records::row_of;
+pub use temperature::complement;
 pub use temperature::signed;
 use trees::Choice;
 ghost use mathlib.Core.Path.{_≡_};
@@ -76,7 +78,7 @@ fn answered(record: Record, answer: Checked) -> Decoded
 fn hour_record(tree: u8, raw: RawHour) -> Decoded
     ensures { λ r. ⌜ decodedAs r ≡ recordOf tree (Raw.Hour raw) ⌝ }
 {
-    let Choice::Tree(f) = measured::figures_in(measured::no_parameters(), tree) else {
+    let Choice::Tree(f) = measured::figures_before(tree) else {
         return Decoded::Refused(Refusal::Tree);
     };
     let measure = f.measure;
@@ -98,6 +100,7 @@ pub fn record_of(tree: u8, frame: Raw) -> Decoded
         Raw::End(e) => Decoded::Read(Record::End(e)),
         Raw::Ceiling(c) => answered(Record::Ceiling(c), records::check_ceiling(c)),
         Raw::Parameters(p) => answered(Record::Parameters(p), records::check_parameters(p)),
+        Raw::Warmth(w) => answered(Record::Warmth(w), records::check_warmth(w)),
     }
 }
 

@@ -120,7 +120,20 @@ impl ParameterLine {
     pub const DIGITS: usize = ParameterLine::Y + NUMBER;
 }
 
+// 08 | rise 2 | fall 2 | end 2
+pub struct WarmthLine;
+
+impl WarmthLine {
+    pub const RISE: usize = FIELDS;
+
+    pub const FALL: usize = WarmthLine::RISE + NUMBER;
+
+    pub const END: usize = WarmthLine::FALL + NUMBER;
+
+    pub const DIGITS: usize = WarmthLine::END + NUMBER;
+}
+
 // The number of kinds, and the digits of the longest lines.
-pub const KINDS: u8 = 7;
+pub const KINDS: u8 = 8;
 
 pub const LONGEST: usize = ParameterLine::DIGITS;

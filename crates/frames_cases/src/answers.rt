@@ -1,7 +1,7 @@
 // Answers and records as words, each after a space; and an answer as one character.
 use crate::text::print_next;
-use crate::text::print_signed;
 use cases::print;
+use cases::print_signed;
 use frames::Air;
 use frames::Decoded;
 use frames::Hour;
@@ -120,6 +120,12 @@ pub(crate) fn print_record(record: Record) {
             print_next(c.ozone);
         },
         Record::Parameters(p) => print_parameters(p),
+        Record::Warmth(w) => {
+            print_next(8);
+            print_next(w.rise);
+            print_next(w.fall);
+            print_next(w.end);
+        },
     }
 }
 
@@ -132,7 +138,7 @@ pub(crate) fn print_reading(tree: u8, line: &[u8]) {
     }
 }
 
-// `.` for a line that is read, else `1` to `8` for the row, `A` for row 17, `H` for row 24, `a` to `h` for row 10 with field 1 to 8.
+// `.` for a line that is read, else `1` to `8` for the row, `A` for row 17, `H` for row 24, `I` for row 25, `a` to `h` for row 10 with field 1 to 8.
 pub(crate) fn mark(decoded: Decoded) -> u8 {
     match decoded {
         Decoded::Read(_) => b'.',

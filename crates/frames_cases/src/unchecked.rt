@@ -45,5 +45,6 @@ pub(crate) fn record_of(tree: u8, numeric: bool, raw: Raw) -> Record {
         Raw::End(e) => Record::End(e),
         Raw::Ceiling(c) => Record::Ceiling(c),
         Raw::Parameters(p) => Record::Parameters(p),
+        Raw::Warmth(w) => Record::Warmth(w),
     }
 }

@@ -7,7 +7,21 @@ use trees::Measure;
 ghost use mathlib.Core.Path.{_≡_};
 ghost use Rattle.measured.specs.Parameters.{noParameters};
 ghost use Rattle.measured.specs.Figures.{figuresIn};
-ghost use Rattle.list_spec.specs.Alike.{measureNumber, isAlike};
+ghost use Rattle.records.specs.Numbers.{sameNumbers};
+ghost use Rattle.list_spec.specs.Alike.{measureNumber, commonNumbers};
+ghost use Rattle.list.specs.Steps.{commonAs};
+
+// The eight numbers by which accounts are compared.
+pub(crate) struct Common {
+    pub(crate) days: u16,
+    pub(crate) first: u16,
+    pub(crate) last: u16,
+    pub(crate) hours: u16,
+    pub(crate) ceiling: u16,
+    pub(crate) phase: u8,
+    pub(crate) kind: u8,
+    pub(crate) measure: u8,
+}
 
 // The number of a tree's soil measure, 0 where it is no tree.
 fn measure_number(tree: u8) -> u8
@@ -23,25 +37,35 @@ fn measure_number(tree: u8) -> u8
     }
 }
 
-pub(crate) fn alike(a: Account, b: Account) -> bool
-    ensures { λ r. ⌜ r ≡ isAlike a b ⌝ }
+pub(crate) fn common_numbers(a: Account) -> Common
+    ensures { λ r. ⌜ commonAs r ≡ commonNumbers a ⌝ }
 {
     let phase = a.phase;
-    let other_phase = b.phase;
     let season = a.season;
-    let other_season = b.season;
     let header = season.header;
-    let other_header = other_season.header;
     let kind = a.kind;
-    let other_kind = b.kind;
     let sums = a.sums;
-    let other_sums = b.sums;
-    (header.days == other_header.days)
-        & (header.first == other_header.first)
-        & (header.last == other_header.last)
-        & (sums.hours == other_sums.hours)
-        & (phase_number(phase) == phase_number(other_phase))
-        & (season.ceiling == other_season.ceiling)
-        & (kind_number(kind) == kind_number(other_kind))
-        & (measure_number(header.tree) == measure_number(other_header.tree))
+    Common {
+        days: header.days,
+        first: header.first,
+        last: header.last,
+        hours: sums.hours,
+        ceiling: season.ceiling,
+        phase: phase_number(phase),
+        kind: kind_number(kind),
+        measure: measure_number(header.tree),
+    }
+}
+
+pub(crate) fn alike(a: Common, b: Common) -> bool
+    ensures { λ r. ⌜ r ≡ sameNumbers (commonAs a) (commonAs b) ⌝ }
+{
+    (a.days == b.days)
+        & (a.first == b.first)
+        & (a.last == b.last)
+        & (a.hours == b.hours)
+        & (a.phase == b.phase)
+        & (a.ceiling == b.ceiling)
+        & (a.kind == b.kind)
+        & (a.measure == b.measure)
 }

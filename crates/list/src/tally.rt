@@ -1,24 +1,25 @@
 // What is known of a list of accounts and a line after some of them are seen, and the answer once all are.
+use crate::alike::Common;
 use crate::alike::alike;
+use crate::alike::common_numbers;
 use account::Account;
-use frames::Checked;
+use frames::Decoded;
 use frames::Parsed;
 use frames::Refusal;
 use list_spec::FedAll;
 ghost use mathlib.Core.Path.{_≡_};
-ghost use Rattle.records.specs.Answers.{parsedAs, checkedAs};
+ghost use Rattle.records.specs.Answers.{parsedAs, decodedAs};
 ghost use Rattle.list_spec.specs.Feeding.{fedAllAs};
-ghost use Rattle.list_spec.specs.Steps.{triedBy};
-ghost use Rattle.list.specs.Steps.{fedBy, talliedAs, startOf, firstOf, seenOf, settledOf};
+ghost use Rattle.list.specs.Steps.{commonAs, talliedAs, startOf, firstCommon, oneLine, nextLine, lineOf, seenOf, settledOf};
 
-// Rows 22, 13 and 23, the first account where one was seen, and the first one's answer that refuses the line.
+// Rows 22, 13 and 23, the first account's numbers where one was seen, and the record that all seen so far take, or the first refusal.
 pub(crate) struct Tally {
     outside: bool,
     impossible: bool,
     unlike: bool,
     empty: bool,
-    first: Account,
-    line: Checked,
+    first: Common,
+    pub(crate) line: Decoded,
 }
 
 pub(crate) fn start(n: usize) -> Tally
@@ -29,46 +30,80 @@ pub(crate) fn start(n: usize) -> Tally
         impossible: false,
         unlike: false,
         empty: true,
-        first: account::fresh(),
-        line: Checked::Sound,
+        first: Common {
+            days: 0,
+            first: 0,
+            last: 0,
+            hours: 0,
+            ceiling: 0,
+            phase: 0,
+            kind: 0,
+            measure: 0,
+        },
+        line: Decoded::Refused(Refusal::ListSize),
     }
 }
 
-// The account that the others are compared with.
-fn first_of(seen: Tally, account: Account) -> Account
-    ensures { λ r. ⌜ r ≡ firstOf (talliedAs seen) account ⌝ }
+// The numbers that an account's are compared with: the first one's.
+fn first_of(seen: Tally, own: Common) -> Common
+    ensures { λ r. ⌜ commonAs r ≡ firstCommon (talliedAs seen) (commonAs own) ⌝ }
 {
     if seen.empty {
-        return account;
+        return own;
     }
     seen.first
 }
 
-// The answer so far to a line, after one more account is asked. The dose is not worked out.
-fn line_after(line: Checked, account: Account, parsed: Parsed) -> Checked
-    ensures { λ r. ⌜ checkedAs r ≡ triedBy (fedBy (parsedAs parsed)) (checkedAs line) account ⌝ }
+// What the first account makes of a line.
+fn first_line(account: Account, parsed: Parsed) -> Decoded
+    ensures { λ r. ⌜ decodedAs r ≡ oneLine (parsedAs parsed) account ⌝ }
+{
+    match parsed {
+        Parsed::Frame(frame) => account::decoded(account, frame),
+        Parsed::Refused(refusal) => Decoded::Refused(refusal),
+    }
+}
+
+// What a further account does. It is alike to the first, or row 23 answers: only its turn is its own.
+fn next_line(line: Decoded, account: Account, parsed: Parsed) -> Decoded
+    ensures { λ r. ⌜ decodedAs r ≡ nextLine (parsedAs parsed) (decodedAs line) account ⌝ }
 {
     match line {
-        Checked::Refused(_) => line,
-        Checked::Sound => match parsed {
-            Parsed::Frame(frame) => account::answer_to(account, frame),
-            Parsed::Refused(refusal) => Checked::Refused(account::refused_by(account, refusal)),
+        Decoded::Refused(_) => line,
+        Decoded::Read(_) => match parsed {
+            Parsed::Frame(frame) => {
+                if account::out_of_turn(account, frame) {
+                    return Decoded::Refused(Refusal::Turn);
+                }
+                line
+            },
+            Parsed::Refused(_) => line,
         },
     }
+}
+
+fn line_after(seen: Tally, account: Account, parsed: Parsed) -> Decoded
+    ensures { λ r. ⌜ decodedAs r ≡ lineOf (parsedAs parsed) (talliedAs seen) account ⌝ }
+{
+    if seen.empty {
+        return first_line(account, parsed);
+    }
+    let line = seen.line;
+    next_line(line, account, parsed)
 }
 
 pub(crate) fn tried(seen: Tally, account: Account, parsed: Parsed) -> Tally
     ensures { λ r. ⌜ talliedAs r ≡ seenOf (parsedAs parsed) (talliedAs seen) account ⌝ }
 {
-    let first = first_of(seen, account);
-    let line = seen.line;
+    let own = common_numbers(account);
+    let first = first_of(seen, own);
     Tally {
         outside: seen.outside,
         impossible: seen.impossible | account_read::impossible(account),
-        unlike: seen.unlike | !alike(first, account),
+        unlike: seen.unlike | !alike(first, own),
         empty: false,
         first: first,
-        line: line_after(line, account, parsed),
+        line: line_after(seen, account, parsed),
     }
 }
 
@@ -87,7 +122,7 @@ pub(crate) fn answer(seen: Tally) -> FedAll
     }
     let line = seen.line;
     match line {
-        Checked::Sound => FedAll::Accepted,
-        Checked::Refused(refusal) => FedAll::Refused(refusal),
+        Decoded::Read(_) => FedAll::Accepted,
+        Decoded::Refused(refusal) => FedAll::Refused(refusal),
     }
 }

@@ -11,7 +11,7 @@ use Rattle.account_spec.specs.declared.Account.{Account}
 use Rattle.list_spec.specs.Alike.{commonNumbers, isAlike, anyUnlike, unlike}
 use Rattle.list_spec.specs.Promise.{In}
 
-alike-common : (a b : Account) → isAlike a b ≡ true → commonNumbers a ≡ commonNumbers b
+pub alike-common : (a b : Account) → isAlike a b ≡ true → commonNumbers a ≡ commonNumbers b
 unfolding isAlike
 alike-common a b e = numbers-equal (commonNumbers a) (commonNumbers b) e
 

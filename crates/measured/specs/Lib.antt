@@ -1,3 +1,4 @@
 pub mod Parameters
+pub mod Warmth
 pub mod Figures
 pub mod Facts

@@ -1,13 +1,15 @@
-// A laboratory's own tree (document 02, W-212): the parameters that its frame brings, and the figures that they make.
+// A laboratory's own tree (document 02, W-212 and W-213): the parameters that its frame brings, the figures that they make, and leaf age by warmth.
 use power::Reduced;
 use trees::Choice;
 use trees::Figures;
 use trees::Measure;
 use trees::Phenology;
 use trees::Source;
+use trees::Warmth;
 ghost use mathlib.Core.Path.{_≡_};
 ghost use Rattle.trees.specs.Figures.{choiceRow};
 ghost use Rattle.measured.specs.Parameters.{noParameters, isFed, degreesOf};
+ghost use Rattle.measured.specs.Warmth.{noWarmth, hasWarmth};
 ghost use Rattle.measured.specs.Figures.{pIn, qIn, powersIn, measuredFigures, figuresIn, numberRow};
 ghost use Rattle.measured.specs.Facts.{MeasuredFacts};
 
@@ -80,6 +82,24 @@ pub fn is_fed(p: Parameters) -> bool
         & (p.y == 0))
 }
 
+// Leaf age of a season whose frame of kind 08 was not fed.
+pub fn no_warmth() -> Warmth
+    ensures { λ r. ⌜ r ≡ noWarmth ⌝ }
+{
+    Warmth {
+        rise: 0,
+        fall: 0,
+        end: 0,
+    }
+}
+
+// Some number is not 0.
+pub fn has_warmth(w: Warmth) -> bool
+    ensures { λ r. ⌜ r ≡ hasWarmth w ⌝ }
+{
+    !((w.rise == 0) & (w.fall == 0) & (w.end == 0))
+}
+
 // Whole degrees above -50 °C, out of two bytes in two's complement.
 pub fn degrees(n: u16) -> u16
     ensures { λ r. ⌜ r ≡ degreesOf n ⌝ }
@@ -112,12 +132,11 @@ fn q_in(powers: Reduced) -> u16
     }
 }
 
-// The figures that parameters make.
-pub fn figures(p: Parameters) -> Figures
+// The figures that parameters make, their powers given.
+fn figures_by(p: Parameters, found: Reduced) -> Figures
+    requires { ⌜ found ≡ powersIn p ⌝ }
     ensures { λ r. ⌜ r ≡ measuredFigures p ⌝ }
-    ensures facts { λ _. ⌜ MeasuredFacts ⌝ }
 {
-    let found = powers(p);
     Figures {
         gmax: p.gmax,
         fmin: p.fmin,
@@ -141,6 +160,24 @@ pub fn figures(p: Parameters) -> Figures
         f4: p.f4,
         y: p.y,
     }
+}
+
+// The figures that parameters make.
+pub fn figures(p: Parameters) -> Figures
+    ensures { λ r. ⌜ r ≡ measuredFigures p ⌝ }
+    ensures facts { λ _. ⌜ MeasuredFacts ⌝ }
+{
+    figures_by(p, powers(p))
+}
+
+// The figures of the tree with a number, 1 to 7; those of tree 7 before its parameters are fed. No powers are worked out, so that the compiler writes it out.
+pub fn figures_before(tree: u8) -> Choice
+    ensures { λ r. ⌜ r ≡ figuresIn noParameters tree ⌝ }
+{
+    if tree == MEASURED {
+        return Choice::Tree(figures_by(no_parameters(), Reduced::None));
+    }
+    trees::figures_of(tree)
 }
 
 // The figures of the tree with a number, 1 to 7; those of tree 7 by its parameters.

@@ -1,6 +1,7 @@
 // Calls of the library for C: feeding lines, the hour's pair, and what accounts and a feed take of the stack.
 use account::Account;
 use account::Fed;
+use flux::Age;
 use flux::Dosed;
 use frames::Air;
 use frames::Hour;
@@ -58,11 +59,13 @@ fn one_hour(a: Account) -> Account {
     let phase = a.phase;
     let season = a.season;
     let kind = a.kind;
+    let carried = a.carried;
     Account {
         phase,
         season,
         kind,
         sums,
+        carried,
     }
 }
 
@@ -128,6 +131,12 @@ fn both(dosed: Dosed) -> u64 {
     }
 }
 
+// Leaf age where no frame of warmth stands.
+fn by_day() -> Age {
+    let warmth = measured::no_warmth();
+    Age { warmth, sum: 0 }
+}
+
 // The sum of both numbers of every hour's pair.
 #[no_mangle]
 pub extern "C" fn pairs(
@@ -148,7 +157,15 @@ pub extern "C" fn pairs(
         let h = hour_of(tree, kind, &fields[9 * i..], temperatures[i]);
         sum = std::num::wrapping_add_u64(
             sum,
-            both(flux::hour_dose(tree, measured::no_parameters(), first, last, ceiling, h)),
+            both(flux::hour_dose(
+                tree,
+                measured::no_parameters(),
+                by_day(),
+                first,
+                last,
+                ceiling,
+                h,
+            )),
         );
         i += 1;
     }

@@ -1,8 +1,9 @@
--- A header by the first of rows 5 to 8 that refuses it, a ceiling by row 17, parameters by row 24.
+-- A header by the first of rows 5 to 8 that refuses it, a ceiling by row 17, parameters by row 24, warmth by row 25.
 use mathlib.Core.Path.{_≡_}
 use mathlib.Core.Bool.{true, false}
 use Rattle.trees.specs.declared.Figures.{Figures}
 use Rattle.trees.specs.declared.Choice.{Choice}
+use Rattle.trees.specs.declared.Warmth.{Warmth}
 use Rattle.trees.specs.Figures.{rampDays}
 use Rattle.measured.specs.declared.Parameters.{Parameters}
 use Rattle.measured.specs.Parameters.{noParameters}
@@ -10,7 +11,7 @@ use Rattle.measured.specs.Figures.{figuresIn}
 use Rattle.records.specs.Answers.{accepted, refused}
 use Rattle.records.specs.Numbers.{isOutside}
 use Rattle.records.specs.Parameters.{parameterOut}
-use Rattle.records.specs.Ranges.{periodOut, checked}
+use Rattle.records.specs.Ranges.{periodOut, warmthOut, checked}
 use Rattle.records.specs.declared.Header.{Header}
 use Rattle.records.specs.declared.Ceiling.{Ceiling}
 use Rattle.records.specs.declared.Record.{Record}
@@ -56,3 +57,12 @@ module _ (p : Parameters) where
   pub parameters-in : parameterOut p ≡ false → accepted tt ≡ checked (Record.Parameters p)
   unfolding checked
   parameters-in e = rw e
+
+module _ (w : Warmth) where
+  pub warmth-out : warmthOut w ≡ true → refused (25, 0) ≡ checked (Record.Warmth w)
+  unfolding checked
+  warmth-out e = rw e
+
+  pub warmth-in : warmthOut w ≡ false → accepted tt ≡ checked (Record.Warmth w)
+  unfolding checked
+  warmth-in e = rw e

@@ -4,7 +4,7 @@ use mathlib.Core.Bool.{Bool, cond}
 use Rattle.records.specs.declared.Raw.{Raw}
 use Rattle.records.specs.declared.Record.{Record}
 use Rattle.records.specs.declared.Refusal.{Refusal}
-use Rattle.records.specs.declared.Refusal.the-variants.{Length, Digit, Kind, Turn, Tree, Year, Period, Level, Due, Range, Count, Buffer, Account, Place, Mixed, Tried, Ceiling, NoCeiling, Unlike, Days, Scratch, ListSize, UnlikeAccounts, Parameter, Float}
+use Rattle.records.specs.declared.Refusal.the-variants.{Length, Digit, Kind, Turn, Tree, Year, Period, Level, Due, Range, Count, Buffer, Account, Place, Mixed, Tried, Ceiling, NoCeiling, Unlike, Days, Scratch, ListSize, UnlikeAccounts, Parameter, Warmth, Float}
 use Rattle.records.specs.declared.Parsed.{Parsed}
 use Rattle.records.specs.declared.Checked.{Checked}
 use Rattle.records.specs.declared.Decoded.{Decoded}
@@ -59,6 +59,7 @@ rowOf Scratch = (21, 0)
 rowOf ListSize = (22, 0)
 rowOf UnlikeAccounts = (23, 0)
 rowOf Parameter = (24, 0)
+rowOf Warmth = (25, 0)
 rowOf (Float f) = (26, f)
 
 abbrev pub parsedAs : Parsed → Outcome Raw

@@ -1,12 +1,14 @@
--- The rows that a record meets by itself (document 01, "Turned-back lines"): 5 to 8 for a header, 10 for an hour, 17 for a ceiling, 24 for parameters; and row 18.
+-- The rows that a record meets by itself (document 01, "Turned-back lines"): 5 to 8 for a header, 10 for an hour, 17 for a ceiling, 24 for parameters, 25 for warmth; and row 18.
 use Prim.Native.Nat.{ℕ, _+_, _-_}
 use mathlib.Core.Bool.{Bool, false, not, _&&_, _||_}
 use lib.Dec.{eqb, ltb}
 use Rattle.trees.specs.declared.Figures.{Figures}
 use Rattle.trees.specs.declared.Choice.{Choice}
+use Rattle.trees.specs.declared.Warmth.{Warmth}
 use Rattle.trees.specs.Figures.{rampDays}
 use Rattle.measured.specs.declared.Parameters.{Parameters}
 use Rattle.measured.specs.Parameters.{noParameters}
+use Rattle.measured.specs.Warmth.{hasWarmth}
 use Rattle.measured.specs.Figures.{figuresIn}
 use Rattle.records.specs.Numbers.{isOutside}
 use Rattle.records.specs.Parameters.{parameterOut}
@@ -67,6 +69,10 @@ hourChecked unfit h =
     (field 8 (pressureOut (h .air))
     (accepted tt))))))))
 
+-- row 25: rise plus fall above end, or end not 1 to 5000 (W-213)
+abbrev pub warmthOut : Warmth → Bool
+warmthOut w = ltb (w .end) (w .rise + w .fall) || isOutside 1 5000 (w .end)
+
 -- a header of tree 7 has no ramps: they come with its parameters (W-212)
 unfoldable pub checked : Record → Outcome Unit
 checked (Record.Header h) =
@@ -79,6 +85,7 @@ checked (Record.Hour h) = hourChecked (soilOut (h .soil)) h
 checked (Record.End e) = accepted tt
 checked (Record.Ceiling c) = row 17 (isOutside 1 5000 (c .ozone)) (accepted tt)
 checked (Record.Parameters p) = row 24 (parameterOut p) (accepted tt)
+checked (Record.Warmth w) = row 25 (warmthOut w) (accepted tt)
 
 -- row 7 of a measured tree's ramps, tested where they come (W-212)
 abbrev pub rampsOut : Header → Parameters → Bool
@@ -87,6 +94,10 @@ rampsOut h p = periodOut h (p .f1 + p .f4)
 -- row 17 refuses a season's ceiling, which is 0 where none was fed (W-207)
 abbrev pub ceilingOut : ℕ → Bool
 ceilingOut ceiling = not (eqb ceiling 0) && isOutside 1 5000 ceiling
+
+-- row 25 refuses a season's warmth, which is all 0 where none was fed (W-213)
+abbrev pub warmthBroken : Warmth → Bool
+warmthBroken w = hasWarmth w && warmthOut w
 
 -- row 18: ozone missing, and no ceiling (W-207)
 abbrev pub lacksCeiling : ℕ → Ozone → Bool

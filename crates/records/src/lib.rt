@@ -12,11 +12,16 @@ pub use ranges::check_ceiling;
 pub use ranges::check_header;
 pub use ranges::check_hour;
 pub use ranges::check_parameters;
+pub use ranges::check_warmth;
 pub use ranges::lacks_ceiling;
 pub use ranges::outside;
 pub use ranges::parameters_out;
 pub use ranges::ramps_out;
 pub use ranges::soil_out;
+pub use ranges::temperature_out;
+pub use ranges::warmth_broken;
+pub use ranges::warmth_out;
+pub use trees::Warmth;
 ghost use mathlib.Core.Path.{_≡_};
 ghost use Rattle.records.specs.Answers.{rowOf, checkedAs};
 ghost use Rattle.records.specs.Ranges.{checked};
@@ -81,6 +86,7 @@ pub enum Record {
     End(End),
     Ceiling(Ceiling),
     Parameters(Parameters),
+    Warmth(Warmth),
 }
 
 // The numbers of an hour frame as they stand in its line: ozone with FFFF for none, temperature in two's complement, soil in the measure of a tree not yet named.
@@ -103,6 +109,7 @@ pub enum Raw {
     End(End),
     Ceiling(Ceiling),
     Parameters(Parameters),
+    Warmth(Warmth),
 }
 
 // Why a call is refused: a case for each row, document 01's 1 to 13 and the requests' from 14 on, in that order. Range and Float name the field, 1 to 8.
@@ -132,6 +139,7 @@ pub enum Refusal {
     ListSize,
     UnlikeAccounts,
     Parameter,
+    Warmth,
     Float(u8),
 }
 
@@ -188,11 +196,12 @@ pub fn row_of(refusal: Refusal) -> u8
         Refusal::ListSize => 22,
         Refusal::UnlikeAccounts => 23,
         Refusal::Parameter => 24,
+        Refusal::Warmth => 25,
         Refusal::Float(_) => 26,
     }
 }
 
-// A record's own rows: 5 to 8 for a header, 10 for an hour, 17 for a ceiling, 24 for parameters.
+// A record's own rows: 5 to 8 for a header, 10 for an hour, 17 for a ceiling, 24 for parameters, 25 for warmth.
 pub fn check(record: Record) -> Checked
     ensures { λ r. ⌜ checkedAs r ≡ checked «record» ⌝ }
 {
@@ -205,5 +214,6 @@ pub fn check(record: Record) -> Checked
         Record::End(_) => Checked::Sound,
         Record::Ceiling(c) => check_ceiling(c),
         Record::Parameters(p) => check_parameters(p),
+        Record::Warmth(w) => check_warmth(w),
     }
 }

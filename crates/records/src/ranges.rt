@@ -1,4 +1,4 @@
-// The rows that a record meets by itself: 5 to 8 for a header, 10 with its first field out of range for an hour, 17 for a ceiling, 24 for parameters; and row 18.
+// The rows that a record meets by itself: 5 to 8 for a header, 10 with its first field out of range for an hour, 17 for a ceiling, 24 for parameters, 25 for warmth; and row 18.
 use crate::Air;
 use crate::Ceiling;
 use crate::Checked;
@@ -8,11 +8,12 @@ use crate::Ozone;
 use crate::Parameters;
 use crate::Refusal;
 use crate::Soil;
+use crate::Warmth;
 use power::Reduced;
 use trees::Choice;
 ghost use mathlib.Core.Path.{_≡_};
 ghost use Rattle.records.specs.Answers.{checkedAs};
-ghost use Rattle.records.specs.Ranges.{periodOut, rampsOut, ozoneOut, vapourOut, soilOut, pressureOut, hourChecked, checked, ceilingOut, lacksCeiling};
+ghost use Rattle.records.specs.Ranges.{periodOut, rampsOut, ozoneOut, vapourOut, soilOut, pressureOut, hourChecked, checked, ceilingOut, warmthOut, warmthBroken, lacksCeiling};
 ghost use Rattle.records.specs.Numbers.{isOutside};
 ghost use Rattle.records.specs.Parameters.{pairOut, isNone, temperaturesOut, parameterOut};
 ghost use Rattle.records.specs.Temperature.{temperatureOut};
@@ -45,7 +46,7 @@ fn period_out(h: Header, ramps: u32) -> bool
 pub fn check_header(h: Header) -> Checked
     ensures { λ r. ⌜ checkedAs r ≡ checked (Record.Header h) ⌝ }
 {
-    let Choice::Tree(f) = measured::figures_in(measured::no_parameters(), h.tree) else {
+    let Choice::Tree(f) = measured::figures_before(h.tree) else {
         return Checked::Refused(Refusal::Tree);
     };
     if outside(365, 366, h.days) {
@@ -60,7 +61,8 @@ pub fn check_header(h: Header) -> Checked
     Checked::Sound
 }
 
-fn temperature_out(t: i16) -> bool
+// Field 4.
+pub fn temperature_out(t: i16) -> bool
     ensures { λ r. ⌜ r ≡ temperatureOut t ⌝ }
 {
     if t < -500 {
@@ -244,4 +246,33 @@ pub fn ramps_out(h: Header, p: Parameters) -> bool
     ensures { λ r. ⌜ r ≡ rampsOut h p ⌝ }
 {
     period_out(h, (p.f1 as u32) + (p.f4 as u32))
+}
+
+// Row 25: rise plus fall above end, or end not 1 to 5000.
+pub fn warmth_out(w: Warmth) -> bool
+    ensures { λ r. ⌜ r ≡ warmthOut w ⌝ }
+{
+    if (w.end as u32) < (w.rise as u32) + (w.fall as u32) {
+        return true;
+    }
+    outside(1, 5000, w.end)
+}
+
+pub fn check_warmth(w: Warmth) -> Checked
+    ensures { λ r. ⌜ checkedAs r ≡ checked (Record.Warmth w) ⌝ }
+{
+    if warmth_out(w) {
+        return Checked::Refused(Refusal::Warmth);
+    }
+    Checked::Sound
+}
+
+// Row 25 refuses a season's warmth, which is all 0 where none was fed.
+pub fn warmth_broken(w: Warmth) -> bool
+    ensures { λ r. ⌜ r ≡ warmthBroken w ⌝ }
+{
+    if measured::has_warmth(w) {
+        return warmth_out(w);
+    }
+    false
 }

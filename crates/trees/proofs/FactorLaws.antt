@@ -1,5 +1,5 @@
 -- For any sound figures f_SW and f_phen lie between their limits; f_SW has its stated values at "max" and "min", falls with suction and rises with water.
-use Prim.Native.Nat.{ℕ, _-_, _≤_, _<_}
+use Prim.Native.Nat.{ℕ, _-_, _*_, _≤_, _<_}
 use mathlib.Core.Path.{_≡_, refl}
 use native.Mathlib.Omega.{arith}
 use lib.Dec.{ltb, leb}
@@ -8,10 +8,11 @@ use Rattle.trees.specs.declared.Measure.the-variants.{Suction, Water}
 use Rattle.trees.specs.declared.Phenology.{Phenology}
 use Rattle.trees.specs.declared.Phenology.the-variants.{Ramps, Dip, Temperature}
 use Rattle.trees.specs.declared.Figures.{Figures}
+use Rattle.trees.specs.declared.Warmth.{Warmth}
 use Rattle.trees.specs.Sound.{Sound, SoilSound}
 use Rattle.trees.specs.Deficit.{falling}
 use Rattle.trees.specs.SoilWater.{drier, soilWaterOf}
-use Rattle.trees.specs.Phenology.{byRamps, byDip, byTemperature, phenologyOf}
+use Rattle.trees.specs.Phenology.{byRamps, byDip, byTemperature, phenologyOf, byWarmth}
 use Rattle.trees.specs.Temperature.{inside}
 use Rattle.trees.proofs.PhenologyLaws.{phenology-ramps, phenology-dip, phenology-temperature}
 use Rattle.exact.specs.Frac.{_over_, natural, straight, _≼_, _≈_, Between}
@@ -108,3 +109,14 @@ module _ (f : Figures) (sound : Sound f) where
   pub phenology-limits : (first last day temperature : ℕ) → Between (natural 0) (natural 1) (phenologyOf f first last day temperature)
   phenology-limits first last day temperature =
       record { above = omega arith; below = by-kind-le (f .phenology) refl first last day temperature }
+
+  warmth-le : (w : Warmth) (sum : ℕ) → byWarmth f w sum ≼ natural 1
+  unfolding byWarmth
+  warmth-le w sum =
+      cond-le (ltb (240 * w .end) sum) (omega arith)
+      (cond-le (ltb (240 * w .end - sum) (240 * w .fall))
+      (line-le (f .e) 100 (240 * w .end - sum) (240 * w .fall) (sound .e) (omega arith))
+      (line-le (f .a) 100 sum (240 * w .rise) (sound .a) (omega arith)))
+
+  pub warmth-limits : (w : Warmth) (sum : ℕ) → Between (natural 0) (natural 1) (byWarmth f w sum)
+  warmth-limits w sum = record { above = omega arith; below = warmth-le w sum }

@@ -6,9 +6,10 @@ use native.Mathlib.Nat.{eq-or-lt-of-le}
 use native.Mathlib.Omega.{arith}
 use Rattle.trees.specs.declared.Phenology.the-variants.{Ramps, Dip}
 use Rattle.trees.specs.declared.Figures.{Figures}
+use Rattle.trees.specs.declared.Warmth.{Warmth}
 use Rattle.trees.specs.Sound.{Sound}
-use Rattle.trees.specs.Phenology.{byRamps, byDip, phenologyOf}
-use Rattle.trees.specs.Facts.{RampFacts, DipFacts, PhenologyFacts, TemperatureFacts, DeficitFacts, SoilWaterFacts, FactorFacts}
+use Rattle.trees.specs.Phenology.{byRamps, byDip, phenologyOf, byWarmth}
+use Rattle.trees.specs.Facts.{RampFacts, DipFacts, PhenologyFacts, WarmthFacts, TemperatureFacts, DeficitFacts, SoilWaterFacts, FactorFacts}
 use Rattle.trees.proofs.PhenologyLaws.{
   ramps-falling,
   ramps-rising,
@@ -22,6 +23,9 @@ use Rattle.trees.proofs.PhenologyLaws.{
   phenology-ramps,
   phenology-dip,
   phenology-temperature,
+  warmth-past,
+  warmth-falling,
+  warmth-rising,
 }
 use Rattle.trees.proofs.FactorLaws.{
   soilWater-limits,
@@ -30,6 +34,7 @@ use Rattle.trees.proofs.FactorLaws.{
   suction-anti,
   water-mono,
   phenology-limits,
+  warmth-limits,
 }
 use Rattle.trees.proofs.DeficitLaws.{deficit-limits, deficit-max, deficit-min, deficit-anti, deficit-near}
 use Rattle.trees.proofs.TemperatureLaws.{
@@ -43,6 +48,7 @@ use Rattle.trees.proofs.TemperatureLaws.{
   temperaturePair-gap,
 }
 use Rattle.exact.specs.Frac.{_over_, natural, straight, _≈_}
+use Rattle.exact.proofs.OrderLaws.{le-or-lt}
 use Rattle.exact.proofs.FracLaws.{≼-antisym, straight-start, straight-end}
 
 -- ---- f_phen by ramps
@@ -78,6 +84,35 @@ dip-rises day p q =
     (λ l. ⊎-elim (λ e. rw (← e) (omega arith)) (λ m. rw (dip-rising day m l) (omega arith)) (eq-or-lt-of-le p))
     (eq-or-lt-of-le q)
 
+-- ---- f_phen by warmth
+
+module _ (f : Figures) (w : Warmth) where
+  warmth-before : w .rise + w .fall ≤ w .end → (sum : ℕ) → sum ≤ 240 * w .rise → byWarmth f w sum ≡ straight (f .a) 100 sum (240 * w .rise)
+  warmth-before fits sum p = warmth-rising f w sum (omega arith) (omega arith)
+
+  warmth-first : w .rise + w .fall ≤ w .end → 0 < w .rise → byWarmth f w 0 ≈ f .a over 100
+  warmth-first fits h = rw (warmth-before fits 0 (omega arith)) (straight-start (f .a) 100 (240 * w .rise) (omega arith))
+
+  warmth-between : (sum : ℕ) → 240 * w .rise ≤ sum → sum + 240 * w .fall ≤ 240 * w .end → byWarmth f w sum ≈ natural 1
+  warmth-between sum p q =
+      rw (warmth-rising f w sum (omega arith) (omega arith), straight-end (f .a) 100 sum (240 * w .rise) p) (omega arith)
+
+  -- where the fall begins f_phen is 1, and so is the line
+  warmth-falls :
+      w .rise + w .fall ≤ w .end → (sum : ℕ) → 240 * w .end ≤ sum + 240 * w .fall → sum ≤ 240 * w .end →
+      byWarmth f w sum ≈ straight (f .e) 100 (240 * w .end - sum) (240 * w .fall)
+  warmth-falls fits sum p q =
+      ⊎-elim
+      (λ h. let one = warmth-between sum (omega arith) (omega arith) in
+      rw (straight-end (f .e) 100 (240 * w .end - sum) (240 * w .fall) (omega arith)) (omega arith))
+      (λ l. rw (warmth-falling f w sum q l) (omega arith))
+      (le-or-lt (240 * w .fall) (240 * w .end - sum))
+
+  warmth-last : 0 < w .fall → byWarmth f w (240 * w .end) ≈ f .e over 100
+  warmth-last h =
+      let none : 240 * w .end - 240 * w .end ≡ 0 = omega arith in
+      rw (warmth-falling f w (240 * w .end) (omega arith) (omega arith), none) (straight-start (f .e) 100 (240 * w .fall) (omega arith))
+
 -- ---- the four factors
 
 module _ (f : Figures) (s : Sound f) where
@@ -108,6 +143,17 @@ module _ (f : Figures) (s : Sound f) where
     cold = λ e first last day x h. rw (phenology-temperature f first last day x e, temperature-outside (f .tmin) (f .tmax) x h) (omega arith);
   }
 
+  warmth-facts : (w : Warmth) → WarmthFacts f w
+  warmth-facts w = record {
+    limits = warmth-limits f s w;
+    past = λ sum p. rw (warmth-past f w sum p) (omega arith);
+    starts = warmth-first f w;
+    rising = λ fits sum p. rw (warmth-before f w fits sum p) (omega arith);
+    between = warmth-between f w;
+    falling = warmth-falls f w;
+    ends = warmth-last f w;
+  }
+
   temperature-facts : TemperatureFacts f
   temperature-facts = record {
     limits = λ k x. record { above = temperatureAt-above f s x k; below = temperatureAt-le f s x k };
@@ -136,4 +182,10 @@ module _ (f : Figures) (s : Sound f) where
   }
 
 pub factor-facts : FactorFacts
-factor-facts = record { phenology = phenology-facts; temperature = temperature-facts; deficit = deficit-facts; soilWater = soilWater-facts }
+factor-facts = record {
+  phenology = phenology-facts;
+  warmth = warmth-facts;
+  temperature = temperature-facts;
+  deficit = deficit-facts;
+  soilWater = soilWater-facts;
+}

@@ -5,7 +5,8 @@ use native.Mathlib.Omega.{arith}
 use borrow.Author.Tests.{lt-ltb, le-ltb, le-leb, lt-leb}
 use Rattle.trees.specs.declared.Phenology.the-variants.{Ramps, Dip, Temperature}
 use Rattle.trees.specs.declared.Figures.{Figures}
-use Rattle.trees.specs.Phenology.{byRamps, byDip, byTemperature, phenologyOf}
+use Rattle.trees.specs.declared.Warmth.{Warmth}
+use Rattle.trees.specs.Phenology.{byRamps, byDip, byTemperature, phenologyOf, byWarmth}
 use Rattle.trees.proofs.TemperatureLookup.{inside-true, inside-false}
 use Rattle.exact.specs.Frac.{_over_, natural, straight}
 
@@ -62,3 +63,19 @@ module _ (f : Figures) (first last day temperature : ℕ) where
   pub phenology-temperature : f .phenology ≡ Temperature → phenologyOf f first last day temperature ≡ byTemperature (f .tmin) (f .tmax) temperature
   unfolding phenologyOf
   phenology-temperature e = rw e
+
+-- ---- f_phen by warmth
+
+module _ (f : Figures) (w : Warmth) (sum : ℕ) where
+  pub warmth-past : 240 * w .end < sum → byWarmth f w sum ≡ natural 0
+  unfolding byWarmth
+  warmth-past h = rw (lt-ltb (240 * w .end) sum h)
+
+  pub warmth-falling :
+      sum ≤ 240 * w .end → 240 * w .end - sum < 240 * w .fall → byWarmth f w sum ≡ straight (f .e) 100 (240 * w .end - sum) (240 * w .fall)
+  unfolding byWarmth
+  warmth-falling h l = simp (le-ltb (240 * w .end) sum h, lt-ltb (240 * w .end - sum) (240 * w .fall) l)
+
+  pub warmth-rising : sum ≤ 240 * w .end → 240 * w .fall ≤ 240 * w .end - sum → byWarmth f w sum ≡ straight (f .a) 100 sum (240 * w .rise)
+  unfolding byWarmth
+  warmth-rising h l = simp (le-ltb (240 * w .end) sum h, le-ltb (240 * w .end - sum) (240 * w .fall) l)

@@ -1,5 +1,6 @@
--- The denominators of f_SW and f_phen as they are worked out are at most 1,000,000, for any sound figures, and that of f_VPD so many times the deficit's own.
-use Prim.Native.Nat.{ℕ, _-_, _*_, _^_, _≤_}
+-- The denominators of f_SW and f_phen as they are worked out are at most 1,000,000, for any sound figures, that of f_phen by warmth 2·10⁹, and that of
+-- f_VPD so many times the deficit's own.
+use Prim.Native.Nat.{ℕ, _-_, _*_, _^_, _≤_, _<_}
 use mathlib.Core.Path.{_≡_, refl}
 use mathlib.Core.Bool.{Bool, true, false, cond}
 use mathlib.Core.Logic.{⊎-elim}
@@ -12,14 +13,22 @@ use Rattle.trees.specs.declared.Measure.the-variants.{Suction, Water}
 use Rattle.trees.specs.declared.Phenology.{Phenology}
 use Rattle.trees.specs.declared.Phenology.the-variants.{Ramps, Dip, Temperature}
 use Rattle.trees.specs.declared.Figures.{Figures}
+use Rattle.trees.specs.declared.Warmth.{Warmth}
 use Rattle.trees.specs.Sound.{Sound, SoilSound}
 use Rattle.trees.specs.Deficit.{falling, deficitOf}
 use Rattle.trees.specs.SoilWater.{drier, soilWaterOf}
-use Rattle.trees.specs.Phenology.{byRamps, byDip, byTemperature, phenologyOf}
+use Rattle.trees.specs.Phenology.{byRamps, byDip, byTemperature, phenologyOf, byWarmth}
 use Rattle.trees.specs.Temperature.{inside}
 use Rattle.exact.proofs.OrderLaws.{le-or-lt}
 use Rattle.exact.proofs.FracLaws.{straight-along, straight-end}
-use Rattle.trees.proofs.PhenologyLaws.{phenology-ramps, phenology-dip, phenology-temperature}
+use Rattle.trees.proofs.PhenologyLaws.{
+  phenology-ramps,
+  phenology-dip,
+  phenology-temperature,
+  warmth-past,
+  warmth-falling,
+  warmth-rising,
+}
 
 pub record Small (x : Frac) : Type 0 where
   pub den : x .den ≤ 10 ^ 6
@@ -79,3 +88,13 @@ module _ (f : Figures) (sound : Sound f) where
 
   pub phenology-small : (first last day temperature : ℕ) → Small (phenologyOf f first last day temperature)
   phenology-small first last day temperature = by-kind-small (f .phenology) refl first last day temperature
+
+  -- 100 · 240 · 65535 is under 2·10⁹
+  pub warmth-den : (w : Warmth) (sum : ℕ) → w .rise < 65536 → w .fall < 65536 → byWarmth f w sum .den ≤ 2 * 10 ^ 9
+  warmth-den w sum p q =
+      ⊎-elim (λ h. ⊎-elim
+      (λ g. rw (warmth-rising f w sum h g) (straight-den (f .a) 100 sum (240 * w .rise) (2 * 10 ^ 9) (omega arith) (omega arith)))
+      (λ g. rw (warmth-falling f w sum h g) (straight-den (f .e) 100 (240 * w .end - sum) (240 * w .fall) (2 * 10 ^ 9) (omega arith) (omega arith)))
+      (le-or-lt (240 * w .fall) (240 * w .end - sum)))
+      (λ g. rw (warmth-past f w sum g) (omega arith))
+      (le-or-lt sum (240 * w .end))

@@ -5,11 +5,12 @@ use mathlib.Core.Path.{_≡_}
 use Rattle.trees.specs.declared.Measure.the-variants.{Suction, Water}
 use Rattle.trees.specs.declared.Phenology.the-variants.{Ramps, Dip, Temperature}
 use Rattle.trees.specs.declared.Figures.{Figures}
+use Rattle.trees.specs.declared.Warmth.{Warmth}
 use Rattle.trees.specs.Sound.{Sound}
 use Rattle.trees.specs.Temperature.{temperatureAt, temperaturePair}
 use Rattle.trees.specs.Deficit.{deficitOf}
 use Rattle.trees.specs.SoilWater.{soilWaterOf}
-use Rattle.trees.specs.Phenology.{phenologyOf}
+use Rattle.trees.specs.Phenology.{phenologyOf, byWarmth}
 use Rattle.exact.specs.Frac.{Frac, _over_, natural, _⊕_, _⊗_, straight, _≼_, _≈_, Between}
 
 -- ---- f_phen, as a function of the day
@@ -47,6 +48,25 @@ pub record PhenologyFacts (f : Figures) : Type 0 where
   -- else 0
   pub cold :
       f .phenology ≡ Temperature → (first last day x : ℕ) → (10 * f .tmin < x → 10 * f .tmax ≤ x) → phenologyOf f first last day x ≈ natural 0
+
+-- ---- f_phen, as a function of a temperature sum in tenths of a degree over hours, 240 of which are a °C day (W-213)
+
+pub record WarmthFacts (f : Figures) (w : Warmth) : Type 0 where
+  -- 0 to 1
+  pub limits : (sum : ℕ) → Between (natural 0) (natural 1) (byWarmth f w sum)
+  -- past `end` 0
+  pub past : (sum : ℕ) → 240 * w .end < sum → byWarmth f w sum ≈ natural 0
+  -- the rest where row 25 lets the three pass
+  -- a at 0, where there is a rise, and straight to 1
+  pub starts : w .rise + w .fall ≤ w .end → 0 < w .rise → byWarmth f w 0 ≈ f .a over 100
+  pub rising : w .rise + w .fall ≤ w .end → (sum : ℕ) → sum ≤ 240 * w .rise → byWarmth f w sum ≈ straight (f .a) 100 sum (240 * w .rise)
+  -- 1 from `rise` to `end` less `fall`, both included: a rise or a fall of 0 is none
+  pub between : (sum : ℕ) → 240 * w .rise ≤ sum → sum + 240 * w .fall ≤ 240 * w .end → byWarmth f w sum ≈ natural 1
+  -- straight to e, at `end`, where there is a fall
+  pub falling :
+      w .rise + w .fall ≤ w .end → (sum : ℕ) → 240 * w .end ≤ sum + 240 * w .fall → sum ≤ 240 * w .end →
+      byWarmth f w sum ≈ straight (f .e) 100 (240 * w .end - sum) (240 * w .fall)
+  pub ends : 0 < w .fall → byWarmth f w (240 * w .end) ≈ f .e over 100
 
 -- ---- f_temp
 
@@ -101,6 +121,7 @@ pub record SoilWaterFacts (f : Figures) : Type 0 where
 
 pub record FactorFacts : Type 0 where
   pub phenology : (f : Figures) → Sound f → PhenologyFacts f
+  pub warmth : (f : Figures) → Sound f → (w : Warmth) → WarmthFacts f w
   pub temperature : (f : Figures) → Sound f → TemperatureFacts f
   pub deficit : (f : Figures) → Sound f → DeficitFacts f
   pub soilWater : (f : Figures) → Sound f → SoilWaterFacts f

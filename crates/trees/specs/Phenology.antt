@@ -1,10 +1,11 @@
--- f_phen (document 01, "Factors"): by ramps, by the evergreen dip, or by temperature (tree 3).
-use Prim.Native.Nat.{ℕ, _-_}
+-- f_phen (document 01, "Factors"): by ramps, by the evergreen dip, or by temperature (tree 3); by a temperature sum (document 02, W-213).
+use Prim.Native.Nat.{ℕ, _-_, _*_}
 use mathlib.Core.Bool.{cond}
 use lib.Dec.{ltb, leb}
 use Rattle.trees.specs.declared.Phenology.{Phenology}
 use Rattle.trees.specs.declared.Phenology.the-variants.{Ramps, Dip, Temperature}
 use Rattle.trees.specs.declared.Figures.{Figures}
+use Rattle.trees.specs.declared.Warmth.{Warmth}
 use Rattle.trees.specs.Temperature.{inside}
 use Rattle.exact.specs.Frac.{Frac, _over_, natural, straight}
 
@@ -36,3 +37,13 @@ byKind Temperature f first last day temperature = byTemperature (f .tmin) (f .tm
 -- with the first and the last day of the period
 unfoldable pub phenologyOf : Figures → ℕ → ℕ → ℕ → ℕ → Frac
 phenologyOf f first last day temperature = byKind (f .phenology) f first last day temperature
+
+-- at a temperature sum in tenths of a degree over hours, 240 of which are a °C day: a at 0, rising straight to 1 at `rise`, 1 to `end` less `fall`, falling straight to
+-- e at `end`, past that 0; a rise or a fall of 0 is none
+unfoldable pub byWarmth : Figures → Warmth → ℕ → Frac
+byWarmth f w sum =
+    let end = 240 * w .end in
+    let fall = 240 * w .fall in
+    cond (ltb end sum) (natural 0)
+    (cond (ltb (end - sum) fall) (straight (f .e) 100 (end - sum) fall)
+    (straight (f .a) 100 sum (240 * w .rise)))

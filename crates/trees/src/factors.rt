@@ -12,7 +12,7 @@ ghost use Rattle.trees.specs.Facts.{FactorFacts};
 ghost use Rattle.trees.specs.SoilWater.{drier, soilWaterOf};
 
 // The straight line from one percentage to another, d of s steps along it; past its end, and where it has no step, its end.
-fn line(from: u16, to: u16, d: u64, s: u64) -> Fraction
+pub(crate) fn line(from: u16, to: u16, d: u64, s: u64) -> Fraction
     requires { ⌜ s ≤ 65535 * 4294967295 ⌝ }
     ensures { λ r. ⌜ Is r (straight from to d s) ⌝ }
 {

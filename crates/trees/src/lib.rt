@@ -68,6 +68,13 @@ pub struct Figures {
     pub y: u16,
 }
 
+// Leaf age by warmth (W-213): the temperature sums, in °C days, within which f_phen rises, within which it falls, and at which it ends; all 0 where none was fed.
+pub struct Warmth {
+    pub rise: u16,
+    pub fall: u16,
+    pub end: u16,
+}
+
 // A vapour pressure deficit lies from lower/den to upper/den, in Pa; a den of 0 is read as 1.
 pub struct Deficits {
     pub lower: u64,

@@ -1,11 +1,12 @@
 // The factor f_phen (document 01, "Factors"), by the tree's kind of phenology.
 use crate::Figures;
 use crate::Phenology;
+use crate::Warmth;
 use crate::factors;
 use exact::Fraction;
 ghost use Rattle.exact.specs.Frac.{Is};
 ghost use Rattle.trees.specs.Facts.{FactorFacts};
-ghost use Rattle.trees.specs.Phenology.{byRamps, byDip, byTemperature, phenologyOf};
+ghost use Rattle.trees.specs.Phenology.{byRamps, byDip, byTemperature, phenologyOf, byWarmth};
 
 fn by_ramps(f: Figures, first: u16, last: u16, day: u16) -> Fraction
     ensures { λ r. ⌜ Is r (byRamps f first last day) ⌝ }
@@ -52,4 +53,25 @@ pub fn f_phen(f: Figures, first: u16, last: u16, day: u16, temperature: u16) -> 
         Phenology::Dip => by_dip(day),
         Phenology::Temperature => by_temperature(f.tmin, f.tmax, temperature),
     }
+}
+
+// The temperature sum of a °C day, in tenths of a degree over hours.
+const DEGREE_DAY: u64 = 240;
+
+// f_phen at a temperature sum, in tenths of a degree over hours (W-213).
+pub fn f_phen_by_warmth(f: Figures, warmth: Warmth, sum: u32) -> Fraction
+    ensures { λ r. ⌜ Is r (byWarmth f warmth sum) ⌝ }
+    ensures facts { λ _. ⌜ FactorFacts ⌝ }
+{
+    let reached = sum as u64;
+    let end = DEGREE_DAY * (warmth.end as u64);
+    if end < reached {
+        return Fraction { num: 0, den: 1 };
+    }
+    let left = end - reached;
+    let fall = DEGREE_DAY * (warmth.fall as u64);
+    if left < fall {
+        return factors::line(f.e, 100, left, fall);
+    }
+    factors::line(f.a, 100, reached, DEGREE_DAY * (warmth.rise as u64))
 }

@@ -1,14 +1,17 @@
 // When two accounts are the same: in every field, each nested one too (row 16).
 use account::Account;
+use account::Carried;
 use account::Season;
 use account::Sums;
 use account::kind_number;
 use account::phase_number;
 use frames::Parameters;
+use frames::Warmth;
 ghost use mathlib.Core.Path.{_≡_};
 ghost use Rattle.records.specs.Numbers.{sameNumbers};
 ghost use Rattle.measured.specs.Parameters.{parameterNumbers};
-ghost use Rattle.account_spec.specs.Account.{seasonNumbers, sumsNumbers};
+ghost use Rattle.measured.specs.Warmth.{warmthNumbers};
+ghost use Rattle.account_spec.specs.Account.{seasonNumbers, sumsNumbers, carriedNumbers};
 ghost use Rattle.trial_spec.specs.Same.{isSame};
 
 fn same_parameters(a: Parameters, b: Parameters) -> bool
@@ -32,6 +35,12 @@ fn same_parameters(a: Parameters, b: Parameters) -> bool
         & (a.y == b.y)
 }
 
+fn same_warmth(a: Warmth, b: Warmth) -> bool
+    ensures { λ r. ⌜ r ≡ sameNumbers (warmthNumbers a) (warmthNumbers b) ⌝ }
+{
+    (a.rise == b.rise) & (a.fall == b.fall) & (a.end == b.end)
+}
+
 fn same_season(a: Season, b: Season) -> bool
     ensures { λ r. ⌜ r ≡ sameNumbers (seasonNumbers a) (seasonNumbers b) ⌝ }
 {
@@ -39,12 +48,15 @@ fn same_season(a: Season, b: Season) -> bool
     let y = b.header;
     let p = a.parameters;
     let q = b.parameters;
+    let w = a.warmth;
+    let v = b.warmth;
     (x.tree == y.tree)
         & (x.days == y.days)
         & (x.first == y.first)
         & (x.last == y.last)
         & (x.level == y.level)
         & (a.ceiling == b.ceiling)
+        & same_warmth(w, v)
         & same_parameters(p, q)
 }
 
@@ -60,6 +72,12 @@ fn same_sums(a: Sums, b: Sums) -> bool
         & (a.most == b.most)
 }
 
+fn same_carried(a: Carried, b: Carried) -> bool
+    ensures { λ r. ⌜ r ≡ sameNumbers (carriedNumbers a) (carriedNumbers b) ⌝ }
+{
+    (a.sum == b.sum) & (a.total == b.total)
+}
+
 pub(crate) fn same(a: Account, b: Account) -> bool
     ensures { λ r. ⌜ r ≡ isSame a b ⌝ }
 {
@@ -71,8 +89,11 @@ pub(crate) fn same(a: Account, b: Account) -> bool
     let other_kind = b.kind;
     let sums = a.sums;
     let other_sums = b.sums;
+    let carried = a.carried;
+    let other_carried = b.carried;
     (phase_number(phase) == phase_number(other_phase))
         & same_season(season, other_season)
         & (kind_number(kind) == kind_number(other_kind))
         & same_sums(sums, other_sums)
+        & same_carried(carried, other_carried)
 }

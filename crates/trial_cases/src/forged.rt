@@ -32,7 +32,8 @@ fn refusal_of(row: u8, field: u8) -> Refusal {
         21 => Refusal::Scratch,
         22 => Refusal::ListSize,
         23 => Refusal::UnlikeAccounts,
-        _ => Refusal::Parameter,
+        24 => Refusal::Parameter,
+        _ => Refusal::Warmth,
     }
 }
 

@@ -1,23 +1,28 @@
 -- Two accounts are the same exactly where they are equal: each field is a number of the list, and the numbers determine the fields.
 use Prim.Native.Nat.{ℕ}
 use mathlib.Core.Path.{_≡_, refl, sym, ap, _∙_}
-use mathlib.Core.Bool.{Bool, true, false, _&&_, and-true, and-false, and-assoc}
+use mathlib.Core.Bool.{Bool, true, false, cond, _&&_, and-true, and-false, and-assoc}
 use mathlib.Core.List.{List, [], _∷_}
 use mathlib.Core.Logic.{_↔_}
 use borrow.Author.Tests.{eqb-true, eq-eqb}
 use lib.Dec.{eqb}
-use lib.ListN.{getD}
+use lib.IntN.{ℤ, pos, negsuc}
+use lib.ListN.{getD, drop}
+use mir.Syntax.{w16}
+use mir.Val.{SFits, toZ, ofZ}
 use Rattle.records.specs.Numbers.{sameNumbers}
 use Rattle.records.proofs.AnswerLaws.{and-both}
 use Rattle.records.proofs.NumberLaws.{numbers-equal, numbers-same}
+use Rattle.records.proofs.SignedLaws.{plain}
 use Rattle.account_spec.specs.declared.Phase.{Phase}
 use Rattle.account_spec.specs.declared.Phase.the-variants.{Fresh, Open, Closed}
 use Rattle.account_spec.specs.declared.HourKind.{HourKind}
 use Rattle.account_spec.specs.declared.HourKind.the-variants.{None, Deficit, Pressure, Humidity}
 use Rattle.account_spec.specs.declared.Sums.{Sums}
+use Rattle.account_spec.specs.declared.Carried.{Carried}
 use Rattle.account_spec.specs.declared.Account.{Account}
 use Rattle.account_spec.specs.HourKinds.{kindNumber}
-use Rattle.account_spec.specs.Account.{phaseNumber, seasonNumbers, sumsNumbers}
+use Rattle.account_spec.specs.Account.{phaseNumber, seasonNumbers, sumsNumbers, signedNumbers, carriedNumbers}
 use Rattle.account_spec.proofs.KindLaws.{numbered}
 use Rattle.account_spec.proofs.SameLaws.{season-equal}
 use Rattle.trial_spec.specs.Same.{isSame}
@@ -52,6 +57,19 @@ sumsAt l = record {
 sums-back : (s : Sums) → sumsAt (sumsNumbers s) ≡ s
 sums-back s = refl
 
+abbrev signedAt : List ℕ → ℤ
+signedAt l = cond (eqb (getD l 0 0) 0) (pos (getD l 1 0)) (negsuc (getD l 1 0))
+
+signed-back : (z : ℤ) → signedAt (signedNumbers z) ≡ z
+signed-back (pos n) = refl
+signed-back (negsuc n) = refl
+
+abbrev carriedAt : List ℕ → Carried
+carriedAt l = record { sum = getD l 0 0; total = signedAt (drop 1 l) }
+
+carried-back : (c : Carried) → carriedAt (carriedNumbers c) ≡ c
+carried-back c = ap (λ (z : ℤ). record { sum = c .sum; total = z }) (signed-back (c .total))
+
 -- ---- accounts
 
 -- equal where what determines them is
@@ -61,14 +79,16 @@ unique from to back {x} {y} e = sym (back x) ∙ ap from e ∙ back y
 account-equal : (a b : Account) → isSame a b ≡ true → a ≡ b
 unfolding isSame
 account-equal a b e =
-    let sums = and-both _ _ e in
+    let carried = and-both _ _ e in
+    let sums = and-both _ _ (carried .0) in
     let kind = and-both _ _ (sums .0) in
     let season = and-both _ _ (kind .0) in
     let same-phase = unique phaseAt phaseNumber phase-back (eqb-true _ _ (season .0)) in
     let same-season = season-equal (a .season) (b .season) (season .1) in
     let same-kind = unique numbered kindNumber kind-back (eqb-true _ _ (kind .1)) in
     let same-sums = unique sumsAt sumsNumbers sums-back (numbers-equal _ _ (sums .1)) in
-    λ i. record { phase = same-phase i; season = same-season i; kind = same-kind i; sums = same-sums i }
+    let same-carried = unique carriedAt carriedNumbers carried-back (numbers-equal _ _ (carried .1)) in
+    λ i. record { phase = same-phase i; season = same-season i; kind = same-kind i; sums = same-sums i; carried = same-carried i }
 
 account-same : (a : Account) → isSame a a ≡ true
 unfolding isSame
@@ -78,6 +98,7 @@ account-same a =
       numbers-same (seasonNumbers (a .season)),
       eq-eqb (kindNumber (a .kind)) _ refl,
       numbers-same (sumsNumbers (a .sums)),
+      numbers-same (carriedNumbers (a .carried)),
     )
 
 pub same-is : (a b : Account) → (isSame a b ≡ true) ↔ (a ≡ b)
@@ -96,3 +117,20 @@ same-after-is t [] [] = sym (and-true t)
 same-after-is t [] (n ∷ ns) = sym (and-false t)
 same-after-is t (m ∷ ms) [] = sym (and-false t)
 same-after-is t (m ∷ ms) (n ∷ ns) = same-after-is (t && eqb m n) ms ns ∙ and-assoc t (eqb m n) (sameNumbers ms ns)
+
+-- ---- two signed numbers as the machine compares them
+
+either-way : (s t : Bool) → (s ≡ true → t ≡ true) → (t ≡ true → s ≡ true) → s ≡ t
+either-way true t p q = sym (p refl)
+either-way false true p q = q refl
+either-way false false p q = refl
+
+pub signed-same : (y z : ℤ) → SFits w16 y → SFits w16 z → eqb (ofZ w16 y) (ofZ w16 z) ≡ sameNumbers (signedNumbers y) (signedNumbers z)
+signed-same y z f g =
+    either-way (eqb (ofZ w16 y) (ofZ w16 z)) _
+    (λ e.
+    let same : y ≡ z = sym (plain y f) ∙ ap (toZ w16) (eqb-true (ofZ w16 y) (ofZ w16 z) e) ∙ plain z g in
+    rw same (numbers-same (signedNumbers z)))
+    (λ e.
+    let same : y ≡ z = unique signedAt signedNumbers signed-back (numbers-equal (signedNumbers y) (signedNumbers z) e) in
+    eq-eqb (ofZ w16 y) (ofZ w16 z) (ap (ofZ w16) same))

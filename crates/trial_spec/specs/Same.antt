@@ -4,7 +4,7 @@ use lib.Dec.{eqb}
 use Rattle.records.specs.Numbers.{sameNumbers}
 use Rattle.account_spec.specs.declared.Account.{Account}
 use Rattle.account_spec.specs.HourKinds.{kindNumber}
-use Rattle.account_spec.specs.Account.{phaseNumber, seasonNumbers, sumsNumbers}
+use Rattle.account_spec.specs.Account.{phaseNumber, seasonNumbers, sumsNumbers, carriedNumbers}
 
 unfoldable pub isSame : Account → Account → Bool
 isSame a b =
@@ -12,3 +12,4 @@ isSame a b =
     && sameNumbers (seasonNumbers (a .season)) (seasonNumbers (b .season))
     && eqb (kindNumber (a .kind)) (kindNumber (b .kind))
     && sameNumbers (sumsNumbers (a .sums)) (sumsNumbers (b .sums))
+    && sameNumbers (carriedNumbers (a .carried)) (carriedNumbers (b .carried))

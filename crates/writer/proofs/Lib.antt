@@ -1,5 +1,4 @@
 pub mod DigitLaws
-pub mod SignedLaws
 pub mod OzoneLaws
 pub mod FieldLaws
 pub mod WidthLaws

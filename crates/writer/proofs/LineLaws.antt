@@ -51,6 +51,7 @@ line-length (Record.Hour h) = hour-length h (h .air) refl
 line-length (Record.End e) = (refl, refl)
 line-length (Record.Ceiling c) = (refl, refl)
 line-length (Record.Parameters p) = (refl, refl)
+line-length (Record.Warmth w) = (refl, refl)
 
 module _ (r : Record) (fits : FitsLine r) where
   line-valid : allDigits (frameLine r) ≡ true

@@ -8,6 +8,7 @@ use lib.Dec.{ltb}
 use lib.ListN.{length, take, drop}
 use lib.Seq.{take-at}
 use Rattle.measured.specs.Parameters.{noParameters, parametersOf}
+use Rattle.measured.specs.Warmth.{warmthOf}
 use Rattle.measured.specs.Figures.{figuresIn}
 use Rattle.trees.specs.declared.Choice.{Choice}
 use Rattle.trees.specs.declared.Measure.{Measure}
@@ -38,7 +39,7 @@ use Rattle.frames.proofs.ReadLaws.{parsed-passed, SoundRead, sound-read, hour-r
 use Rattle.writer.proofs.WidthLaws.{range-fits}
 use Rattle.frames.proofs.FrameLaws.{frame-is, hour-framed, sized-within}
 use Rattle.writer.proofs.LineLaws.{line-parsed, line-frame, line-written}
-use Rattle.frames.proofs.KindLaws.{KindCase, header, hour, end, ceiling, parameters, kind-cases}
+use Rattle.frames.proofs.KindLaws.{KindCase, header, hour, end, ceiling, parameters, warmth, kind-cases}
 use Rattle.writer.proofs.RowLaws.{write-only}
 
 -- ---- written, then read
@@ -70,6 +71,7 @@ record-back tree (Record.Hour h) m i = ap (recordOf tree) (hour-frame h (h .air)
 record-back tree (Record.End e) m i = refl
 record-back tree (Record.Ceiling c) m i = refl
 record-back tree (Record.Parameters p) m i = refl
+record-back tree (Record.Warmth w) m i = refl
 
 pub read-line : (tree : ℕ) (r : Record) → InWidth r → OfMeasure tree r → checked r ≡ accepted tt → readFrameOf tree (frameLine r) ≡ accepted r
 unfolding readFrameOf soundOf
@@ -141,6 +143,7 @@ module _ (tree : ℕ) (l : List ℕ) (r : Record) (e : recordOf tree (frameAt l)
   line-from (end k) = read-from l (Record.End (endOf (fieldsAt 3 l))) r k refl (sound-read _ r (by-kind k))
   line-from (ceiling k) = read-from l (Record.Ceiling (ceilingOf (fieldsAt 6 l))) r k refl (sound-read _ r (by-kind k))
   line-from (parameters k) = read-from l (Record.Parameters (parametersOf (fieldsAt 7 l))) r k refl (sound-read _ r (by-kind k))
+  line-from (warmth k) = read-from l (Record.Warmth (warmthOf (fieldsAt 8 l))) r k refl (sound-read _ r (by-kind k))
 
 pub line-read : (tree : ℕ) (l : List ℕ) (r : Record) → readFrameOf tree l ≡ accepted r → (checked r ≡ accepted tt) × (frameLine r ≡ l)
 unfolding readFrameOf

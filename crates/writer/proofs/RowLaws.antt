@@ -1,4 +1,4 @@
--- The writer answers rows 5 to 8, 10, 12, 17 and 24 and no other.
+-- The writer answers rows 5 to 8, 10, 12, 17, 24 and 25 and no other.
 use Prim.Native.Nat.{ℕ}
 use mathlib.Core.Path.{refl}
 use mathlib.Core.List.{List}
@@ -16,7 +16,7 @@ use Rattle.writer.specs.RoundTrip.{writerRows}
 
 write-ranged : Ranged writerRows
 unfolding among
-write-ranged = record { tree = refl; year = refl; period = refl; level = refl; ceiling = refl; parameter = refl }
+write-ranged = record { tree = refl; year = refl; period = refl; level = refl; ceiling = refl; parameter = refl; warmth = refl }
 
 text-only : (r : Record) → Only writerRows (textOf r)
 unfolding textOf

@@ -44,3 +44,4 @@ range-fits (Record.Hour h) i w = hour-fits h i w (h .air) refl
 range-fits (Record.End e) i w = omega arith
 range-fits (Record.Ceiling c) i w = omega arith
 range-fits (Record.Parameters p) i w = omega arith
+range-fits (Record.Warmth warmth) i w = omega arith

@@ -25,6 +25,7 @@ InWidth (Record.Hour h) = (h .day < 65536) × (h .hour < 256)
 InWidth (Record.End e) = e .hours < 65536
 InWidth (Record.Ceiling c) = Unit
 InWidth (Record.Parameters p) = (p .tmin < 65536) × (p .topt < 65536) × (p .tmax < 65536)
+InWidth (Record.Warmth w) = Unit
 
 abbrev pub measureIn : Soil → Measure
 measureIn (Suction n) = Measure.Suction
@@ -42,10 +43,11 @@ OfMeasure tree (Record.Hour h) = HasMeasure (figuresIn noParameters tree) (measu
 OfMeasure tree (Record.End e) = Unit
 OfMeasure tree (Record.Ceiling c) = Unit
 OfMeasure tree (Record.Parameters p) = Unit
+OfMeasure tree (Record.Warmth w) = Unit
 
 -- the rows that refuse a record to be written, row 10 besides
 abbrev pub writerRows : List ℕ
-writerRows = 5 ∷ 6 ∷ 7 ∷ 8 ∷ 12 ∷ 17 ∷ 24 ∷ []
+writerRows = 5 ∷ 6 ∷ 7 ∷ 8 ∷ 12 ∷ 17 ∷ 24 ∷ 25 ∷ []
 
 pub record RoundTrip : Type 0 where
   -- a record that the writer accepts is read back as itself

@@ -1,4 +1,4 @@
--- The writer (document 01, "Frames"): rows 5 to 8, 10, 17 or 24, then 12; the line at the buffer's front and the bytes past it untouched; on a refusal all of it.
+-- The writer (document 01, "Frames"): rows 5 to 8, 10, 17, 24 or 25, then 12; the line at the buffer's front and the bytes past it untouched; on a refusal all of it.
 use Prim.Native.Nat.{ℕ}
 use mathlib.Core.List.{List}
 use Rattle.records.specs.Answers.{Outcome, accepted, onward}
@@ -7,7 +7,7 @@ use Rattle.records.specs.Ranges.{checked}
 use Rattle.records.specs.declared.Record.{Record}
 use Rattle.frames.specs.Layout.{frameLine}
 
--- a record's line, unless one of rows 5 to 8, 10, 17 and 24 refuses it
+-- a record's line, unless one of rows 5 to 8, 10, 17, 24 and 25 refuses it
 unfoldable pub textOf : Record → Outcome (List ℕ)
 textOf r = onward (checked r) (λ _. accepted (frameLine r))
 

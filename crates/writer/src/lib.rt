@@ -1,6 +1,5 @@
-// The writer of frames (document 01, "Frames"): a record to its line in a lent buffer (rows 5 to 8, 10, 17, 24 and 12).
+// The writer of frames (document 01, "Frames"): a record to its line in a lent buffer (rows 5 to 8, 10, 17, 24, 25 and 12).
 mod digits;
-mod temperature;
 mod writing;
 
 use frames::Checked;

@@ -3,13 +3,13 @@ use crate::digits::put_byte;
 use crate::digits::put_four;
 use crate::digits::put_number;
 use crate::digits::put_two;
-use crate::temperature;
 use frames::Air;
 use frames::Header;
 use frames::Hour;
 use frames::Parameters;
 use frames::Record;
 use frames::Refusal;
+use frames::Warmth;
 use frames::Written;
 use frames::widths::FIELDS;
 use frames::widths::HeaderLine;
@@ -18,6 +18,7 @@ use frames::widths::KIND;
 use frames::widths::NUMBER;
 use frames::widths::ParameterLine;
 use frames::widths::PressureLine;
+use frames::widths::WarmthLine;
 ghost use mathlib.Core.Path.{_≡_};
 ghost use mathlib.Core.List.{[], _∷_, _++_};
 ghost use Prim.Native.Nat.{_≤_};
@@ -48,7 +49,7 @@ fn put_hour_fields(kind: u8, h: Hour, buf: &mut [u8])
     requires { ⌜ digitsIn (widthsOf 2) ≤ length (now buf) ⌝ }
     ensures { λ _. ⌜ now (buf .exit) ≡ sets (now (buf .entry)) 0 (digitsOf (one ∷ widthsOf 2) (kind ∷ hourNumbers h)) ⌝ }
 {
-    let t = temperature::complement(h.temperature);
+    let t = frames::complement(h.temperature);
     let reading = h.ozone;
     let ozone = frames::ozone_number(reading);
     let air = h.air;
@@ -136,6 +137,19 @@ fn put_parameters(p: Parameters, buf: &mut [u8]) -> Written
     Written::Bytes(ParameterLine::DIGITS)
 }
 
+// Kind 08.
+fn put_warmth(w: Warmth, buf: &mut [u8]) -> Written
+    ensures { λ r. ⌜ Prints (accepted (frameLine (Record.Warmth w))) (now (buf .entry)) r (now (buf .exit)) ⌝ }
+{
+    if buf.len() < WarmthLine::DIGITS {
+        return Written::Refused(Refusal::Buffer);
+    }
+    put_byte(buf, KIND, 8);
+    put_two(buf, WarmthLine::RISE, w.rise, w.fall);
+    put_number(buf, WarmthLine::END, w.end);
+    Written::Bytes(WarmthLine::DIGITS)
+}
+
 // A record's line, whatever its kind.
 pub(crate) fn put(record: Record, buf: &mut [u8]) -> Written
     ensures { λ r. ⌜ Prints (accepted (frameLine «record»)) (now (buf .entry)) r (now (buf .exit)) ⌝ }
@@ -146,5 +160,6 @@ pub(crate) fn put(record: Record, buf: &mut [u8]) -> Written
         Record::End(e) => put_number_line(3, e.hours, buf),
         Record::Ceiling(c) => put_number_line(6, c.ozone, buf),
         Record::Parameters(p) => put_parameters(p, buf),
+        Record::Warmth(w) => put_warmth(w, buf),
     }
 }

@@ -6,7 +6,7 @@ use Rattle.account.proofs.fresh.Statement.{statement}
 use Rattle.account.proofs.fresh.Tie as tie
 
 returns : tie.Need-returns
-returns c = (rw (c .no-parameters .ensures) refl, (season-cited, filling-cited))
+returns c = (rw (c .before .no-parameters .ensures, c .no-warmth .ensures) refl, (season-cited, filling-cited))
 
 pub fresh-spec : {M : Type 1} → statement M
-fresh-spec = tie.close (tie.spec (λ c κs. search needs) returns)
+fresh-spec = tie.close (tie.spec (λ c κs. search needs) (λ c κs. search needs) returns)

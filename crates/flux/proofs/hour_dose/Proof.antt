@@ -28,12 +28,12 @@ returns : tie.Need-returns
 returns c =
     let called = c .before .before .before .before in
     let named = sym (called .tree-of .ensures) ∙ ap namedAs (c .before .before .named .given .1) in
-    with-laws (named-is _ _ _ _ _ _ named _ (c .dose-by .ensures))
+    with-laws (named-is _ _ _ _ _ _ _ named _ (c .dose-by .ensures))
 
 returns-2 : tie.Need-returns-2
 returns-2 c =
     let called = c .before .before .before in
-    with-laws (no-tree-is _ _ _ _ _ _ (sym (called .tree-of .ensures) ∙ ap namedAs (c .before .named2 .given .1)))
+    with-laws (no-tree-is _ _ _ _ _ _ _ (sym (called .tree-of .ensures) ∙ ap namedAs (c .before .named2 .given .1)))
 
 pub hour-dose-spec : {M : Type 1} → statement M
 hour-dose-spec =

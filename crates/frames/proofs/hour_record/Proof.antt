@@ -2,8 +2,6 @@
 use mathlib.Core.Path.{_≡_, refl, sym, _∙_}
 use mathlib.Core.Bool.{Bool}
 use borrow.Author.Needs.{needs}
-use Rattle.measured.specs.Parameters.{noParameters}
-use Rattle.measured.specs.Figures.{figuresIn}
 use Rattle.records.specs.declared.Hour.{Hour}
 use Rattle.records.specs.declared.Record.{Record}
 use Rattle.records.specs.Answers.{Outcome, accepted, onward}
@@ -18,24 +16,20 @@ sound-is : (h : Hour) {b : Bool} {o : Outcome Unit} → b ≡ soilOut (h .soil) 
 unfolding soundOf checked
 sound-is h b o = rw (o, b) refl
 
-chosen : (c : tie.After-figures-in) → c .figures-in .result ≡ figuresIn noParameters (c .before .before .args .tree)
-chosen c = rw (c .before .no-parameters .ensures) at (c .figures-in .ensures .0)
-
 returns : tie.Need-returns
-returns c = no-tree _ _ (sym (chosen (c .before .before)) ∙ c .enum-told .given .1)
+returns c = no-tree _ _ (sym (c .before .before .figures-before .ensures) ∙ c .enum-told .given .1)
 
 returns-2 : tie.Need-returns-2
 returns-2 c =
     let made = c .before .before .before in
     let known = made .before .before in
-    hour-recorded _ _ (sym (chosen (known .before .before)) ∙ known .f .given .1) (made .hour-of .ensures)
+    hour-recorded _ _ (sym (known .before .before .figures-before .ensures) ∙ known .f .given .1) (made .hour-of .ensures)
     (c .answered .ensures ∙ sound-is (made .hour-of .result) (c .before .before .soil-out .ensures) (c .before .check-hour .ensures))
 
 pub hour-record-spec : {M : Type 1} → statement M
 hour-record-spec =
     tie.close
     (tie.spec
-    (λ c κs. search needs)
     (λ c κs. search needs)
     (λ c. search needs)
     (λ c. search needs)

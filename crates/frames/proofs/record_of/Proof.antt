@@ -41,6 +41,15 @@ check-parameters-requires c κs = search needs
 answered-requires-3 : tie.Need-answered-requires-3
 answered-requires-3 c κs = search needs
 
+enum-known-frame-6 : tie.Need-enum-known-frame-6
+enum-known-frame-6 c = search needs
+
+check-warmth-requires : tie.Need-check-warmth-requires
+check-warmth-requires c κs = search needs
+
+answered-requires-4 : tie.Need-answered-requires-4
+answered-requires-4 c κs = search needs
+
 returns : tie.Need-returns
 unfolding recordOf soundOf
 returns c = rw (c .before .before .before .frame .given .1) (rw (c .before .check-header .ensures) at (c .answered .ensures))
@@ -60,6 +69,10 @@ returns-5 : tie.Need-returns-5
 unfolding recordOf soundOf
 returns-5 c = rw (c .before .before .before .frame5 .given .1) (rw (c .before .check-parameters .ensures) at (c .answered3 .ensures))
 
+returns-6 : tie.Need-returns-6
+unfolding recordOf soundOf
+returns-6 c = rw (c .before .before .before .frame6 .given .1) (rw (c .before .check-warmth .ensures) at (c .answered4 .ensures))
+
 pub record-of-spec : {M : Type 1} → statement M
 record-of-spec =
     tie.close
@@ -76,8 +89,12 @@ record-of-spec =
     enum-known-frame-5
     check-parameters-requires
     answered-requires-3
+    enum-known-frame-6
+    check-warmth-requires
+    answered-requires-4
     returns
     returns-2
     returns-3
     returns-4
-    returns-5)
+    returns-5
+    returns-6)

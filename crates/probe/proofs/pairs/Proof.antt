@@ -45,6 +45,9 @@ hour-of-requires c κs = search needs
 no-parameters-requires : tie.Need-no-parameters-requires Inv-loop μ-loop
 no-parameters-requires c κs = search needs
 
+by-day-requires : tie.Need-by-day-requires Inv-loop μ-loop
+by-day-requires c κs = search needs
+
 hour-dose-requires : tie.Need-hour-dose-requires Inv-loop μ-loop
 hour-dose-requires c κs = search needs
 
@@ -55,7 +58,7 @@ wrapping-add-u64-requires : tie.Need-wrapping-add-u64-requires Inv-loop μ-loop
 wrapping-add-u64-requires c κs = search needs
 
 add-i : tie.Need-add-i Inv-loop μ-loop
-add-i c = omega (arith, c .before .before .before .before .before .before .before .before .before .before .before .good .1 .1 .1 .1 .1 .0 .1)
+add-i c = omega (arith, c .before .before .before .before .before .before .before .before .before .before .before .before .good .1 .1 .1 .1 .1 .0 .1)
 
 loop-less : tie.Need-loop-less Inv-loop μ-loop
 loop-less c = search needs
@@ -83,6 +86,7 @@ pairs-spec =
     shared-slice-copy-out-hour-of
     hour-of-requires
     no-parameters-requires
+    by-day-requires
     hour-dose-requires
     both-requires
     wrapping-add-u64-requires

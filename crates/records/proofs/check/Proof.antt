@@ -34,6 +34,12 @@ enum-known-record-4 c = search needs
 check-parameters-requires : tie.Need-check-parameters-requires
 check-parameters-requires c κs = search needs
 
+enum-known-record-5 : tie.Need-enum-known-record-5
+enum-known-record-5 c = search needs
+
+check-warmth-requires : tie.Need-check-warmth-requires
+check-warmth-requires c κs = search needs
+
 returns : tie.Need-returns
 returns c = rw (c .before .before .«record» .given .1) (c .check-header .ensures)
 
@@ -51,6 +57,9 @@ returns-4 c = rw (c .before .before .record3 .given .1) (c .check-ceiling .ensur
 returns-5 : tie.Need-returns-5
 returns-5 c = rw (c .before .before .record4 .given .1) (c .check-parameters .ensures)
 
+returns-6 : tie.Need-returns-6
+returns-6 c = rw (c .before .before .record5 .given .1) (c .check-warmth .ensures)
+
 pub check-spec : {M : Type 1} → statement M
 check-spec =
     tie.close
@@ -65,8 +74,11 @@ check-spec =
     check-ceiling-requires
     enum-known-record-4
     check-parameters-requires
+    enum-known-record-5
+    check-warmth-requires
     returns
     returns-2
     returns-3
     returns-4
-    returns-5)
+    returns-5
+    returns-6)

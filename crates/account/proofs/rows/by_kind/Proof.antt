@@ -7,7 +7,7 @@ use borrow.Author.Tests.{not-true, not-false}
 use Rattle.records.specs.declared.Ozone.{Ozone}
 use Rattle.records.specs.Ranges.{lacksCeiling}
 use Rattle.frames.specs.Layout.{ozoneOf}
-use Rattle.account_spec.proofs.RuleLaws.{header-in, mixed-out, due-out, lacks-out, due-in, count-out, count-in, ceiling-in, parameters-out, ramps-out, ramps-in}
+use Rattle.account_spec.proofs.RuleLaws.{header-in, mixed-out, due-out, lacks-out, due-in, count-out, count-in, ceiling-in, parameters-out, ramps-out, ramps-in, warmth-in}
 use Rattle.account.proofs.rows.by_kind.Statement.{statement}
 use Rattle.account.proofs.rows.by_kind.Tie as tie
 
@@ -60,7 +60,10 @@ returns-7 c =
     (λ u. c .record-of .ensures ∙ rw (u .5, u .1 .given .1) (count-in _ _ (sym (u .3 .ensures) ∙ u .4 .left)))
     (λ u. ⊎-elim
     (λ t. c .record-of .ensures ∙ rw (t .2, t .1 .given .1) (ceiling-in _ _))
-    (λ t. c .record-of .ensures ∙ rw (t .8, t .1 .given .1) (ramps-in _ _ (sym (t .3 .ensures) ∙ t .4 .left) (sym (t .6 .ensures) ∙ t .7 .left)))
+    (λ t. ⊎-elim
+    (λ s. c .record-of .ensures ∙ rw (s .8, s .1 .given .1) (ramps-in _ _ (sym (s .3 .ensures) ∙ s .4 .left) (sym (s .6 .ensures) ∙ s .7 .left)))
+    (λ s. c .record-of .ensures ∙ rw (s .2, s .1 .given .1) (warmth-in _ _))
+    t)
     u)
     v)
     w)
@@ -88,5 +91,6 @@ by-kind-spec =
     returns-5
     (λ c κs. search needs)
     returns-6
+    (λ c. search needs)
     (λ c κs. search needs)
     returns-7)

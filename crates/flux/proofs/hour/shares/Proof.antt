@@ -1,23 +1,25 @@
 -- `flux::hour::shares` meets its contract.
+use Prim.Native.Nat.{_*_, _^_}
 use mathlib.Core.Path.{_∙_}
 use native.Mathlib.Omega.{arith}
 use borrow.Author.Needs.{needs}
-use Rattle.flux_spec.specs.Conductance.{phenologyIn}
 use Rattle.flux_spec.specs.Light.{lightLow, lightUp}
 use Rattle.flux_spec.proofs.LightLaws.{light-order, lightUp-le}
 use Rattle.flux_spec.proofs.OpeningLaws.{openingLow-le, openingUp-le}
+use Rattle.flux.specs.Steps.{Factor}
 use Rattle.flux.proofs.NumberLaws.{phenology-factor, shareLow-is, shareUp-is}
-use Rattle.exact.specs.Frac.{Is}
 use Rattle.flux.proofs.hour.shares.Statement.{statement}
 use Rattle.flux.proofs.hour.shares.Tie as tie
 
 factor-requires : tie.Need-factor-requires
 factor-requires c κs = let pre = c .before .before .pre in (pre .0 .lighta .1, pre .1 .1 .0)
 
--- f_phen is that of the hour
-phenology : (c : tie.After-f-phen) → Is (c .f-phen .result) (phenologyIn (c .before .before .args .stand) (c .before .before .args .h))
-unfolding phenologyIn
-phenology c = rw (c .before .before .pre .1 .0) at (c .f-phen .ensures .0)
+-- f_phen is a factor: the sums of warmth are of 16 bits
+phenology : (c : tie.After-phenology) → Factor (2 * 10 ^ 9) (c .phenology .result)
+phenology c =
+    let start = c .before .before in
+    let age = start .good .0 .1 .1 .1 .0 in
+    phenology-factor (start .args .stand) (start .pre .0) (start .args .h) (omega (arith, age)) (omega (arith, age)) (c .phenology .ensures)
 
 share-low-requires : tie.Need-share-low-requires
 unfolding lightLow lightUp
@@ -26,7 +28,7 @@ share-low-requires c κs =
     let f = start .args .stand .figures in
     let h = start .args .h in
     let s = start .pre .0 in
-    (omega (arith, c .factor .ensures .0, light-order f (h .ppfd), lightUp-le f (h .ppfd)), (phenology-factor f s _ _ _ _ (c .before .f-phen .ensures .0), omega (arith, start .pre .1 .1 .1 .0, openingLow-le f s h)))
+    (omega (arith, c .factor .ensures .0, light-order f (h .ppfd), lightUp-le f (h .ppfd)), (phenology (c .before), omega (arith, start .pre .1 .1 .1 .0, openingLow-le f s h)))
 
 share-up-requires : tie.Need-share-up-requires
 unfolding lightLow lightUp
@@ -35,7 +37,7 @@ share-up-requires c κs =
     let f = start .args .stand .figures in
     let h = start .args .h in
     let s = start .pre .0 in
-    (omega (arith, c .before .factor .ensures .1, lightUp-le f (h .ppfd)), (phenology-factor f s _ _ _ _ (c .before .before .f-phen .ensures .0), omega (arith, start .pre .1 .1 .1 .1, openingUp-le f s h)))
+    (omega (arith, c .before .factor .ensures .1, lightUp-le f (h .ppfd)), (phenology (c .before .before), omega (arith, start .pre .1 .1 .1 .1, openingUp-le f s h)))
 
 returns : tie.Need-returns
 unfolding lightLow lightUp
@@ -44,7 +46,7 @@ returns c =
     let stand = start .args .stand in
     let h = start .args .h in
     let light = c .before .before .factor .ensures in
-    let p = phenology (c .before .before .before) in (
+    let p = c .before .before .before .phenology .ensures in (
       c .before .share-low .ensures ∙ shareLow-is stand h p (light .0) (start .pre .1 .1 .1 .0),
       c .share-up .ensures ∙ shareUp-is stand h p (light .1) (start .pre .1 .1 .1 .1),
     )

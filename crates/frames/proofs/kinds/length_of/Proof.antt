@@ -2,7 +2,7 @@
 use mathlib.Core.Path.{refl}
 use Rattle.frames.specs.Kinds.{lengthOf}
 use Rattle.frames.specs.Steps.{withDeficit, withPressure, withHumidity}
-use Rattle.frames.proofs.KindLaws.{KindCase, header, hour, end, ceiling, parameters, kind-other}
+use Rattle.frames.proofs.KindLaws.{KindCase, header, hour, end, ceiling, parameters, warmth, kind-other}
 use Rattle.frames.proofs.kinds.length_of.Statement.{statement}
 use Rattle.frames.proofs.kinds.length_of.Tie as tie
 
@@ -34,17 +34,22 @@ returns-7 : tie.Need-returns-7
 unfolding lengthOf
 returns-7 c = rw (c .match .keys7) refl
 
-other : (c : tie.At-match-rest) → KindCase (c .before .args .kind) → ⊥
-other c (header e) = c .match .rest .0 .0 .0 .0 .0 .0 .1 e
-other c (hour (withDeficit e)) = c .match .rest .0 .0 .0 .0 .0 .1 e
-other c (end e) = c .match .rest .0 .0 .0 .0 .1 e
-other c (hour (withPressure e)) = c .match .rest .0 .0 .0 .1 e
-other c (hour (withHumidity e)) = c .match .rest .0 .0 .1 e
-other c (ceiling e) = c .match .rest .0 .1 e
-other c (parameters e) = c .match .rest .1 e
-
 returns-8 : tie.Need-returns-8
-returns-8 c = kind-other _ (other c)
+unfolding lengthOf
+returns-8 c = rw (c .match .keys8) refl
+
+other : (c : tie.At-match-rest) → KindCase (c .before .args .kind) → ⊥
+other c (header e) = c .match .rest .0 .0 .0 .0 .0 .0 .0 .1 e
+other c (hour (withDeficit e)) = c .match .rest .0 .0 .0 .0 .0 .0 .1 e
+other c (end e) = c .match .rest .0 .0 .0 .0 .0 .1 e
+other c (hour (withPressure e)) = c .match .rest .0 .0 .0 .0 .1 e
+other c (hour (withHumidity e)) = c .match .rest .0 .0 .0 .1 e
+other c (ceiling e) = c .match .rest .0 .0 .1 e
+other c (parameters e) = c .match .rest .0 .1 e
+other c (warmth e) = c .match .rest .1 e
+
+returns-9 : tie.Need-returns-9
+returns-9 c = kind-other _ (other c)
 
 pub length-of-spec : {M : Type 1} → statement M
-length-of-spec = tie.close (tie.spec returns returns-2 returns-3 returns-4 returns-5 returns-6 returns-7 returns-8)
+length-of-spec = tie.close (tie.spec returns returns-2 returns-3 returns-4 returns-5 returns-6 returns-7 returns-8 returns-9)

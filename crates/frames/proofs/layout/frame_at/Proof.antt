@@ -25,6 +25,9 @@ ceiling-at-requires c κs = search needs
 parameters-at-requires : tie.Need-parameters-at-requires
 parameters-at-requires c κs = search needs
 
+warmth-at-requires : tie.Need-warmth-at-requires
+warmth-at-requires c κs = search needs
+
 hour-at-requires : tie.Need-hour-at-requires
 hour-at-requires c κs = search needs
 
@@ -52,11 +55,18 @@ returns-4 c = λ l says sized.
     let kind = sym (c .before .before .byte-at .ensures l says (sized-ge l sized)) ∙ c .before .match .keys4 in
     ap Raw.Parameters (c .parameters-at .ensures l says (sized-le l sized kind)) ∙ sym (frame-is l kind)
 
--- the other kinds are those of hours
 returns-5 : tie.Need-returns-5
+unfolding frameOf
 returns-5 c = λ l says sized.
+    let kind = sym (c .before .before .byte-at .ensures l says (sized-ge l sized)) ∙ c .before .match .keys5 in
+    ap Raw.Warmth (c .warmth-at .ensures l says (sized-le l sized kind)) ∙ sym (frame-is l kind)
+
+-- the other kinds are those of hours
+returns-6 : tie.Need-returns-6
+returns-6 c = λ l says sized.
     let kind = c .before .before .byte-at .ensures l says (sized-ge l sized) in
-    let hour = hour-left _ (kind-cases (byteAt 0 l) (sized-within l sized)) (λ e. omega arith) (λ e. omega arith) (λ e. omega arith) (λ e. omega arith) in
+    let case = kind-cases (byteAt 0 l) (sized-within l sized) in
+    let hour = hour-left _ case (λ e. omega arith) (λ e. omega arith) (λ e. omega arith) (λ e. omega arith) (λ e. omega arith) in
     ap Raw.Hour ((rw kind at (c .hour-at .ensures)) hour l says (sized-le l sized refl)) ∙ sym (hour-framed l hour refl)
 
 pub frame-at-spec : {M : Type 1} → statement M
@@ -68,9 +78,11 @@ frame-at-spec =
     end-at-requires
     ceiling-at-requires
     parameters-at-requires
+    warmth-at-requires
     hour-at-requires
     returns
     returns-2
     returns-3
     returns-4
-    returns-5)
+    returns-5
+    returns-6)

@@ -1,8 +1,13 @@
 -- `list::tally::tried` meets its contract.
-use mathlib.Core.Path.{refl}
 use borrow.Author.Needs.{needs}
+use Rattle.records.specs.Answers.{parsedAs}
+use Rattle.list.specs.Steps.{talliedAs}
+use Rattle.list.proofs.StepLaws.{seen-is}
 use Rattle.list.proofs.tally.tried.Statement.{statement}
 use Rattle.list.proofs.tally.tried.Tie as tie
+
+common-numbers-requires : tie.Need-common-numbers-requires
+common-numbers-requires c κs = search needs
 
 first-of-requires : tie.Need-first-of-requires
 first-of-requires c κs = search needs
@@ -20,7 +25,10 @@ returns : tie.Need-returns
 returns c =
     let compared = c .before .before in
     let known = compared .before .before in
-    rw (c .line-after .ensures, compared .alike .ensures, known .impossible .ensures, known .before .first-of .ensures) refl
+    let own = known .before in
+    let args = own .before .before .args in
+    seen-is (parsedAs (args .parsed)) (talliedAs (args .seen)) (args .account) _ _ _ _ _
+    (own .before .common-numbers .ensures) (own .first-of .ensures) (known .impossible .ensures) (compared .alike .ensures) (c .line-after .ensures)
 
 pub tried-spec : {M : Type 1} → statement M
-tried-spec = tie.close (tie.spec first-of-requires impossible-requires alike-requires line-after-requires returns)
+tried-spec = tie.close (tie.spec common-numbers-requires first-of-requires impossible-requires alike-requires line-after-requires returns)

@@ -22,18 +22,23 @@ kind-number-requires-2 c κs = search needs
 same-sums-requires : tie.Need-same-sums-requires
 same-sums-requires c κs = search needs
 
+same-carried-requires : tie.Need-same-carried-requires
+same-carried-requires c κs = search needs
+
 returns : tie.Need-returns
 unfolding isSame
 returns c =
-    let kinds = c .before .before in
+    let sums = c .before in
+    let kinds = sums .before .before in
     let phases = kinds .before .before in
     simp (
       phases .before .phase-number .ensures,
       phases .phase-number2 .ensures,
       kinds .before .same-season .ensures,
       kinds .kind-number .ensures,
-      c .before .kind-number2 .ensures,
-      c .same-sums .ensures,
+      sums .before .kind-number2 .ensures,
+      sums .same-sums .ensures,
+      c .same-carried .ensures,
     )
 
 pub same-spec : {M : Type 1} → statement M
@@ -46,4 +51,5 @@ same-spec =
     kind-number-requires
     kind-number-requires-2
     same-sums-requires
+    same-carried-requires
     returns)

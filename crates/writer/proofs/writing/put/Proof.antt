@@ -34,6 +34,12 @@ enum-known-record-5 c = search needs
 put-parameters-requires : tie.Need-put-parameters-requires
 put-parameters-requires c κs = search needs
 
+enum-known-record-6 : tie.Need-enum-known-record-6
+enum-known-record-6 c = search needs
+
+put-warmth-requires : tie.Need-put-warmth-requires
+put-warmth-requires c κs = search needs
+
 same-length : tie.Need-same-length
 same-length c = search needs
 
@@ -66,6 +72,12 @@ same-length-5 c = search needs
 returns-5 : tie.Need-returns-5
 returns-5 c = rw (c .before .before .before .before .before .record5 .given .1) (c .before .before .put-parameters .ensures)
 
+same-length-6 : tie.Need-same-length-6
+same-length-6 c = search needs
+
+returns-6 : tie.Need-returns-6
+returns-6 c = rw (c .before .before .before .before .before .record6 .given .1) (c .before .before .put-warmth .ensures)
+
 pub put-spec : {M : Type 1} → statement M
 put-spec =
     tie.close
@@ -80,6 +92,8 @@ put-spec =
     put-number-line-requires-2
     enum-known-record-5
     put-parameters-requires
+    enum-known-record-6
+    put-warmth-requires
     same-length
     returns
     same-length-2
@@ -89,4 +103,6 @@ put-spec =
     same-length-4
     returns-4
     same-length-5
-    returns-5)
+    returns-5
+    same-length-6
+    returns-6)
