@@ -1,0 +1,120 @@
+// Answers as numbers: a code, and what reading gives.
+use crate::Printed;
+use crate::Readout;
+use account_spec::Totals;
+use account_spec::Verdict;
+use frames::Refusal;
+use frames::Written;
+ghost use mathlib.Core.Path.{_≡_};
+ghost use Rattle.records.specs.Answers.{accepted, rowOf, writtenAs};
+ghost use Rattle.part.specs.Calls.{codeOf, codeOfRow, printedOf, verdictNumber, noReadout, readoutOf};
+
+// The field that rows 10 and 26 name, else 0.
+fn field_of(refusal: Refusal) -> u8
+    ensures { λ r. ⌜ r ≡ rowOf «refusal» .1 ⌝ }
+{
+    match refusal {
+        Refusal::Length => 0,
+        Refusal::Digit => 0,
+        Refusal::Kind => 0,
+        Refusal::Turn => 0,
+        Refusal::Tree => 0,
+        Refusal::Year => 0,
+        Refusal::Period => 0,
+        Refusal::Level => 0,
+        Refusal::Due => 0,
+        Refusal::Range(field) => field,
+        Refusal::Count => 0,
+        Refusal::Buffer => 0,
+        Refusal::Account => 0,
+        Refusal::Place => 0,
+        Refusal::Mixed => 0,
+        Refusal::Tried => 0,
+        Refusal::Ceiling => 0,
+        Refusal::NoCeiling => 0,
+        Refusal::Unlike => 0,
+        Refusal::Days => 0,
+        Refusal::Scratch => 0,
+        Refusal::ListSize => 0,
+        Refusal::UnlikeAccounts => 0,
+        Refusal::Parameter => 0,
+        Refusal::Warmth => 0,
+        Refusal::Float(field) => field,
+    }
+}
+
+pub(crate) fn code_of(refusal: Refusal) -> u32
+    ensures { λ r. ⌜ r ≡ codeOfRow (rowOf «refusal») ⌝ }
+{
+    (frames::row_of(refusal) as u32) + 256 * (field_of(refusal) as u32)
+}
+
+pub(crate) fn of_written(written: Written) -> u32
+    ensures { λ r. ⌜ r ≡ codeOf (writtenAs «written») ⌝ }
+{
+    match written {
+        Written::Bytes(_) => 0,
+        Written::Refused(refusal) => code_of(refusal),
+    }
+}
+
+pub(crate) fn printed_of(written: Written) -> Printed
+    ensures { λ r. ⌜ r ≡ printedOf (writtenAs «written») ⌝ }
+{
+    match written {
+        Written::Bytes(n) => Printed {
+            code: 0,
+            length: n as u64,
+        },
+        Written::Refused(refusal) => Printed {
+            code: code_of(refusal),
+            length: 0,
+        },
+    }
+}
+
+fn verdict_number(verdict: Verdict) -> u32
+    ensures { λ r. ⌜ r ≡ verdictNumber verdict ⌝ }
+{
+    match verdict {
+        Verdict::None => 0,
+        Verdict::Undecided => 1,
+        Verdict::Exceeded => 2,
+        Verdict::Below => 3,
+    }
+}
+
+pub(crate) fn no_readout(code: u32) -> Readout
+    ensures { λ r. ⌜ r ≡ noReadout code ⌝ }
+{
+    Readout {
+        code: code,
+        verdict: 0,
+        hours: 0,
+        counted: 0,
+        missing: 0,
+        least: 0,
+        most: 0,
+        lower: 0,
+        upper: 0,
+    }
+}
+
+pub(crate) fn readout_of(totals: Totals) -> Readout
+    ensures { λ r. ⌜ r ≡ readoutOf (accepted totals) ⌝ }
+{
+    let sums = totals.sums;
+    let verdict = totals.verdict;
+    let number = verdict_number(verdict);
+    Readout {
+        code: 0,
+        verdict: number,
+        hours: sums.hours as u32,
+        counted: sums.counted as u32,
+        missing: sums.missing as u32,
+        least: sums.least,
+        most: sums.most,
+        lower: sums.lower,
+        upper: sums.upper,
+    }
+}

@@ -1,0 +1,112 @@
+// The part that makers link from C and Rust: the account as bytes in a lent buffer, and answers as numbers.
+// A code is 0, or the row that refuses the call plus 256 times the field that rows 10 and 26 name.
+mod code;
+
+use account_spec::Fed;
+use account_spec::Reading;
+use frames::Written;
+use stored::Held;
+ghost use mathlib.Core.Path.{_≡_};
+ghost use Rattle.records.specs.Answers.{accepted};
+ghost use Rattle.report_spec.specs.Season.{reportOf};
+ghost use Rattle.account_spec.specs.Account.{freshAccount};
+ghost use Rattle.part.specs.Calls.{Stores, FeedsBytes, readIn, readoutOf, lineIn, PrintsBytes};
+ghost use Rattle.part.specs.Promise.{PartPromise};
+
+// What reading gives: code 0, the sums and the verdict by its number, or the code of a refusal and zeros.
+#[repr(C)]
+pub struct Readout {
+    pub code: u32,
+    pub verdict: u32,
+    pub hours: u32,
+    pub counted: u32,
+    pub missing: u32,
+    pub least: u32,
+    pub most: u32,
+    pub lower: u64,
+    pub upper: u64,
+}
+
+// What writing gives: code 0 and the bytes written, or the code of a refusal and 0.
+#[repr(C)]
+pub struct Printed {
+    pub code: u32,
+    pub length: u64,
+}
+
+// A fresh account into the first bytes of a buffer; refused only by row 12.
+#[no_mangle]
+pub extern "C" fn pod1_fresh(account: &mut [u8]) -> u32
+    ensures { λ r. ⌜ Stores freshAccount (now (account .entry)) r (now (account .exit)) ⌝ }
+    ensures season { λ _. ⌜ PartPromise ⌝ }
+{
+    let fresh = account::fresh();
+    let written = stored::store(fresh, account);
+    code::of_written(written)
+}
+
+// A line to the account in a buffer: row 13 where there is none, then those of feeding. The buffer is unchanged where a row refuses.
+#[no_mangle]
+pub extern "C" fn pod1_feed(account: &mut [u8], line: &[u8]) -> u32
+    ensures { λ r. ⌜ FeedsBytes (now (account .entry)) (now (line .entry)) r (now (account .exit)) ⌝ }
+{
+    let held = stored::take_up(account);
+    match held {
+        Held::Account(a) => {
+            let fed = account::feed(a, line);
+            match fed {
+                Fed::Accepted(next) => {
+                    let written = stored::store(next, account);
+                    code::of_written(written)
+                },
+                Fed::Refused(refusal, _) => code::code_of(refusal),
+            }
+        },
+        Held::Refused(refusal) => code::code_of(refusal),
+    }
+}
+
+// The sums and the verdict of the account in a buffer; refused only by row 13.
+#[no_mangle]
+pub extern "C" fn pod1_read(account: &[u8]) -> Readout
+    ensures { λ r. ⌜ r ≡ readoutOf (readIn (now (account .entry))) ⌝ }
+{
+    let held = stored::take_up(account);
+    match held {
+        Held::Account(a) => {
+            let reading = account::read(a);
+            match reading {
+                Reading::Given(totals) => code::readout_of(totals),
+                Reading::Refused(refusal) => code::no_readout(code::code_of(refusal)),
+            }
+        },
+        Held::Refused(refusal) => code::no_readout(code::code_of(refusal)),
+    }
+}
+
+// The report line of the account in a buffer, line feed included: row 13, then 12.
+#[no_mangle]
+pub extern "C" fn pod1_line(account: &[u8], buffer: &mut [u8]) -> Printed
+    ensures { λ r. ⌜ PrintsBytes (lineIn (now (account .entry))) (now (buffer .entry)) r (now (buffer .exit)) ⌝ }
+{
+    let held = stored::take_up(account);
+    match held {
+        Held::Account(a) => {
+            let written = report::format(a, buffer);
+            code::printed_of(written)
+        },
+        Held::Refused(refusal) => {
+            let written = Written::Refused(refusal);
+            code::printed_of(written)
+        },
+    }
+}
+
+// The report of a season text into a lent buffer; refused only by row 12.
+#[no_mangle]
+pub extern "C" fn pod1_report(text: &[u8], buffer: &mut [u8]) -> Printed
+    ensures { λ r. ⌜ PrintsBytes (accepted (reportOf (now (text .entry)))) (now (buffer .entry)) r (now (buffer .exit)) ⌝ }
+{
+    let written = report::season_report(text, buffer);
+    code::printed_of(written)
+}

@@ -1,0 +1,4 @@
+pub mod Packing
+pub mod Layout
+pub mod RoundTrip
+pub mod Steps
