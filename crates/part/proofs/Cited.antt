@@ -7,8 +7,8 @@ use Rattle.records.specs.Answers.{accepted}
 use Rattle.account_spec.specs.Account.{freshAccount}
 use Rattle.account_spec.specs.Promise.{SeasonPromise}
 use Rattle.stored.specs.Layout.{takeUpOf}
-use Rattle.part.specs.Promise.{Told, lineTold, readingTold, BytesRun, stop, feeds, reads, SeasonTold, PartPromise}
-use Rattle.part.proofs.PromiseLaws.{part-promise}
+use Rattle.part_spec.specs.Promise.{Told, lineTold, readingTold, BytesRun, stop, feeds, reads, SeasonTold, PartPromise}
+use Rattle.part_spec.proofs.PromiseLaws.{part-promise}
 use Rattle.part.proofs.pod1_feed.Reads as feed-reads
 use Rattle.part.proofs.pod1_read.Reads as read-reads
 

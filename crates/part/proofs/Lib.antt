@@ -1,3 +1,1 @@
-mod CallLaws
-mod PromiseLaws
 mod Cited

@@ -1,38 +1,18 @@
 // The part that makers link from C and Rust: the account as bytes in a lent buffer, and answers as numbers.
 // A code is 0, or the row that refuses the call plus 256 times the field that rows 10 and 26 name.
-mod code;
-
 use account_spec::Fed;
 use account_spec::Reading;
+use answers::Printed;
+use answers::Readout;
 use frames::Written;
 use stored::Held;
 ghost use mathlib.Core.Path.{_≡_};
 ghost use Rattle.records.specs.Answers.{accepted};
 ghost use Rattle.report_spec.specs.Season.{reportOf};
 ghost use Rattle.account_spec.specs.Account.{freshAccount};
-ghost use Rattle.part.specs.Calls.{Stores, FeedsBytes, readIn, readoutOf, lineIn, PrintsBytes};
-ghost use Rattle.part.specs.Promise.{PartPromise};
-
-// What reading gives: code 0, the sums and the verdict by its number, or the code of a refusal and zeros.
-#[repr(C)]
-pub struct Readout {
-    pub code: u32,
-    pub verdict: u32,
-    pub hours: u32,
-    pub counted: u32,
-    pub missing: u32,
-    pub least: u32,
-    pub most: u32,
-    pub lower: u64,
-    pub upper: u64,
-}
-
-// What writing gives: code 0 and the bytes written, or the code of a refusal and 0.
-#[repr(C)]
-pub struct Printed {
-    pub code: u32,
-    pub length: u64,
-}
+ghost use Rattle.answers.specs.Reading.{readoutOf};
+ghost use Rattle.part_spec.specs.Calls.{Stores, FeedsBytes, readIn, lineIn, PrintsBytes};
+ghost use Rattle.part_spec.specs.Promise.{PartPromise};
 
 // A fresh account into the first bytes of a buffer; refused only by row 12.
 #[no_mangle]
@@ -42,7 +22,7 @@ pub extern "C" fn pod1_fresh(account: &mut [u8]) -> u32
 {
     let fresh = account::fresh();
     let written = stored::store(fresh, account);
-    code::of_written(written)
+    answers::of_written(written)
 }
 
 // A line to the account in a buffer: row 13 where there is none, then those of feeding. The buffer is unchanged where a row refuses.
@@ -57,12 +37,12 @@ pub extern "C" fn pod1_feed(account: &mut [u8], line: &[u8]) -> u32
             match fed {
                 Fed::Accepted(next) => {
                     let written = stored::store(next, account);
-                    code::of_written(written)
+                    answers::of_written(written)
                 },
-                Fed::Refused(refusal, _) => code::code_of(refusal),
+                Fed::Refused(refusal, _) => answers::code_of(refusal),
             }
         },
-        Held::Refused(refusal) => code::code_of(refusal),
+        Held::Refused(refusal) => answers::code_of(refusal),
     }
 }
 
@@ -76,11 +56,11 @@ pub extern "C" fn pod1_read(account: &[u8]) -> Readout
         Held::Account(a) => {
             let reading = account::read(a);
             match reading {
-                Reading::Given(totals) => code::readout_of(totals),
-                Reading::Refused(refusal) => code::no_readout(code::code_of(refusal)),
+                Reading::Given(totals) => answers::readout_of(totals),
+                Reading::Refused(refusal) => answers::no_readout(answers::code_of(refusal)),
             }
         },
-        Held::Refused(refusal) => code::no_readout(code::code_of(refusal)),
+        Held::Refused(refusal) => answers::no_readout(answers::code_of(refusal)),
     }
 }
 
@@ -93,11 +73,11 @@ pub extern "C" fn pod1_line(account: &[u8], buffer: &mut [u8]) -> Printed
     match held {
         Held::Account(a) => {
             let written = report::format(a, buffer);
-            code::printed_of(written)
+            answers::printed_of(written)
         },
         Held::Refused(refusal) => {
             let written = Written::Refused(refusal);
-            code::printed_of(written)
+            answers::printed_of(written)
         },
     }
 }
@@ -108,5 +88,5 @@ pub extern "C" fn pod1_report(text: &[u8], buffer: &mut [u8]) -> Printed
     ensures { λ r. ⌜ PrintsBytes (accepted (reportOf (now (text .entry)))) (now (buffer .entry)) r (now (buffer .exit)) ⌝ }
 {
     let written = report::season_report(text, buffer);
-    code::printed_of(written)
+    answers::printed_of(written)
 }

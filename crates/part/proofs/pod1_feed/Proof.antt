@@ -1,6 +1,6 @@
 -- `part::pod1_feed` meets its contract.
 use borrow.Author.Needs.{needs}
-use Rattle.part.proofs.CallLaws.{feeds-none, feeds-accepted, feeds-refused}
+use Rattle.part_spec.proofs.CallLaws.{feeds-none, feeds-accepted, feeds-refused}
 use Rattle.part.proofs.pod1_feed.Statement.{statement}
 use Rattle.part.proofs.pod1_feed.Tie as tie
 

@@ -1,6 +1,6 @@
 -- `part::pod1_fresh` meets its contract.
 use borrow.Author.Needs.{needs}
-use Rattle.part.proofs.CallLaws.{stores}
+use Rattle.part_spec.proofs.CallLaws.{stores}
 use Rattle.part.proofs.Cited.{part-cited}
 use Rattle.part.proofs.pod1_fresh.Statement.{statement}
 use Rattle.part.proofs.pod1_fresh.Tie as tie

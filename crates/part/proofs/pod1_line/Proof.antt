@@ -1,7 +1,7 @@
 -- `part::pod1_line` meets its contract.
 use mathlib.Core.Path.{refl}
 use borrow.Author.Needs.{needs}
-use Rattle.part.proofs.CallLaws.{line-some, line-none}
+use Rattle.part_spec.proofs.CallLaws.{line-some, line-none}
 use Rattle.part.proofs.pod1_line.Statement.{statement}
 use Rattle.part.proofs.pod1_line.Tie as tie
 

@@ -2,8 +2,8 @@
 use borrow.Author.Needs.{needs}
 use mathlib.Core.Path.{sym, ap, _∙_}
 use Rattle.account_spec.specs.Reading.{readingAs}
-use Rattle.part.specs.Calls.{noReadout, readoutOf}
-use Rattle.part.proofs.CallLaws.{reads-none, reads-some}
+use Rattle.answers.specs.Reading.{noReadout, readoutOf}
+use Rattle.part_spec.proofs.CallLaws.{reads-none, reads-some}
 use Rattle.part.proofs.pod1_read.Statement.{statement}
 use Rattle.part.proofs.pod1_read.Tie as tie
 

@@ -1,7 +1,7 @@
--- `part::code::readout_of` meets its contract.
+-- `answers::readout_of` meets its contract.
 use borrow.Author.Needs.{needs}
-use Rattle.part.proofs.code.readout_of.Statement.{statement}
-use Rattle.part.proofs.code.readout_of.Tie as tie
+use Rattle.answers.proofs.readout_of.Statement.{statement}
+use Rattle.answers.proofs.readout_of.Tie as tie
 
 verdict-number-requires : tie.Need-verdict-number-requires
 verdict-number-requires c κs = search needs

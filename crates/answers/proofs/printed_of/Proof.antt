@@ -1,7 +1,7 @@
--- `part::code::printed_of` meets its contract.
+-- `answers::printed_of` meets its contract.
 use borrow.Author.Needs.{needs}
-use Rattle.part.proofs.code.printed_of.Statement.{statement}
-use Rattle.part.proofs.code.printed_of.Tie as tie
+use Rattle.answers.proofs.printed_of.Statement.{statement}
+use Rattle.answers.proofs.printed_of.Tie as tie
 
 enum-known-written : tie.Need-enum-known-written
 enum-known-written c = search needs

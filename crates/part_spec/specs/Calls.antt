@@ -1,5 +1,5 @@
--- What each exported call answers and leaves. A code is 0, or the row that refuses the call plus 256 times the field that rows 10 and 26 name.
-use Prim.Native.Nat.{ℕ, _+_, _*_}
+-- What each exported call answers and leaves.
+use Prim.Native.Nat.{ℕ}
 use mathlib.Core.Path.{_≡_}
 use mathlib.Core.List.{List, _++_}
 use lib.ListN.{length, drop}
@@ -7,23 +7,15 @@ use Rattle.records.specs.declared.Written.{Written}
 use Rattle.records.specs.Answers.{Outcome, accepted, refused, onward, writtenAs}
 use Rattle.records.specs.Buffer.{putOf, bufferAfter, Prints}
 use Rattle.account_spec.specs.declared.Account.{Account}
-use Rattle.account_spec.specs.declared.Verdict.{Verdict}
-use Rattle.account_spec.specs.declared.Verdict.the-variants.{None, Undecided, Exceeded, Below}
 use Rattle.account_spec.specs.declared.Totals.{Totals}
 use Rattle.account_spec.specs.Rules.{feedOf}
 use Rattle.account_spec.specs.Reading.{readOf}
 use Rattle.stored.specs.Packing.{totalWidth}
 use Rattle.stored.specs.Layout.{widths, accountBytes, takeUpOf}
 use Rattle.report_spec.specs.Line.{formatOf}
-use Rattle.part.specs.declared.Printed.{Printed}
-use Rattle.part.specs.declared.Readout.{Readout}
-
-abbrev pub codeOfRow : ℕ × ℕ → ℕ
-codeOfRow r = r .0 + 256 * r .1
-
-abbrev pub codeOf : {A : Type 0} → Outcome A → ℕ
-codeOf (accepted a) = 0
-codeOf (refused r) = codeOfRow r
+use Rattle.answers.specs.declared.Printed.{Printed}
+use Rattle.answers.specs.Code.{codeOf}
+use Rattle.answers.specs.Writing.{printedOf}
 
 -- ---- storing an account
 
@@ -54,38 +46,10 @@ pub record FeedsBytes (before line : List ℕ) (answer : ℕ) (after : List ℕ)
 
 -- ---- reading it
 
-abbrev pub verdictNumber : Verdict → ℕ
-verdictNumber None = 0
-verdictNumber Undecided = 1
-verdictNumber Exceeded = 2
-verdictNumber Below = 3
-
 unfoldable pub readIn : List ℕ → Outcome Totals
 readIn before = onward (takeUpOf before) readOf
 
-abbrev pub noReadout : ℕ → Readout
-noReadout code = record { code = code; verdict = 0; hours = 0; counted = 0; missing = 0; least = 0; most = 0; lower = 0; upper = 0 }
-
--- on a refusal its code, and zeros
-abbrev pub readoutOf : Outcome Totals → Readout
-readoutOf (accepted t) = record {
-  code = 0;
-  verdict = verdictNumber (t .verdict);
-  hours = t .sums .hours;
-  counted = t .sums .counted;
-  missing = t .sums .missing;
-  least = t .sums .least;
-  most = t .sums .most;
-  lower = t .sums .lower;
-  upper = t .sums .upper;
-}
-readoutOf (refused r) = noReadout (codeOfRow r)
-
 -- ---- writing a text into a lent buffer
-
-abbrev pub printedOf : Outcome ℕ → Printed
-printedOf (accepted n) = record { code = 0; length = n }
-printedOf (refused r) = record { code = codeOfRow r; length = 0 }
 
 -- what `Prints` answers, as numbers, and leaves
 pub record PrintsBytes (text : Outcome (List ℕ)) (before : List ℕ) (answer : Printed) (after : List ℕ) : Type 0 where

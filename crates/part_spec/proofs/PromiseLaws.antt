@@ -11,9 +11,11 @@ use Rattle.account_spec.specs.Reading.{readOf, readingAs}
 use Rattle.account_spec.specs.Runs.{Event, fed, taken, Run, Call, line, reading, callsOf}
 use Rattle.account_spec.specs.Promise.{SeasonPromise}
 use Rattle.stored.specs.Layout.{takeUpOf}
-use Rattle.part.specs.declared.Readout.{Readout}
-use Rattle.part.specs.Calls.{codeOf, fedIn, bytesAfter, FeedsBytes, readIn, readoutOf}
-use Rattle.part.specs.Promise.{Told, lineTold, readingTold, BytesRun, toldOf, PartPromise}
+use Rattle.answers.specs.declared.Readout.{Readout}
+use Rattle.answers.specs.Code.{codeOf}
+use Rattle.answers.specs.Reading.{readoutOf}
+use Rattle.part_spec.specs.Calls.{fedIn, bytesAfter, FeedsBytes, readIn}
+use Rattle.part_spec.specs.Promise.{Told, lineTold, readingTold, BytesRun, toldOf, PartPromise}
 
 abbrev askedIn : List Told → List Call
 askedIn [] = []

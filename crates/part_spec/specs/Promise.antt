@@ -10,8 +10,10 @@ use Rattle.account_spec.specs.Book.{emptyBook}
 use Rattle.account_spec.specs.Runs.{Event, fed, taken, Run}
 use Rattle.account_spec.specs.Promise.{Kept}
 use Rattle.stored.specs.Layout.{takeUpOf}
-use Rattle.part.specs.declared.Readout.{Readout}
-use Rattle.part.specs.Calls.{codeOf, FeedsBytes, readIn, readoutOf}
+use Rattle.answers.specs.declared.Readout.{Readout}
+use Rattle.answers.specs.Code.{codeOf}
+use Rattle.answers.specs.Reading.{readoutOf}
+use Rattle.part_spec.specs.Calls.{FeedsBytes, readIn}
 
 -- what a maker sees: a line fed, with its code; what a reading gave
 pub data Told : Type 0 where

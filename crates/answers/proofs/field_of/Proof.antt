@@ -1,7 +1,7 @@
--- `part::code::field_of` meets its contract.
+-- `answers::field_of` meets its contract.
 use borrow.Author.Needs.{needs}
-use Rattle.part.proofs.code.field_of.Statement.{statement}
-use Rattle.part.proofs.code.field_of.Tie as tie
+use Rattle.answers.proofs.field_of.Statement.{statement}
+use Rattle.answers.proofs.field_of.Tie as tie
 
 pub field-of-spec : {M : Type 1} → statement M
 field-of-spec =

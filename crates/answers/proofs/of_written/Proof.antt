@@ -1,7 +1,7 @@
--- `part::code::of_written` meets its contract.
+-- `answers::of_written` meets its contract.
 use borrow.Author.Needs.{needs}
-use Rattle.part.proofs.code.of_written.Statement.{statement}
-use Rattle.part.proofs.code.of_written.Tie as tie
+use Rattle.answers.proofs.of_written.Statement.{statement}
+use Rattle.answers.proofs.of_written.Tie as tie
 
 enum-told : tie.Need-enum-told
 enum-told c = search needs

@@ -23,8 +23,11 @@ use Rattle.stored.specs.declared.Held.{Held}
 use Rattle.stored.proofs.HeldLaws.{taken-room}
 use Rattle.stored.proofs.AccountLaws.{account-length}
 use Rattle.report_spec.specs.Line.{formatOf}
-use Rattle.part.specs.declared.Printed.{Printed}
-use Rattle.part.specs.Calls.{codeOf, codeOfRow, Stores, fedIn, FeedsBytes, readIn, noReadout, readoutOf, printedOf, PrintsBytes, lineIn}
+use Rattle.answers.specs.declared.Printed.{Printed}
+use Rattle.answers.specs.Code.{codeOf, codeOfRow}
+use Rattle.answers.specs.Reading.{noReadout, readoutOf}
+use Rattle.answers.specs.Writing.{printedOf}
+use Rattle.part_spec.specs.Calls.{Stores, fedIn, FeedsBytes, readIn, PrintsBytes, lineIn}
 
 -- ---- storing
 

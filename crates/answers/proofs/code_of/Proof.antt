@@ -1,8 +1,8 @@
--- `part::code::code_of` meets its contract: the row, and 256 times the field.
+-- `answers::code_of` meets its contract: the row, and 256 times the field.
 use mathlib.Core.Path.{refl}
 use borrow.Author.Needs.{needs}
-use Rattle.part.proofs.code.code_of.Statement.{statement}
-use Rattle.part.proofs.code.code_of.Tie as tie
+use Rattle.answers.proofs.code_of.Statement.{statement}
+use Rattle.answers.proofs.code_of.Tie as tie
 
 returns : tie.Need-returns
 returns c = rw (c .before .row-of .ensures, c .field-of .ensures) refl

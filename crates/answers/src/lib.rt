@@ -1,13 +1,35 @@
-// Answers as numbers: a code, and what reading gives.
-use crate::Printed;
-use crate::Readout;
+// Answers as numbers, for callers in C and Rust: a code, what reading gives, what writing gives.
+// A code is 0, or the row that refuses the call plus 256 times the field that rows 10 and 26 name.
 use account_spec::Totals;
 use account_spec::Verdict;
 use frames::Refusal;
 use frames::Written;
 ghost use mathlib.Core.Path.{_≡_};
 ghost use Rattle.records.specs.Answers.{accepted, rowOf, writtenAs};
-ghost use Rattle.part.specs.Calls.{codeOf, codeOfRow, printedOf, verdictNumber, noReadout, readoutOf};
+ghost use Rattle.answers.specs.Code.{codeOf, codeOfRow};
+ghost use Rattle.answers.specs.Reading.{verdictNumber, noReadout, readoutOf};
+ghost use Rattle.answers.specs.Writing.{printedOf};
+
+// What reading gives: code 0, the sums and the verdict by its number, or the code of a refusal and zeros.
+#[repr(C)]
+pub struct Readout {
+    pub code: u32,
+    pub verdict: u32,
+    pub hours: u32,
+    pub counted: u32,
+    pub missing: u32,
+    pub least: u32,
+    pub most: u32,
+    pub lower: u64,
+    pub upper: u64,
+}
+
+// What writing gives: code 0 and the bytes written, or the code of a refusal and 0.
+#[repr(C)]
+pub struct Printed {
+    pub code: u32,
+    pub length: u64,
+}
 
 // The field that rows 10 and 26 name, else 0.
 fn field_of(refusal: Refusal) -> u8
@@ -43,13 +65,13 @@ fn field_of(refusal: Refusal) -> u8
     }
 }
 
-pub(crate) fn code_of(refusal: Refusal) -> u32
+pub fn code_of(refusal: Refusal) -> u32
     ensures { λ r. ⌜ r ≡ codeOfRow (rowOf «refusal») ⌝ }
 {
     (frames::row_of(refusal) as u32) + 256 * (field_of(refusal) as u32)
 }
 
-pub(crate) fn of_written(written: Written) -> u32
+pub fn of_written(written: Written) -> u32
     ensures { λ r. ⌜ r ≡ codeOf (writtenAs «written») ⌝ }
 {
     match written {
@@ -58,7 +80,7 @@ pub(crate) fn of_written(written: Written) -> u32
     }
 }
 
-pub(crate) fn printed_of(written: Written) -> Printed
+pub fn printed_of(written: Written) -> Printed
     ensures { λ r. ⌜ r ≡ printedOf (writtenAs «written») ⌝ }
 {
     match written {
@@ -84,7 +106,7 @@ fn verdict_number(verdict: Verdict) -> u32
     }
 }
 
-pub(crate) fn no_readout(code: u32) -> Readout
+pub fn no_readout(code: u32) -> Readout
     ensures { λ r. ⌜ r ≡ noReadout code ⌝ }
 {
     Readout {
@@ -100,7 +122,7 @@ pub(crate) fn no_readout(code: u32) -> Readout
     }
 }
 
-pub(crate) fn readout_of(totals: Totals) -> Readout
+pub fn readout_of(totals: Totals) -> Readout
     ensures { λ r. ⌜ r ≡ readoutOf (accepted totals) ⌝ }
 {
     let sums = totals.sums;
