@@ -1,0 +1,5 @@
+mod PartLaws
+mod TakingLaws
+mod StoringLaws
+mod FeedingLaws
+mod RunLaws

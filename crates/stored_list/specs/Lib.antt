@@ -1,0 +1,4 @@
+pub mod InBytes
+pub mod Feeding
+pub mod Promise
+pub mod Steps
