@@ -1,16 +1,16 @@
 -- Feeding a list that stands in bytes, by what the calls below it answer.
 use Prim.Native.Nat.{ℕ, suc, _+_, _*_, _≤_}
-use mathlib.Core.Path.{_≡_, refl, sym, ap, subst, _∙_}
+use mathlib.Core.Path.{_≡_, refl, sym, ap, _∙_}
 use mathlib.Core.Bool.{true, false}
-use mathlib.Core.List.{List, [], _∷_, _++_}
+use mathlib.Core.List.{List, _++_}
 use native.Mathlib.Omega.{arith}
 use borrow.Author.Tests.{le-ltb, ltb-false}
 use lib.Dec.{eqb, ltb}
 use lib.ListN.{length, take, drop, length-append, length-drop}
 use lib.Seq.{take-at}
 use Rattle.records.specs.declared.Refusal.{Refusal}
-use Rattle.records.specs.Answers.{Outcome, accepted, refused, row, onward, reply, rowOf}
-use Rattle.records.proofs.AnswerLaws.{or-neither, refused-not-accepted, accepted-same}
+use Rattle.records.specs.Answers.{Outcome, accepted, refused, reply, rowOf}
+use Rattle.records.proofs.AnswerLaws.{or-neither, refused-not-accepted}
 use Rattle.account_spec.specs.declared.Account.{Account}
 use Rattle.stored.specs.Packing.{totalWidth}
 use Rattle.stored.specs.Layout.{widths}

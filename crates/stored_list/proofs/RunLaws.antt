@@ -2,7 +2,7 @@
 use Prim.Native.Nat.{ℕ}
 use mathlib.Core.Path.{_≡_, refl, sym, ap, _∙_}
 use mathlib.Core.Bool.{Bool, true, false}
-use mathlib.Core.List.{List, [], _∷_}
+use mathlib.Core.List.{List}
 use lib.ListN.{length}
 use Rattle.records.specs.Answers.{Outcome, accepted, refused, row, onward, reply}
 use Rattle.account_spec.specs.declared.Account.{Account}
@@ -13,7 +13,7 @@ use Rattle.list_spec.specs.Runs.{LineFed, ListRun}
 use Rattle.list_spec.proofs.ListLaws.{list-promise}
 use Rattle.stored_list.specs.InBytes.{countIn, listIn}
 use Rattle.stored_list.specs.Feeding.{fedListedOf, listedAfter, FeedsListed}
-use Rattle.stored_list.specs.Promise.{ListedRun, Listed, ListedPromise}
+use Rattle.stored_list.specs.Promise.{ListedRun, HoldsRun, ListedPromise}
 use Rattle.stored_list.proofs.TakingLaws.{taken-length}
 
 row-again : {A : Type 0} (s t : Bool) (o : Outcome A) → s ≡ t → row 22 s (row 22 t o) ≡ row 22 t o
@@ -36,7 +36,7 @@ module _ (b : List ℕ) (xs : List Account) (held : listIn b ≡ accepted xs) wh
   fed-all : (line after : List ℕ) (r : FedAll) → FeedsListed b line r after → FeedsAll xs line r (leftTogether xs (feedAllOf xs line))
   fed-all line after r k = record { answers = k .answers ∙ ap reply (fed-is line); leaves = refl }
 
-listed-run : (b left : List ℕ) (es : List LineFed) → ListedRun b es left → (xs : List Account) → listIn b ≡ accepted xs → Listed xs es left
+listed-run : (b left : List ℕ) (es : List LineFed) → ListedRun b es left → (xs : List Account) → listIn b ≡ accepted xs → HoldsRun xs es left
 listed-run b left es ListedRun.stop xs held = record { accounts = xs; held = held; run = ListRun.stop }
 listed-run b left es (ListedRun.feeds {after = after} {fed = fed} {es = rest} k run) xs held =
     let line = fed .line in
@@ -45,4 +45,4 @@ listed-run b left es (ListedRun.feeds {after = after} {fed = fed} {es = rest} k 
     record { accounts = more .accounts; held = more .held; run = ListRun.feeds (fed-all b xs held line after (fed .reply) k) (more .run) }
 
 pub listed-promise : ListedPromise
-listed-promise = record { list = list-promise; listed = listed-run }
+listed-promise = record { list = list-promise; runs = listed-run }

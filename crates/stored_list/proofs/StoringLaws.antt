@@ -1,21 +1,21 @@
 -- Accounts are stored one after the other: those so far at the front, the next one at the front of the bytes that are left.
-use Prim.Native.Nat.{ℕ, suc, _+_, _-_, _*_, _≤_, _<_}
+use Prim.Native.Nat.{ℕ, _+_, _-_, _*_, _≤_, _<_}
 use mathlib.Core.Path.{_≡_, refl, sym, ap, subst, _∙_}
 use mathlib.Core.List.{List, [], _∷_, _++_, append-nil, append-assoc}
 use native.Mathlib.Omega.{arith}
 use native.Mathlib.Numerals.{add-one}
 use borrow.Author.Tests.{le-ltb}
 use lib.ListN.{length, getD, take, drop, length-append, length-drop}
-use lib.Seq.{take-all, drop-length, take-at, drop-at, take-suc, drop-drop, length-take-le}
+use lib.Seq.{drop-at, take-suc, drop-drop, length-take-le}
 use Rattle.records.specs.declared.Written.{Written}
 use Rattle.records.specs.Answers.{accepted}
 use Rattle.records.specs.Buffer.{Prints}
 use Rattle.account_spec.specs.declared.Account.{Account}
 use Rattle.stored.specs.Packing.{totalWidth}
-use Rattle.stored.specs.Layout.{widths, accountBytes, takeUpOf}
+use Rattle.stored.specs.Layout.{widths, accountBytes}
 use Rattle.stored.specs.RoundTrip.{TakenUp}
 use Rattle.stored.proofs.AccountLaws.{account-length}
-use Rattle.stored_list.specs.InBytes.{accountsBytes, accountsIn, countIn, listIn}
+use Rattle.stored_list.specs.InBytes.{accountsBytes, accountsIn}
 use Rattle.stored_list.specs.Steps.{TakenUpAll, StoresAll}
 use Rattle.stored_list.proofs.PartLaws.{part-lent, part-back}
 

@@ -14,12 +14,13 @@ pub data ListedRun : List ℕ → List LineFed → List ℕ → Type 0 where
   stop : {b : List ℕ} → ListedRun b [] b
   feeds : {b after left : List ℕ} {fed : LineFed} {es : List LineFed} → FeedsListed b (fed .line) (fed .reply) after → ListedRun after es left → ListedRun b (fed ∷ es) left
 
--- the accounts that the bytes hold at the end are those that a run of the list leaves, line by line with the same replies
-pub record Listed (xs : List Account) (es : List LineFed) (left : List ℕ) : Type 0 where
+-- bytes that hold what a run of the list leaves, with these lines and replies
+pub record HoldsRun (xs : List Account) (es : List LineFed) (left : List ℕ) : Type 0 where
   pub accounts : List Account
   pub held : listIn left ≡ accepted accounts
   pub run : ListRun xs es accounts
 
 pub record ListedPromise : Type 0 where
   pub list : ListPromise
-  pub listed : (b left : List ℕ) (es : List LineFed) → ListedRun b es left → (xs : List Account) → listIn b ≡ accepted xs → Listed xs es left
+  -- lines fed to bytes that hold a list are a run of that list
+  pub runs : (b left : List ℕ) (es : List LineFed) → ListedRun b es left → (xs : List Account) → listIn b ≡ accepted xs → HoldsRun xs es left

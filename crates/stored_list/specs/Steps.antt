@@ -1,5 +1,5 @@
 -- Serves the code's own steps; no reader need believe it.
-use Prim.Native.Nat.{ℕ, _*_}
+use Prim.Native.Nat.{ℕ, _*_, _≤_}
 use mathlib.Core.Path.{_≡_}
 use mathlib.Core.Bool.{cond}
 use mathlib.Core.List.{List, [], _∷_, _++_}
@@ -11,6 +11,11 @@ use Rattle.stored.specs.Layout.{widths}
 use Rattle.stored.specs.RoundTrip.{TakenUp}
 use Rattle.stored_list.specs.declared.HeldAll.{HeldAll}
 use Rattle.stored_list.specs.InBytes.{accountsBytes}
+
+-- at most six accounts, and bytes for them
+pub record HasRoom (count : ℕ) (l : List ℕ) : Type 0 where
+  pub few : count ≤ 6
+  pub room : totalWidth widths * count ≤ length l
 
 abbrev pub heldAllAs : ℕ → HeldAll → Outcome (List Account)
 heldAllAs count h = cond (h .all) (accepted (take count (h .accounts))) (refused (13, 0))

@@ -5,26 +5,24 @@ use list_spec::FedAll;
 use stored::Held;
 use stored::SIZE;
 ghost use mathlib.Core.Path.{_≡_};
-ghost use Prim.Native.Nat.{_*_, _≤_};
-ghost use lib.ListN.{length, take};
-ghost use Rattle.stored.specs.Packing.{totalWidth};
-ghost use Rattle.stored.specs.Layout.{widths};
+ghost use lib.ListN.{take};
 ghost use Rattle.stored_list.specs.InBytes.{accountsIn};
 ghost use Rattle.stored_list.specs.Feeding.{FeedsListed};
 ghost use Rattle.stored_list.specs.Promise.{ListedPromise};
-ghost use Rattle.stored_list.specs.Steps.{heldAllAs, StoresAll};
+ghost use Rattle.stored_list.specs.Steps.{HasRoom, heldAllAs, StoresAll};
 
 // The most accounts of a list.
 const MOST: usize = 6;
 
-// Whether bytes hold as many accounts as were asked for, and those as the first of six.
+// Whether bytes hold as many accounts as were asked for; those are the first of six.
 struct HeldAll {
     all: bool,
     accounts: [Account; MOST],
 }
 
+// The first accounts of a slice of bytes: that one of them is none, where its bytes hold none.
 fn take_up_all(bytes: &[u8], count: usize) -> HeldAll
-    requires { ⌜ (count ≤ 6) × (totalWidth widths * count ≤ length (now bytes)) ⌝ }
+    requires { ⌜ HasRoom count (now bytes) ⌝ }
     ensures { λ r. ⌜ heldAllAs count r ≡ accountsIn count (now (bytes .entry)) ⌝ }
 {
     let mut accounts = [account::fresh(); MOST];
@@ -47,8 +45,9 @@ fn take_up_all(bytes: &[u8], count: usize) -> HeldAll
     }
 }
 
+// The first of six accounts into the first bytes of a buffer.
 fn store_all(accounts: [Account; MOST], count: usize, bytes: &mut [u8])
-    requires { ⌜ (count ≤ 6) × (totalWidth widths * count ≤ length (now bytes)) ⌝ }
+    requires { ⌜ HasRoom count (now bytes) ⌝ }
     ensures { λ _. ⌜ StoresAll (take count accounts) (now (bytes .entry)) (now (bytes .exit)) ⌝ }
 {
     let mut i = 0;

@@ -13,7 +13,7 @@ returns : tie.Need-returns
 returns c = (listed-size _ _ (c .if1 .taken), listed-promise)
 
 take-up-all-requires : tie.Need-take-up-all-requires
-take-up-all-requires c κs = (listed-few _ (c .before .if1 .left), omega arith)
+take-up-all-requires c κs = record { few = listed-few _ (c .before .if1 .left); room = omega arith }
 
 same-length : tie.Need-same-length
 same-length c = search needs
@@ -31,7 +31,7 @@ enum-told : tie.Need-enum-told
 enum-told c = search needs
 
 store-all-requires : tie.Need-store-all-requires
-store-all-requires c κs = let test = c .before .before .before .before .before .before .before .before .before .before in (listed-few _ (test .if1 .left), omega arith)
+store-all-requires c κs = let test = c .before .before .before .before .before .before .before .before .before .before in record { few = listed-few _ (test .if1 .left); room = omega arith }
 
 enum-known-answer : tie.Need-enum-known-answer
 enum-known-answer c = search needs

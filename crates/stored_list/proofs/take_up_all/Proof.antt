@@ -1,7 +1,7 @@
 -- `stored_list::take_up_all` meets its contract.
 use native.Mathlib.Omega.{arith}
 use borrow.Author.Needs.{needs}
-use mathlib.Core.Path.{_≡_, refl, sym, ap, _∙_}
+use mathlib.Core.Path.{_≡_, refl}
 use Prim.Native.Nat.{_-_, _*_, _≤_}
 use lib.ListN.{length, length-set, take, drop}
 use Rattle.stored.specs.Packing.{totalWidth}
