@@ -121,16 +121,16 @@ if has gcc; then
 else
     left_out gcc 'the calls and the station in C'
 fi
-if has rustc; then
+if has rustc && has cc; then
     rustc --edition 2021 -D warnings -L target -o "$room/calls_in_rust" tests/part_calls.rs
     rustc --edition 2021 -D warnings -O -L target -o "$room/station_in_rust" examples/station.rs
     "$room/calls_in_rust"
     try_station "$room/station_in_rust"
     cuts 10 "$room/station_in_rust"
 else
-    left_out rustc 'the wrapper and the station in Rust'
+    left_out 'rustc or its linker cc' 'the wrapper and the station in Rust'
 fi
-if has gcc && has rustc; then
+if has gcc && has rustc && has cc; then
     take_up "$room/station" "$room/station_in_rust"
     take_up "$room/station_in_rust" "$room/station"
     cuts 10 "$room/station" "$room/station_in_rust"
