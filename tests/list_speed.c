@@ -27,25 +27,18 @@ static struct stand opened(const struct text *t)
     return six;
 }
 
-static void together(const struct text *t, struct stand *six, struct least *times)
+// A part of the season in both ways, one directly after the other, so that what disturbs the one disturbs the other.
+static void run_part(const struct text *t, size_t start, struct stand *one, struct stand *other, struct least *of_all, struct least *of_each)
 {
-    for (EACH_PART(start, t)) {
-        double began = now();
-        for (EACH_LINE(i, start))
-            pod1_feed_all(six->bytes, sizeof six->bytes, t->bytes + t->starts[i], t->ends[i] - t->starts[i]);
-        keep_least(times, start, now() - began);
-    }
-}
-
-static void alone(const struct text *t, struct stand *six, struct least *times)
-{
-    for (EACH_PART(start, t)) {
-        double began = now();
-        for (EACH_LINE(i, start))
-            for (size_t a = 0; a < POD1_LIST; a++)
-                pod1_feed(six->bytes + a * POD1_ACCOUNT, POD1_ACCOUNT, t->bytes + t->starts[i], t->ends[i] - t->starts[i]);
-        keep_least(times, start, now() - began);
-    }
+    double began = now();
+    for (EACH_LINE(i, start))
+        pod1_feed_all(one->bytes, sizeof one->bytes, t->bytes + t->starts[i], t->ends[i] - t->starts[i]);
+    double middle = now();
+    for (EACH_LINE(i, start))
+        for (size_t a = 0; a < POD1_LIST; a++)
+            pod1_feed(other->bytes + a * POD1_ACCOUNT, POD1_ACCOUNT, t->bytes + t->starts[i], t->ends[i] - t->starts[i]);
+    keep_least(of_all, start, middle - began);
+    keep_least(of_each, start, now() - middle);
 }
 
 // Both ways gave the same accounts, and every hour was taken; the header, which the six have had, was refused.
@@ -66,8 +59,8 @@ int main(int argc, char **argv)
     struct least of_all = none_yet(), of_each = none_yet();
     for (int run = 0; run < RUNS; run++) {
         struct stand one = opened(&t), other = one;
-        together(&t, &one, &of_all);
-        alone(&t, &other, &of_each);
+        for (EACH_PART(start, &t))
+            run_part(&t, start, &one, &other, &of_all, &of_each);
         if (!agree(&t, &one, &other)) {
             puts("the accounts differ");
             return 1;

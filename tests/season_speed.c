@@ -9,42 +9,31 @@
 
 enum { RUNS = 40 };
 
-static void by_doubles(const struct text *t, struct season *s, struct least *times)
-{
-    for (EACH_PART(start, t)) {
-        double began = now();
-        for (EACH_LINE(i, start))
-            feed(s, t->bytes + t->starts[i], t->ends[i] - t->starts[i]);
-        keep_least(times, start, now() - began);
-    }
-    for (size_t i = t->lines / PART * PART; i < t->lines; i++)
-        feed(s, t->bytes + t->starts[i], t->ends[i] - t->starts[i]);
-}
-
-static void by_feed(const struct text *t, uint8_t account[POD1_ACCOUNT], struct least *times)
-{
-    for (EACH_PART(start, t)) {
-        double began = now();
-        for (EACH_LINE(i, start))
-            pod1_feed(account, POD1_ACCOUNT, t->bytes + t->starts[i], t->ends[i] - t->starts[i]);
-        keep_least(times, start, now() - began);
-    }
-    for (size_t i = t->lines / PART * PART; i < t->lines; i++)
-        pod1_feed(account, POD1_ACCOUNT, t->bytes + t->starts[i], t->ends[i] - t->starts[i]);
-}
-
 static volatile uint64_t kept;
 
-static void by_bytes(const struct text *t, struct least *times)
+struct times {
+    struct least feeding, doubles, bytes;
+};
+
+// Lines from a start to an end, in both accounts; a whole part is timed, one way directly after the other, so that what disturbs the one disturbs the other.
+static void run_lines(const struct text *t, size_t start, size_t end, struct season *s, uint8_t account[POD1_ACCOUNT], struct times *times)
 {
-    uint8_t account[POD1_ACCOUNT];
-    for (EACH_PART(start, t)) {
-        double began = now();
-        for (EACH_LINE(i, start)) {
-            pod1_fresh(account, sizeof account);
-            kept = pod1_read(account, sizeof account).hours;
-        }
-        keep_least(times, start, now() - began);
+    uint8_t other[POD1_ACCOUNT];
+    double began = now();
+    for (size_t i = start; i < end; i++)
+        pod1_feed(account, POD1_ACCOUNT, t->bytes + t->starts[i], t->ends[i] - t->starts[i]);
+    double second = now();
+    for (size_t i = start; i < end; i++)
+        feed(s, t->bytes + t->starts[i], t->ends[i] - t->starts[i]);
+    double third = now();
+    for (size_t i = start; i < end; i++) {
+        pod1_fresh(other, sizeof other);
+        kept = pod1_read(other, sizeof other).hours;
+    }
+    if (end - start == PART) {
+        keep_least(&times->feeding, start, second - began);
+        keep_least(&times->doubles, start, third - second);
+        keep_least(&times->bytes, start, now() - third);
     }
 }
 
@@ -71,23 +60,22 @@ int main(int argc, char **argv)
         return 2;
     struct text t = whole(argv[1], 0);
     find_lines(&t);
-    struct least feeding = none_yet(), doubles = none_yet(), bytes = none_yet();
+    struct times times = {none_yet(), none_yet(), none_yet()};
     double report = 1e9;
     for (int run = 0; run < RUNS; run++) {
         struct season s = {0};
         uint8_t account[POD1_ACCOUNT];
         pod1_fresh(account, sizeof account);
-        by_feed(&t, account, &feeding);
-        by_doubles(&t, &s, &doubles);
-        by_bytes(&t, &bytes);
+        for (size_t start = 0; start < t.lines; start += PART)
+            run_lines(&t, start, start + PART < t.lines ? start + PART : t.lines, &s, account, &times);
         report = fmin(report, by_report(&t));
         if (!agree(&s, account)) {
             puts("the figures differ");
             return 1;
         }
     }
-    double feed_time = mean(&feeding, &t);
+    double feeding = mean(&times.feeding, &t);
     printf("in one process: pod1_feed %.2f of C with doubles, %.2f of a line of pod1_report; pod1_fresh and pod1_read %.2f of pod1_feed\n",
-           feed_time / mean(&doubles, &t), feed_time / report, mean(&bytes, &t) / feed_time);
+           feeding / mean(&times.doubles, &t), feeding / report, mean(&times.bytes, &t) / feeding);
     return 0;
 }
