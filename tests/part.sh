@@ -30,10 +30,12 @@ look_into_archive() {
     nm --defined-only -g target/libpod1.a | python3 tests/part_names.py
 }
 
-# as C11, or as C++17
-compile_header() {
-    echo '#include "pod1.h"' >"$room/header.$1"
-    "$2" "-std=$3" -pedantic -Wall -Wextra -Werror -Iinclude -c -o "$room/header.o" "$room/header.$1"
+# the header in a language, by a compiler, in a standard of it: a program that links
+include_header() {
+    echo '#include "pod1.h"
+int main(void) { uint8_t account[POD1_ACCOUNT]; return (int)pod1_fresh(account, sizeof account); }' >"$room/header.$1"
+    "$2" "-std=$3" -pedantic -Wall -Wextra -Werror -Iinclude -o "$room/header" "$room/header.$1" target/libpod1.a
+    "$room/header"
 }
 
 compile() { gcc -std=c11 -g -pedantic -Wall -Wextra -Werror -Iinclude -o "$room/$1" "$2" "${@:3}" target/libpod1.a; }
@@ -107,11 +109,12 @@ cuts() {
 }
 
 ./part
-target/bin/pod1 <"$season" | head -n 1 >"$room/line"
+./pod1 "$season" >"$room/report"
+head -n 1 "$room/report" >"$room/line"
 if has nm; then look_into_archive; else left_out nm 'what the archive needs'; fi
-if has g++; then compile_header cc g++ c++17; else left_out g++ 'the header as C++17'; fi
+if has g++; then include_header cc g++ c++17; else left_out g++ 'the header as C++17'; fi
 if has gcc; then
-    compile_header c gcc c11
+    include_header c gcc c11
     compile calls tests/part_calls.c -O2
     compile station examples/station.c -O2
     "$room/calls"
