@@ -2,12 +2,14 @@
 # The part from C and from Rust: the archive needs memcpy and memset alone; names and numbers agree wherever they stand; every call answers as
 # docs/SPECIFICATION.md says; the stations of examples/ print the report's line, also where they are ended by SIGKILL and started again, and each takes up what
 # the other stored; in C all of it under the sanitizers and under valgrind too.
-# What needs gcc, g++, nm, rustc or valgrind is left out where that is missing, and said so. In memory where there is /dev/shm: a station syncs each line.
+# What needs gcc, g++, nm, rustc or valgrind is left out where that is missing, and said so. Accounts are stored in memory where there is /dev/shm, since a
+# station syncs each line.
 set -eu
 cd "$(dirname "$0")/.."
 season=examples/beech.txt
-room=$(mktemp -d -p /dev/shm 2>/dev/null || mktemp -d)
-trap 'rm -rf "$room"' EXIT
+room=$(mktemp -d)
+states=$(mktemp -d -p /dev/shm 2>/dev/null || mktemp -d)
+trap 'rm -rf "$room" "$states"' EXIT
 
 has() { "$1" --version >/dev/null 2>&1; }
 left_out() { echo "part: $1 is missing, so left out: $2"; }
@@ -20,7 +22,7 @@ fail() {
 ends() {
     local status=0
     "${@:2}" >"$room/out" 2>"$room/err" || status=$?
-    [ $status = "$1" ] || fail "$2 ended with status $status, not with $1: $(cat "$room/err")"
+    [ $status = "$1" ] || fail "$2 ended with status $status, not with $1: $(cat "$room/out" "$room/err")"
 }
 
 look_into_archive() {
@@ -48,7 +50,7 @@ refuses() {
 
 # what examples/station.c and examples/station.rs both do
 try_station() {
-    local state=$room/state
+    local state=$states/state
     rm -f "$state"
     ends 0 "$1" "$state" <"$season"
     cmp "$room/out" "$room/line"
@@ -65,19 +67,19 @@ try_station() {
     printf '0104' >"$state"
     ends 2 "$1" "$state" </dev/null
     [ "$(cat "$state")" = 0104 ] || fail "$1 has overwritten a file that is no account"
-    ends 2 "$1" "$room/no/state" <"$season"
+    ends 2 "$1" "$states/no/state" <"$season"
     ends 2 "$1" </dev/null
     rm "$state"
 }
 
 # half a season by the first station, all of it by the second one: the file is that of one station alone
 take_up() {
-    rm -f "$room/both" "$room/alone"
-    head -n 2000 "$season" | ends 0 "$1" "$room/both"
-    ends 0 "$2" "$room/both" <"$season"
+    rm -f "$states/both" "$states/alone"
+    head -n 2000 "$season" | ends 0 "$1" "$states/both"
+    ends 0 "$2" "$states/both" <"$season"
     cmp "$room/out" "$room/line"
-    ends 0 "$2" "$room/alone" <"$season"
-    cmp "$room/both" "$room/alone"
+    ends 0 "$2" "$states/alone" <"$season"
+    cmp "$states/both" "$states/alone"
 }
 
 # a program and its words, after valgrind
@@ -95,7 +97,7 @@ check_memory() {
     fi
     if has valgrind; then
         ends 0 under_valgrind "$room/calls"
-        ends 0 under_valgrind "$room/station" "$room/ground" <"$season"
+        ends 0 under_valgrind "$room/station" "$states/ground" <"$season"
         cmp "$room/out" "$room/line"
     else
         left_out valgrind 'the same under valgrind'
@@ -103,9 +105,9 @@ check_memory() {
 }
 
 cuts() {
-    mkdir "$room/cuts"
-    python3 tests/part_cuts.py "$room/cuts" "$season" "$@"
-    rm -r "$room/cuts"
+    mkdir "$states/cuts"
+    python3 tests/part_cuts.py "$states/cuts" "$season" "$@"
+    rm -r "$states/cuts"
 }
 
 ./part
