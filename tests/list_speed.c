@@ -1,69 +1,52 @@
-// A season's lines fed to six accounts together (crates/list) and to the same six one after the other (crates/account), line by line; how their times compare.
+// A season's lines fed to six accounts together (pod1_feed_all) and to the same six one after the other (pod1_feed), line by line; how their times compare, the
+// least of RUNS runs of each part of the season, in turn.
 //     list_speed TEXT
-// The text's header is that of all six, but for the tree: they have the trees of its soil measure. Besides: the six one by one, each through the whole season
-// at once, which no station can and which lets the compiler do once for all lines what depends on the account alone.
+// The text's header is that of all six, but for the tree: they have the trees of its soil measure. Exit status 1 where together does not take less.
+#include "../include/pod1.h"
 #include "bench/lines.h"
-#include <math.h>
 
-// tests/probe.sh: of the crate list_probe
-uint64_t probe_six_together(const uint8_t *text, size_t n, const size_t *starts, size_t lines, const size_t *ends, size_t same_lines, uint64_t place, uint64_t which);
-uint64_t probe_six_alone(const uint8_t *text, size_t n, const size_t *starts, size_t lines, const size_t *ends, size_t same_lines, uint64_t place, uint64_t which);
-// of the crate probe
-uint64_t probe_season(const uint8_t *text, size_t n, const size_t *starts, size_t lines, const size_t *ends, size_t same_lines, uint64_t which);
+enum { HEADER = 20, RUNS = 40 };
 
-enum { SIX = 6, HEADER = 21, FIGURES = 6 }; // a header's line with its line feed
+// The six accounts, one after the other.
+struct stand {
+    uint8_t bytes[POD1_LIST * POD1_ACCOUNT];
+};
 
-// The text with five headers more before its own, each of the six with its tree.
-static struct text of_six(const char *name)
+static struct stand opened(const struct text *t)
 {
-    struct text t = whole(name, (SIX - 1) * HEADER);
-    const uint8_t *own = t.bytes + (SIX - 1) * HEADER;
-    const char *trees = own[3] < '3' ? "121212" : "345634";
-    for (size_t i = 0; i < SIX; i++) {
-        memmove(t.bytes + i * HEADER, own, HEADER);
-        t.bytes[i * HEADER + 3] = (uint8_t)trees[i];
+    struct stand six;
+    uint8_t header[HEADER];
+    memcpy(header, t->bytes, sizeof header);
+    const char *trees = header[3] < '3' ? "121212" : "345634";
+    for (size_t i = 0; i < POD1_LIST; i++) {
+        uint8_t *account = six.bytes + i * POD1_ACCOUNT;
+        header[3] = (uint8_t)trees[i];
+        if (pod1_fresh(account, POD1_ACCOUNT) || pod1_feed(account, POD1_ACCOUNT, header, sizeof header))
+            exit(2);
     }
-    find_lines(&t);
-    return t;
+    return six;
 }
 
-static uint64_t together(const struct text *t, uint64_t place, uint64_t which)
+// A part of the season in both ways, one directly after the other, so that what disturbs the one disturbs the other.
+static void run_part(const struct text *t, size_t start, struct stand *one, struct stand *other, struct least *of_all, struct least *of_each)
 {
-    return probe_six_together(t->bytes, t->n, t->starts, t->lines, t->ends, t->lines, place, which);
+    double began = now();
+    for (EACH_LINE(i, start))
+        pod1_feed_all(one->bytes, sizeof one->bytes, t->bytes + t->starts[i], t->ends[i] - t->starts[i]);
+    double middle = now();
+    for (EACH_LINE(i, start))
+        for (size_t a = 0; a < POD1_LIST; a++)
+            pod1_feed(other->bytes + a * POD1_ACCOUNT, POD1_ACCOUNT, t->bytes + t->starts[i], t->ends[i] - t->starts[i]);
+    keep_least(of_all, start, middle - began);
+    keep_least(of_each, start, now() - middle);
 }
 
-static uint64_t alone(const struct text *t, uint64_t place, uint64_t which)
+// Both ways gave the same accounts, and every hour was taken; the header, which the six have had, was refused.
+static int agree(const struct text *t, const struct stand *one, const struct stand *other)
 {
-    return probe_six_alone(t->bytes, t->n, t->starts, t->lines, t->ends, t->lines, place, which);
-}
-
-// The account of one header and of the lines after all six: the last header's place is this one's meanwhile.
-static uint64_t at_once(const struct text *t, uint64_t place, uint64_t which)
-{
-    enum { LAST = SIX - 1 };
-    size_t start = t->starts[LAST], end = t->ends[LAST], lines = t->lines - LAST;
-    t->starts[LAST] = t->starts[place];
-    t->ends[LAST] = t->ends[place];
-    uint64_t figure = probe_season(t->bytes, t->n, t->starts + LAST, lines, t->ends + LAST, lines, which);
-    t->starts[LAST] = start;
-    t->ends[LAST] = end;
-    return figure;
-}
-
-static volatile uint64_t kept;
-
-// The six have taken every hour, and each one's figures are the same in every way.
-static int agree(const struct text *t)
-{
-    int is_same = 1;
-    for (uint64_t place = 0; place < SIX; place++) {
-        is_same &= together(t, place, 0) == t->lines - SIX - 1;
-        for (uint64_t which = 0; which < FIGURES; which++) {
-            uint64_t figure = together(t, place, which);
-            printf("%llu%c", (unsigned long long)figure, which == FIGURES - 1 ? '\n' : ' ');
-            is_same &= figure == alone(t, place, which) && figure == at_once(t, place, which);
-        }
-    }
+    int is_same = memcmp(one, other, sizeof *one) == 0;
+    for (size_t a = 0; a < POD1_LIST; a++)
+        is_same &= pod1_read(one->bytes + a * POD1_ACCOUNT, POD1_ACCOUNT).hours == t->lines / PART * PART - 1;
     return is_same;
 }
 
@@ -71,27 +54,19 @@ int main(int argc, char **argv)
 {
     if (argc != 2)
         return 2;
-    struct text t = of_six(argv[1]);
-    if (!agree(&t)) {
-        puts("the figures differ");
-        return 1;
+    struct text t = whole(argv[1], 0);
+    find_lines(&t);
+    struct least of_all = none_yet(), of_each = none_yet();
+    for (int run = 0; run < RUNS; run++) {
+        struct stand one = opened(&t), other = one;
+        for (EACH_PART(start, &t))
+            run_part(&t, start, &one, &other, &of_all, &of_each);
+        if (!agree(&t, &one, &other)) {
+            puts("the accounts differ");
+            return 1;
+        }
     }
-    double least_together = 1e9, least_alone = 1e9, least_at_once = 1e9;
-    for (int run = 0; run < 40; run++) {
-        double began = now();
-        kept = together(&t, 0, 0);
-        double second = now();
-        kept = alone(&t, 0, 0);
-        double third = now();
-        for (uint64_t place = 0; place < SIX; place++)
-            kept = at_once(&t, place, 0);
-        double ended = now();
-        least_together = fmin(least_together, second - began);
-        least_alone = fmin(least_alone, third - second);
-        least_at_once = fmin(least_at_once, ended - third);
-    }
-    double ratio = least_together / least_alone;
-    printf("together %.3f ms, alone %.3f ms, ratio %.2f (least of 40 runs each, in turn)\n", 1e3 * least_together, 1e3 * least_alone, ratio);
-    printf("each through the season at once %.3f ms, ratio %.2f\n", 1e3 * least_at_once, least_together / least_at_once);
+    double ratio = mean(&of_all, &t) / mean(&of_each, &t);
+    printf("six accounts: pod1_feed_all %.2f of six pod1_feed, line by line\n", ratio);
     return ratio < 1 ? 0 : 1;
 }

@@ -10,7 +10,6 @@ repository=$(cd "$(dirname "$0")/.." && pwd)
 vectors=$(cd "${1:-$repository/../shared/vectors}" && pwd)
 room=$(mktemp -d)
 trap 'rm -rf "$room"' EXIT
-"$repository/tests/probe.sh" "$room"
-"$repository/tests/probe.sh" "$room" list_probe
-gcc -O2 -Wall -Wextra -std=gnu11 -o "$room/list_speed" "$repository/tests/list_speed.c" "$room/libprobe.a" "$room/liblist_probe.a" -lm
+"$repository/part" >"$room/log"
+gcc -O2 -Wall -Wextra -std=gnu11 -o "$room/list_speed" "$repository/tests/list_speed.c" "$repository/target/libpod1.a" -lm
 "$room/list_speed" "$vectors/leap-year-6-evergreen.txt"

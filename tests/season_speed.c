@@ -1,38 +1,57 @@
-// A season's lines fed to the account of crates/account and to the same account in C with doubles (tests/bench/season.h); how their times compare.
+// A season's lines fed to an account in bytes (pod1_feed, line by line), over the same account in C with doubles (tests/bench/season.h) and over pod1_report, which
+// holds its account between the lines; and pod1_fresh with pod1_read, which store and take up 88 bytes, over pod1_feed. Ratios of times, the least of RUNS runs of
+// each part of the season, in turn, in one process.
 //     season_speed TEXT
-// Both are told where the lines are, so that feeding them is all that is timed.
+// Where the lines are is told beforehand, but to the report, which finds them and prints the months besides.
+#include "../include/pod1.h"
 #include "bench/doubles.h"
 #include "bench/lines.h"
 
-// tests/probe.sh
-uint64_t probe_season(const uint8_t *text, size_t n, const size_t *starts, size_t lines, const size_t *ends, size_t same_lines, uint64_t which);
-
-static struct season feed_all(const struct text *t)
-{
-    struct season s = {0};
-    for (size_t i = 0; i < t->lines; i++)
-        feed(&s, t->bytes + t->starts[i], t->ends[i] - t->starts[i]);
-    return s;
-}
-
-static uint64_t probe_all(const struct text *t, uint64_t which)
-{
-    return probe_season(t->bytes, t->n, t->starts, t->lines, t->ends, t->lines, which);
-}
+enum { RUNS = 40 };
 
 static volatile uint64_t kept;
 
-// Both accounts of the text hold the same figures.
-static int agree(const struct text *t)
+struct times {
+    struct least feeding, doubles, bytes;
+};
+
+// Lines from a start to an end, in both accounts; a whole part is timed, one way directly after the other, so that what disturbs the one disturbs the other.
+static void run_lines(const struct text *t, size_t start, size_t end, struct season *s, uint8_t account[POD1_ACCOUNT], struct times *times)
 {
-    struct season s = feed_all(t);
-    unsigned long long f[6];
-    for (uint64_t which = 0; which < 6; which++)
-        f[which] = probe_all(t, which);
-    printf("account: %llu hours, %llu counted, POD1 %llu to %llu, AOT40 %llu to %llu\n", f[0], f[1], f[2], f[3], f[4], f[5]);
-    printf("C:       %d hours, %d counted, POD1 %.3f to %.3f, AOT40 %u to %u\n", s.hours, s.counted, s.pod[0], s.pod[1], s.aot40[0], s.aot40[1]);
-    int is_same = f[0] == (unsigned)s.hours && f[1] == (unsigned)s.counted && f[4] == s.aot40[0] && f[5] == s.aot40[1];
-    return s.phase == CLOSED && is_same && (double)f[2] <= s.pod[0] && s.pod[1] <= (double)f[3];
+    uint8_t other[POD1_ACCOUNT];
+    double began = now();
+    for (size_t i = start; i < end; i++)
+        pod1_feed(account, POD1_ACCOUNT, t->bytes + t->starts[i], t->ends[i] - t->starts[i]);
+    double second = now();
+    for (size_t i = start; i < end; i++)
+        feed(s, t->bytes + t->starts[i], t->ends[i] - t->starts[i]);
+    double third = now();
+    for (size_t i = start; i < end; i++) {
+        pod1_fresh(other, sizeof other);
+        kept = pod1_read(other, sizeof other).hours;
+    }
+    if (end - start == PART) {
+        keep_least(&times->feeding, start, second - began);
+        keep_least(&times->doubles, start, third - second);
+        keep_least(&times->bytes, start, now() - third);
+    }
+}
+
+// For each line.
+static double by_report(const struct text *t)
+{
+    uint8_t report[POD1_REPORT];
+    double began = now();
+    kept = pod1_report(t->bytes, t->n, report, sizeof report).length;
+    return (now() - began) / (double)t->lines;
+}
+
+// Both accounts of the text hold the same figures.
+static int agree(const struct season *s, const uint8_t account[POD1_ACCOUNT])
+{
+    pod1_readout r = pod1_read(account, POD1_ACCOUNT);
+    int is_same = r.hours == (unsigned)s->hours && r.counted == (unsigned)s->counted && r.least == s->aot40[0] && r.most == s->aot40[1];
+    return s->phase == CLOSED && r.code == 0 && is_same && (double)r.lower <= s->pod[0] && s->pod[1] <= (double)r.upper;
 }
 
 int main(int argc, char **argv)
@@ -41,20 +60,22 @@ int main(int argc, char **argv)
         return 2;
     struct text t = whole(argv[1], 0);
     find_lines(&t);
-    if (!agree(&t)) {
-        puts("the figures differ");
-        return 1;
+    struct times times = {none_yet(), none_yet(), none_yet()};
+    double report = 1e9;
+    for (int run = 0; run < RUNS; run++) {
+        struct season s = {0};
+        uint8_t account[POD1_ACCOUNT];
+        pod1_fresh(account, sizeof account);
+        for (size_t start = 0; start < t.lines; start += PART)
+            run_lines(&t, start, start + PART < t.lines ? start + PART : t.lines, &s, account, &times);
+        report = fmin(report, by_report(&t));
+        if (!agree(&s, account)) {
+            puts("the figures differ");
+            return 1;
+        }
     }
-    double least_account = 1e9, least_c = 1e9;
-    for (int run = 0; run < 40; run++) {
-        double began = now();
-        kept = probe_all(&t, 0);
-        double middle = now();
-        kept = (uint64_t)feed_all(&t).pod[1];
-        double ended = now();
-        least_account = fmin(least_account, middle - began);
-        least_c = fmin(least_c, ended - middle);
-    }
-    printf("account %.3f ms, C %.3f ms, ratio %.2f (least of 40 runs each, in turn)\n", 1e3 * least_account, 1e3 * least_c, least_account / least_c);
+    double feeding = mean(&times.feeding, &t);
+    printf("in one process: pod1_feed %.2f of C with doubles, %.2f of a line of pod1_report; pod1_fresh and pod1_read %.2f of pod1_feed\n",
+           feeding / mean(&times.doubles, &t), feeding / report, mean(&times.bytes, &t) / feeding);
     return 0;
 }
