@@ -2,21 +2,19 @@
 // A code is 0, or the row that refuses the call plus 256 times the field that rows 10 and 26 name.
 mod given;
 mod lines;
+mod logger;
 mod texts;
 
 use account_spec::Fed;
 use account_spec::Reading;
 use answers::Printed;
 use answers::Readout;
-use floats_spec::FloatReadings;
 use frames::Written;
 use stored::Held;
 ghost use mathlib.Core.Path.{_≡_};
 ghost use Rattle.account_spec.specs.Account.{freshAccount};
-ghost use Rattle.floats_spec.specs.Promise.{FloatPromise};
 ghost use Rattle.answers.specs.Reading.{readoutOf};
 ghost use Rattle.part_spec.specs.Calls.{Stores, FeedsBytes, readIn, lineIn, PrintsBytes};
-ghost use Rattle.part_spec.specs.Floats.{FloatsBytes, FloatBytesPromise};
 ghost use Rattle.part_spec.specs.Promise.{PartPromise};
 
 // A fresh account into the first bytes of a buffer; refused only by row 12.
@@ -39,34 +37,6 @@ pub extern "C" fn pod1_feed(account: &mut [u8], line: &[u8]) -> u32
     match held {
         Held::Account(a) => {
             let fed = account::feed(a, line);
-            match fed {
-                Fed::Accepted(next) => {
-                    let written = stored::store(next, account);
-                    answers::of_written(written)
-                },
-                Fed::Refused(refusal, _) => answers::code_of(refusal),
-            }
-        },
-        Held::Refused(refusal) => answers::code_of(refusal),
-    }
-}
-
-// An hour of floats to it: row 13 where there is none, then those of feeding floats. The buffer is unchanged where a row refuses.
-#[no_mangle]
-pub extern "C" fn pod1_feed_floats(
-    account: &mut [u8],
-    day: u16,
-    hour: u8,
-    readings: FloatReadings,
-) -> u32
-    ensures { λ r. ⌜ FloatsBytes (now (account .entry)) day hour readings r (now (account .exit)) ⌝ }
-    ensures promise { λ _. ⌜ FloatPromise ⌝ }
-    ensures bytes { λ _. ⌜ FloatBytesPromise ⌝ }
-{
-    let held = stored::take_up(account);
-    match held {
-        Held::Account(a) => {
-            let fed = floats::feed_floats(a, day, hour, readings);
             match fed {
                 Fed::Accepted(next) => {
                     let written = stored::store(next, account);

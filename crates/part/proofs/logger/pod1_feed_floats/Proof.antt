@@ -1,11 +1,11 @@
--- `part::pod1_feed_floats` meets its contract.
+-- `part::logger::pod1_feed_floats` meets its contract.
 use Rattle.floats_spec.proofs.PromiseLaws.{float-promise}
 use Rattle.part_spec.specs.Floats.{floatsFedIn}
 use Rattle.part_spec.proofs.CallLaws.{feeds-none, feeds-accepted, feeds-refused}
 use Rattle.part_spec.proofs.FloatLaws.{float-bytes-promise}
 use borrow.Author.Needs.{needs}
-use Rattle.part.proofs.pod1_feed_floats.Statement.{statement}
-use Rattle.part.proofs.pod1_feed_floats.Tie as tie
+use Rattle.part.proofs.logger.pod1_feed_floats.Statement.{statement}
+use Rattle.part.proofs.logger.pod1_feed_floats.Tie as tie
 
 take-up-requires : tie.Need-take-up-requires
 take-up-requires c κs = search needs
