@@ -1,3 +1,5 @@
 pub mod Code
 pub mod Reading
 pub mod Writing
+pub mod Comparing
+pub mod Stretching

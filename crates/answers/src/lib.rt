@@ -1,9 +1,16 @@
-// Answers as numbers, for callers in C and Rust: a code, what reading gives, what writing gives.
+// Answers as numbers, for callers in C and Rust: a code, what reading, writing, comparing and the worst stretch give.
 // A code is 0, or the row that refuses the call plus 256 times the field that rows 10 and 26 name.
+mod comparing;
+mod stretching;
+
 use account_spec::Totals;
 use account_spec::Verdict;
+pub use comparing::ComparisonNumbers;
+pub use comparing::comparison_of;
 use frames::Refusal;
 use frames::Written;
+pub use stretching::StretchNumbers;
+pub use stretching::stretch_of;
 ghost use mathlib.Core.Path.{_≡_};
 ghost use Rattle.records.specs.Answers.{accepted, rowOf, writtenAs};
 ghost use Rattle.answers.specs.Code.{codeOf, codeOfRow};

@@ -1,5 +1,10 @@
 // The part that makers link from C and Rust: the account as bytes in a lent buffer, and answers as numbers.
 // A code is 0, or the row that refuses the call plus 256 times the field that rows 10 and 26 name.
+mod given;
+mod lines;
+mod logger;
+mod texts;
+
 use account_spec::Fed;
 use account_spec::Reading;
 use answers::Printed;
@@ -7,8 +12,6 @@ use answers::Readout;
 use frames::Written;
 use stored::Held;
 ghost use mathlib.Core.Path.{_≡_};
-ghost use Rattle.records.specs.Answers.{accepted};
-ghost use Rattle.report_spec.specs.Season.{reportOf};
 ghost use Rattle.account_spec.specs.Account.{freshAccount};
 ghost use Rattle.answers.specs.Reading.{readoutOf};
 ghost use Rattle.part_spec.specs.Calls.{Stores, FeedsBytes, readIn, lineIn, PrintsBytes};
@@ -80,13 +83,4 @@ pub extern "C" fn pod1_line(account: &[u8], buffer: &mut [u8]) -> Printed
             answers::printed_of(written)
         },
     }
-}
-
-// The report of a season text into a lent buffer; refused only by row 12.
-#[no_mangle]
-pub extern "C" fn pod1_report(text: &[u8], buffer: &mut [u8]) -> Printed
-    ensures { λ r. ⌜ PrintsBytes (accepted (reportOf (now (text .entry)))) (now (buffer .entry)) r (now (buffer .exit)) ⌝ }
-{
-    let written = report::season_report(text, buffer);
-    answers::printed_of(written)
 }

@@ -7,7 +7,7 @@ use native.Mathlib.Omega.{arith}
 use borrow.Author.Tests.{le-ltb}
 use lib.Dec.{ltb}
 use lib.ListN.{length, drop}
-use Rattle.records.specs.Answers.{accepted, refused, rowOf, writtenAs}
+use Rattle.records.specs.Answers.{Outcome, accepted, refused, onward, rowOf, writtenAs}
 use Rattle.records.specs.Buffer.{Prints}
 use Rattle.records.specs.declared.Refusal.{Refusal}
 use Rattle.records.specs.declared.Written.{Written}
@@ -15,19 +15,18 @@ use Rattle.records.proofs.AnswerLaws.{refused-not-accepted}
 use Rattle.account_spec.specs.declared.Account.{Account}
 use Rattle.account_spec.specs.declared.Fed.{Fed}
 use Rattle.account_spec.specs.declared.Reading.{Reading}
-use Rattle.account_spec.specs.Rules.{fedAs, Feeds}
+use Rattle.account_spec.specs.Rules.{fedAs, Answers}
 use Rattle.account_spec.specs.Reading.{readingAs, Reads}
 use Rattle.stored.specs.Layout.{accountBytes, takeUpOf, heldAs}
 use Rattle.stored.specs.RoundTrip.{TakenUp}
 use Rattle.stored.specs.declared.Held.{Held}
 use Rattle.stored.proofs.HeldLaws.{taken-room}
 use Rattle.stored.proofs.AccountLaws.{account-length}
-use Rattle.report_spec.specs.Line.{formatOf}
 use Rattle.answers.specs.declared.Printed.{Printed}
 use Rattle.answers.specs.Code.{codeOf, codeOfRow}
 use Rattle.answers.specs.Reading.{noReadout, readoutOf}
 use Rattle.answers.specs.Writing.{printedOf}
-use Rattle.part_spec.specs.Calls.{Stores, fedIn, FeedsBytes, readIn, PrintsBytes, lineIn}
+use Rattle.part_spec.specs.Calls.{Stores, LeavesBytes, readIn, PrintsBytes}
 
 -- ---- storing
 
@@ -61,34 +60,36 @@ module _ (before : List ℕ) (held : Held) (taken : heldAs held ≡ takeUpOf bef
   some : (a : Account) → held ≡ Held.Account a → takeUpOf before ≡ accepted a
   some a e = sym taken ∙ ap heldAs e
 
-  -- ---- feeding
+  -- ---- the next account
 
-  feeds-row : (line : List ℕ) (r : ℕ × ℕ) (code : ℕ) → fedIn before line ≡ refused r → code ≡ codeOfRow r → FeedsBytes before line code before
-  feeds-row line r code q is = record { answers = is ∙ rw q; leaves = rw q; holds = λ a e. refused-not-accepted (sym q ∙ e) }
+  module _ (next : Account → Outcome Account) where
+    abbrev out : Outcome Account
+    out = onward (takeUpOf before) next
 
-  pub feeds-none : (line : List ℕ) (why : Refusal) (code : ℕ) → held ≡ Held.Refused why → code ≡ codeOfRow (rowOf why) → FeedsBytes before line code before
-  unfolding fedIn
-  feeds-none line why code e is = feeds-row line (rowOf why) code (rw (none why e)) is
+    feeds-row : (r : ℕ × ℕ) (code : ℕ) → out ≡ refused r → code ≡ codeOfRow r → LeavesBytes before out code before
+    feeds-row r code q is = record { answers = is ∙ rw q; leaves = rw q; holds = λ a e. refused-not-accepted (sym q ∙ e) }
 
-  module _ (line : List ℕ) (a : Account) (has : held ≡ Held.Account a) (fed : Fed) (feeds : Feeds a line fed) where
-    fed-as : fedIn before line ≡ fedAs fed
-    unfolding fedIn
-    fed-as = rw (some a has) (sym (feeds .answers))
+    pub feeds-none : (why : Refusal) (code : ℕ) → held ≡ Held.Refused why → code ≡ codeOfRow (rowOf why) → LeavesBytes before out code before
+    feeds-none why code e is = feeds-row (rowOf why) code (rw (none why e)) is
 
-    pub feeds-refused : (why : Refusal) (same : Account) (code : ℕ) → fed ≡ Fed.Refused why same → code ≡ codeOfRow (rowOf why) → FeedsBytes before line code before
-    feeds-refused why same code e is = feeds-row line (rowOf why) code (fed-as ∙ ap fedAs e) is
+    module _ (a : Account) (has : held ≡ Held.Account a) (fed : Fed) (feeds : Answers a (next a) fed) where
+      fed-as : out ≡ fedAs fed
+      fed-as = rw (some a has) (sym (feeds .answers))
 
-    pub feeds-accepted : (next : Account) (after : List ℕ) (w : Written) (code : ℕ) → fed ≡ Fed.Accepted next → Prints (accepted (accountBytes next)) before w after → TakenUp next
-        → code ≡ codeOf (writtenAs w) → FeedsBytes before line code after
-    feeds-accepted next after w code e p back is =
-        let q : fedIn before line ≡ accepted next = fed-as ∙ ap fedAs e in
-        let size = account-length next in
-        let long = le-ltb (length before) (length (accountBytes next)) (omega (arith, size, taken-room before a (some a has))) in
-        record {
-          answers = is ∙ put-code next before after w p back long ∙ rw q;
-          leaves = put-bytes next before after w p back long ∙ rw (q, size);
-          holds = λ b f. put-held next before after w p back long ∙ sym q ∙ f;
-        }
+      pub feeds-refused : (why : Refusal) (same : Account) (code : ℕ) → fed ≡ Fed.Refused why same → code ≡ codeOfRow (rowOf why) → LeavesBytes before out code before
+      feeds-refused why same code e is = feeds-row (rowOf why) code (fed-as ∙ ap fedAs e) is
+
+      pub feeds-accepted : (then : Account) (after : List ℕ) (w : Written) (code : ℕ) → fed ≡ Fed.Accepted then → Prints (accepted (accountBytes then)) before w after
+          → TakenUp then → code ≡ codeOf (writtenAs w) → LeavesBytes before out code after
+      feeds-accepted then after w code e p back is =
+          let q : out ≡ accepted then = fed-as ∙ ap fedAs e in
+          let size = account-length then in
+          let long = le-ltb (length before) (length (accountBytes then)) (omega (arith, size, taken-room before a (some a has))) in
+          record {
+            answers = is ∙ put-code then before after w p back long ∙ rw q;
+            leaves = put-bytes then before after w p back long ∙ rw (q, size);
+            holds = λ b f. put-held then before after w p back long ∙ sym q ∙ f;
+          }
 
   -- ---- reading
 
@@ -100,15 +101,11 @@ module _ (before : List ℕ) (held : Held) (taken : heldAs held ≡ takeUpOf bef
   unfolding readIn
   reads-some a r has reads = rw (some a has) (ap readoutOf (reads .answers))
 
-  -- ---- the report line
+-- ---- a text that a first step gives or refuses
 
-  module _ (buffer after : List ℕ) (w : Written) (answer : Printed) (is : answer ≡ printedOf (writtenAs w)) where
-    pub line-some : (a : Account) → held ≡ Held.Account a → Prints (formatOf a) buffer w after → PrintsBytes (lineIn before) buffer answer after
-    unfolding lineIn
-    line-some a has p = record { written = w; prints = rw (some a has) p; answers = is }
+module _ {A : Type 0} (o : Outcome A) (text : A → Outcome (List ℕ)) (before after : List ℕ) (w : Written) (answer : Printed) (is : answer ≡ printedOf (writtenAs w)) where
+  pub prints-onward : (a : A) → o ≡ accepted a → Prints (text a) before w after → PrintsBytes (onward o text) before answer after
+  prints-onward a q p = record { written = w; prints = rw q p; answers = is }
 
-    pub line-none : (why : Refusal) → held ≡ Held.Refused why → w ≡ Written.Refused why → after ≡ buffer → PrintsBytes (lineIn before) buffer answer after
-    unfolding lineIn
-    line-none why e v left =
-        let q = none why e in
-        record { written = w; prints = record { answers = ap writtenAs v ∙ rw q; leaves = left ∙ rw q }; answers = is }
+  pub prints-refused : (why : Refusal) → o ≡ refused (rowOf why) → w ≡ Written.Refused why → after ≡ before → PrintsBytes (onward o text) before answer after
+  prints-refused why q v left = record { written = w; prints = record { answers = ap writtenAs v ∙ rw q; leaves = left ∙ rw q }; answers = is }

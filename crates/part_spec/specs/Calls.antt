@@ -28,21 +28,25 @@ pub record Stores (a : Account) (before : List ℕ) (answer : ℕ) (after : List
   pub leaves : after ≡ bufferAfter (storedIn a before) (accountBytes a) before
   pub holds : answer ≡ 0 → takeUpOf after ≡ accepted a
 
--- ---- feeding the account that stands in bytes
+-- ---- the next account of the one that stands in bytes
 
-unfoldable pub fedIn : List ℕ → List ℕ → Outcome Account
-fedIn before line = onward (takeUpOf before) (λ a. feedOf a line)
-
--- the bytes of the account that the line leaves, past it untouched; on a refusal all of it
+-- its bytes, past them untouched; on a refusal all of it
 abbrev pub bytesAfter : List ℕ → Outcome Account → List ℕ
 bytesAfter before (accepted a) = accountBytes a ++ drop (totalWidth widths) before
 bytesAfter before (refused r) = before
 
--- the bytes left are taken up as the account that the line leaves
-pub record FeedsBytes (before line : List ℕ) (answer : ℕ) (after : List ℕ) : Type 0 where
-  pub answers : answer ≡ codeOf (fedIn before line)
-  pub leaves : after ≡ bytesAfter before (fedIn before line)
-  pub holds : (a : Account) → fedIn before line ≡ accepted a → takeUpOf after ≡ accepted a
+-- the code of the outcome; the bytes left are taken up as the account that it gives
+pub record LeavesBytes (before : List ℕ) (outcome : Outcome Account) (answer : ℕ) (after : List ℕ) : Type 0 where
+  pub answers : answer ≡ codeOf outcome
+  pub leaves : after ≡ bytesAfter before outcome
+  pub holds : (a : Account) → outcome ≡ accepted a → takeUpOf after ≡ accepted a
+
+-- by a line
+unfoldable pub fedIn : List ℕ → List ℕ → Outcome Account
+fedIn before line = onward (takeUpOf before) (λ a. feedOf a line)
+
+abbrev pub FeedsBytes : List ℕ → List ℕ → ℕ → List ℕ → Type 0
+FeedsBytes before line answer after = LeavesBytes before (fedIn before line) answer after
 
 -- ---- reading it
 

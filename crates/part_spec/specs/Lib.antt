@@ -1,2 +1,5 @@
 pub mod Calls
+pub mod Floats
+pub mod Frames
 pub mod Promise
+pub mod Stretch

@@ -1,5 +1,6 @@
 -- `part::pod1_feed` meets its contract.
 use borrow.Author.Needs.{needs}
+use Rattle.part_spec.specs.Calls.{fedIn}
 use Rattle.part_spec.proofs.CallLaws.{feeds-none, feeds-accepted, feeds-refused}
 use Rattle.part.proofs.pod1_feed.Statement.{statement}
 use Rattle.part.proofs.pod1_feed.Tie as tie
@@ -38,6 +39,7 @@ same-length : tie.Need-same-length
 same-length c = search needs
 
 returns : tie.Need-returns
+unfolding fedIn
 returns c =
     let stored = c .before .before .before .store in
     let fed = c .before .before .before .before .before .before in
@@ -49,6 +51,7 @@ same-length-2 : tie.Need-same-length-2
 same-length-2 c = search needs
 
 returns-2 : tie.Need-returns-2
+unfolding fedIn
 returns-2 c =
     let fed = c .before .before in
     let call = fed .before .before in
@@ -59,6 +62,7 @@ same-length-3 : tie.Need-same-length-3
 same-length-3 c = search needs
 
 returns-3 : tie.Need-returns-3
+unfolding fedIn
 returns-3 c =
     let held = c .before .before in
     feeds-none _ _ (held .before .before .take-up .ensures .0) _ _ _ (held .held2 .given .1) (c .code-of2 .ensures)

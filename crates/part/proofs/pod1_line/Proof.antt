@@ -1,7 +1,9 @@
 -- `part::pod1_line` meets its contract.
-use mathlib.Core.Path.{refl}
+use mathlib.Core.Path.{refl, sym, ap, _∙_}
 use borrow.Author.Needs.{needs}
-use Rattle.part_spec.proofs.CallLaws.{line-some, line-none}
+use Rattle.stored.specs.Layout.{heldAs}
+use Rattle.part_spec.specs.Calls.{lineIn}
+use Rattle.part_spec.proofs.CallLaws.{prints-onward, prints-refused}
 use Rattle.part.proofs.pod1_line.Statement.{statement}
 use Rattle.part.proofs.pod1_line.Tie as tie
 
@@ -27,15 +29,17 @@ same-length : tie.Need-same-length
 same-length c = search needs
 
 returns : tie.Need-returns
+unfolding lineIn
 returns c =
     let call = c .before .before .before in
     let held = call .before .before .before in
-    line-some _ _ (held .before .before .take-up .ensures .0) _ _ _ _ (c .printed-of .ensures) _ (held .held .given .1) (call .format .ensures .0)
+    prints-onward _ _ _ _ _ _ (c .printed-of .ensures) _ (sym (held .before .before .take-up .ensures .0) ∙ ap heldAs (held .held .given .1)) (call .format .ensures .0)
 
 returns-2 : tie.Need-returns-2
+unfolding lineIn
 returns-2 c =
     let held = c .before .before in
-    line-none _ _ (held .before .before .take-up .ensures .0) _ _ _ _ (c .printed-of2 .ensures) _ (held .held2 .given .1) refl refl
+    prints-refused _ _ _ _ _ _ (c .printed-of2 .ensures) (held .held2 .given .0 .0) (sym (held .before .before .take-up .ensures .0) ∙ ap heldAs (held .held2 .given .1)) refl refl
 
 pub pod1-line-spec : {M : Type 1} → statement M
 pod1-line-spec =
