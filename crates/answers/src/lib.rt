@@ -9,10 +9,12 @@ pub use comparing::ComparisonNumbers;
 pub use comparing::comparison_of;
 use frames::Refusal;
 use frames::Written;
+use list_spec::FedAll;
 pub use stretching::StretchNumbers;
 pub use stretching::stretch_of;
 ghost use mathlib.Core.Path.{_≡_};
 ghost use Rattle.records.specs.Answers.{accepted, rowOf, writtenAs};
+ghost use Rattle.list_spec.specs.Feeding.{fedAllAs};
 ghost use Rattle.answers.specs.Code.{codeOf, codeOfRow};
 ghost use Rattle.answers.specs.Reading.{verdictNumber, noReadout, readoutOf};
 ghost use Rattle.answers.specs.Writing.{printedOf};
@@ -84,6 +86,15 @@ pub fn of_written(written: Written) -> u32
     match written {
         Written::Bytes(_) => 0,
         Written::Refused(refusal) => code_of(refusal),
+    }
+}
+
+pub fn of_fed_all(answer: FedAll) -> u32
+    ensures { λ r. ⌜ r ≡ codeOf (fedAllAs answer) ⌝ }
+{
+    match answer {
+        FedAll::Accepted => 0,
+        FedAll::Refused(refusal) => code_of(refusal),
     }
 }
 

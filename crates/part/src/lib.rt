@@ -1,11 +1,12 @@
 // The part that makers link from C and Rust: the account as bytes in a lent buffer, and answers as numbers.
 // A code is 0, or the row that refuses the call plus 256 times the field that rows 10 and 26 name.
 mod given;
+mod leaving;
 mod lines;
 mod logger;
+mod stand;
 mod texts;
 
-use account_spec::Fed;
 use account_spec::Reading;
 use answers::Printed;
 use answers::Readout;
@@ -37,13 +38,7 @@ pub extern "C" fn pod1_feed(account: &mut [u8], line: &[u8]) -> u32
     match held {
         Held::Account(a) => {
             let fed = account::feed(a, line);
-            match fed {
-                Fed::Accepted(next) => {
-                    let written = stored::store(next, account);
-                    answers::of_written(written)
-                },
-                Fed::Refused(refusal, _) => answers::code_of(refusal),
-            }
+            leaving::leave(fed, account)
         },
         Held::Refused(refusal) => answers::code_of(refusal),
     }

@@ -1,5 +1,5 @@
 // An hour as a logger holds it, in floats.
-use account_spec::Fed;
+use crate::leaving::leave;
 use floats_spec::FloatReadings;
 use stored::Held;
 ghost use Rattle.floats_spec.specs.Promise.{FloatPromise};
@@ -21,13 +21,7 @@ pub extern "C" fn pod1_feed_floats(
     match held {
         Held::Account(a) => {
             let fed = floats::feed_floats(a, day, hour, readings);
-            match fed {
-                Fed::Accepted(next) => {
-                    let written = stored::store(next, account);
-                    answers::of_written(written)
-                },
-                Fed::Refused(refusal, _) => answers::code_of(refusal),
-            }
+            leave(fed, account)
         },
         Held::Refused(refusal) => answers::code_of(refusal),
     }

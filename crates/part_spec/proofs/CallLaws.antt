@@ -1,5 +1,5 @@
 -- The exported calls, by what the calls below them answer.
-use Prim.Native.Nat.{ℕ}
+use Prim.Native.Nat.{ℕ, _≤_}
 use mathlib.Core.Path.{_≡_, refl, sym, ap, _∙_}
 use mathlib.Core.Bool.{Bool, true, false}
 use mathlib.Core.List.{List, _++_}
@@ -17,7 +17,8 @@ use Rattle.account_spec.specs.declared.Fed.{Fed}
 use Rattle.account_spec.specs.declared.Reading.{Reading}
 use Rattle.account_spec.specs.Rules.{fedAs, Answers}
 use Rattle.account_spec.specs.Reading.{readingAs, Reads}
-use Rattle.stored.specs.Layout.{accountBytes, takeUpOf, heldAs}
+use Rattle.stored.specs.Packing.{totalWidth}
+use Rattle.stored.specs.Layout.{widths, accountBytes, takeUpOf, heldAs}
 use Rattle.stored.specs.RoundTrip.{TakenUp}
 use Rattle.stored.specs.declared.Held.{Held}
 use Rattle.stored.proofs.HeldLaws.{taken-room}
@@ -53,6 +54,27 @@ module _ (a : Account) (before after : List ℕ) (w : Written) (p : Prints (acce
   pub stores : (code : ℕ) → code ≡ codeOf (writtenAs w) → Stores a before code after
   stores code is = record { answers = is ∙ ap codeOf (p .answers); leaves = p .leaves; holds = λ none. stored-at code is none short refl }
 
+-- ---- the account that an answer gives, over the bytes of the one before
+
+row-leaves : (before : List ℕ) (o : Outcome Account) (r : ℕ × ℕ) (code : ℕ) → o ≡ refused r → code ≡ codeOfRow r → LeavesBytes before o code before
+row-leaves before o r code q is = record { answers = is ∙ rw q; leaves = rw q; holds = λ a e. refused-not-accepted (sym q ∙ e) }
+
+module _ (before : List ℕ) (fed : Fed) where
+  pub refused-leaves : (why : Refusal) (same : Account) (code : ℕ) → fed ≡ Fed.Refused why same → code ≡ codeOfRow (rowOf why) → LeavesBytes before (fedAs fed) code before
+  refused-leaves why same code e is = row-leaves before (fedAs fed) (rowOf why) code (ap fedAs e) is
+
+  pub accepted-leaves : totalWidth widths ≤ length before → (next : Account) (after : List ℕ) (w : Written) (code : ℕ) → fed ≡ Fed.Accepted next
+      → Prints (accepted (accountBytes next)) before w after → TakenUp next → code ≡ codeOf (writtenAs w) → LeavesBytes before (fedAs fed) code after
+  accepted-leaves room next after w code e p back is =
+      let q : fedAs fed ≡ accepted next = ap fedAs e in
+      let size = account-length next in
+      let long = le-ltb (length before) (length (accountBytes next)) (omega (arith, size, room)) in
+      record {
+        answers = is ∙ put-code next before after w p back long ∙ rw q;
+        leaves = put-bytes next before after w p back long ∙ rw (q, size);
+        holds = λ b f. put-held next before after w p back long ∙ sym q ∙ f;
+      }
+
 module _ (before : List ℕ) (held : Held) (taken : heldAs held ≡ takeUpOf before) where
   none : (why : Refusal) → held ≡ Held.Refused why → takeUpOf before ≡ refused (rowOf why)
   none why e = sym taken ∙ ap heldAs e
@@ -62,34 +84,19 @@ module _ (before : List ℕ) (held : Held) (taken : heldAs held ≡ takeUpOf bef
 
   -- ---- the next account
 
-  module _ (next : Account → Outcome Account) where
-    abbrev out : Outcome Account
-    out = onward (takeUpOf before) next
+  pub held-room : (a : Account) → held ≡ Held.Account a → totalWidth widths ≤ length before
+  held-room a has = taken-room before a (some a has)
 
-    feeds-row : (r : ℕ × ℕ) (code : ℕ) → out ≡ refused r → code ≡ codeOfRow r → LeavesBytes before out code before
-    feeds-row r code q is = record { answers = is ∙ rw q; leaves = rw q; holds = λ a e. refused-not-accepted (sym q ∙ e) }
+  pub leaves-none : (next : Account → Outcome Account) (why : Refusal) (code : ℕ) → held ≡ Held.Refused why → code ≡ codeOfRow (rowOf why)
+      → LeavesBytes before (onward (takeUpOf before) next) code before
+  leaves-none next why code e is = row-leaves before _ (rowOf why) code (rw (none why e)) is
 
-    pub feeds-none : (why : Refusal) (code : ℕ) → held ≡ Held.Refused why → code ≡ codeOfRow (rowOf why) → LeavesBytes before out code before
-    feeds-none why code e is = feeds-row (rowOf why) code (rw (none why e)) is
-
-    module _ (a : Account) (has : held ≡ Held.Account a) (fed : Fed) (feeds : Answers a (next a) fed) where
-      fed-as : out ≡ fedAs fed
-      fed-as = rw (some a has) (sym (feeds .answers))
-
-      pub feeds-refused : (why : Refusal) (same : Account) (code : ℕ) → fed ≡ Fed.Refused why same → code ≡ codeOfRow (rowOf why) → LeavesBytes before out code before
-      feeds-refused why same code e is = feeds-row (rowOf why) code (fed-as ∙ ap fedAs e) is
-
-      pub feeds-accepted : (then : Account) (after : List ℕ) (w : Written) (code : ℕ) → fed ≡ Fed.Accepted then → Prints (accepted (accountBytes then)) before w after
-          → TakenUp then → code ≡ codeOf (writtenAs w) → LeavesBytes before out code after
-      feeds-accepted then after w code e p back is =
-          let q : out ≡ accepted then = fed-as ∙ ap fedAs e in
-          let size = account-length then in
-          let long = le-ltb (length before) (length (accountBytes then)) (omega (arith, size, taken-room before a (some a has))) in
-          record {
-            answers = is ∙ put-code then before after w p back long ∙ rw q;
-            leaves = put-bytes then before after w p back long ∙ rw (q, size);
-            holds = λ b f. put-held then before after w p back long ∙ sym q ∙ f;
-          }
+  -- by the account that the bytes hold
+  pub leaves-next : (next : Account → Outcome Account) (a : Account) → held ≡ Held.Account a → (fed : Fed) → Answers a (next a) fed → (code : ℕ) (after : List ℕ)
+      → LeavesBytes before (fedAs fed) code after → LeavesBytes before (onward (takeUpOf before) next) code after
+  leaves-next next a has fed feeds code after k =
+      let q : onward (takeUpOf before) next ≡ fedAs fed = rw (some a has) (sym (feeds .answers)) in
+      record { answers = k .answers ∙ rw q; leaves = k .leaves ∙ rw q; holds = λ b e. k .holds b (sym q ∙ e) }
 
   -- ---- reading
 

@@ -1,3 +1,4 @@
 pub mod CallLaws
 pub mod FloatLaws
 pub mod PromiseLaws
+pub mod ListLaws

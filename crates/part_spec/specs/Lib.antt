@@ -3,3 +3,4 @@ pub mod Floats
 pub mod Frames
 pub mod Promise
 pub mod Stretch
+pub mod Lists

@@ -1,9 +1,9 @@
 -- `part::logger::pod1_feed_floats` meets its contract.
+use borrow.Author.Needs.{needs}
 use Rattle.floats_spec.proofs.PromiseLaws.{float-promise}
 use Rattle.part_spec.specs.Floats.{floatsFedIn}
-use Rattle.part_spec.proofs.CallLaws.{feeds-none, feeds-accepted, feeds-refused}
 use Rattle.part_spec.proofs.FloatLaws.{float-bytes-promise}
-use borrow.Author.Needs.{needs}
+use Rattle.part_spec.proofs.CallLaws.{held-room, leaves-none, leaves-next}
 use Rattle.part.proofs.logger.pod1_feed_floats.Statement.{statement}
 use Rattle.part.proofs.logger.pod1_feed_floats.Tie as tie
 
@@ -16,26 +16,16 @@ enum-known-held c = search needs
 feed-floats-requires : tie.Need-feed-floats-requires
 feed-floats-requires c κs = search needs
 
-enum-known-fed : tie.Need-enum-known-fed
-enum-known-fed c = search needs
-
-store-requires : tie.Need-store-requires
-store-requires c κs = search needs
-
-of-written-requires : tie.Need-of-written-requires
-of-written-requires c κs = search needs
-
-enum-known-fed-2 : tie.Need-enum-known-fed-2
-enum-known-fed-2 c = search needs
-
-code-of-requires : tie.Need-code-of-requires
-code-of-requires c κs = search needs
+leave-requires : tie.Need-leave-requires
+leave-requires c κs =
+    let held = c .before .before .before in
+    held-room _ _ (held .before .before .take-up .ensures .0) _ (held .held .given .1)
 
 enum-known-held-2 : tie.Need-enum-known-held-2
 enum-known-held-2 c = search needs
 
-code-of-requires-2 : tie.Need-code-of-requires-2
-code-of-requires-2 c κs = search needs
+code-of-requires : tie.Need-code-of-requires
+code-of-requires c κs = search needs
 
 same-length : tie.Need-same-length
 same-length c = search needs
@@ -43,13 +33,9 @@ same-length c = search needs
 returns : tie.Need-returns
 unfolding floatsFedIn
 returns c =
-    let stored = c .before .before .before .store in
-    let fed = c .before .before .before .before .before .before in
-    let call = fed .before .before in
-    let held = call .before .before in (
-      feeds-accepted _ _ (held .before .before .take-up .ensures .0) _ _ (held .held .given .1) _ (call .feed-floats .ensures .0) _ _ _ _ (fed .fed .given .1) (stored .ensures .0) (stored .ensures .1) (c .of-written .ensures),
-      (float-promise, float-bytes-promise),
-    )
+    let call = c .before .before .before .before in
+    let held = call .before .before in
+    (leaves-next _ _ (held .before .before .take-up .ensures .0) _ _ (held .held .given .1) _ (call .feed-floats .ensures .0) _ _ (c .before .before .leave .ensures), (float-promise, float-bytes-promise))
 
 same-length-2 : tie.Need-same-length-2
 same-length-2 c = search needs
@@ -57,21 +43,8 @@ same-length-2 c = search needs
 returns-2 : tie.Need-returns-2
 unfolding floatsFedIn
 returns-2 c =
-    let fed = c .before .before in
-    let call = fed .before .before in
-    let held = call .before .before in (
-      feeds-refused _ _ (held .before .before .take-up .ensures .0) _ _ (held .held .given .1) _ (call .feed-floats .ensures .0) _ _ _ (fed .fed2 .given .1) (c .code-of .ensures),
-      (float-promise, float-bytes-promise),
-    )
-
-same-length-3 : tie.Need-same-length-3
-same-length-3 c = search needs
-
-returns-3 : tie.Need-returns-3
-unfolding floatsFedIn
-returns-3 c =
     let held = c .before .before in
-    (feeds-none _ _ (held .before .before .take-up .ensures .0) _ _ _ (held .held2 .given .1) (c .code-of2 .ensures), (float-promise, float-bytes-promise))
+    (leaves-none _ _ (held .before .before .take-up .ensures .0) _ _ _ (held .held2 .given .1) (c .code-of .ensures), (float-promise, float-bytes-promise))
 
 pub pod1-feed-floats-spec : {M : Type 1} → statement M
 pod1-feed-floats-spec =
@@ -80,16 +53,10 @@ pod1-feed-floats-spec =
     take-up-requires
     enum-known-held
     feed-floats-requires
-    enum-known-fed
-    store-requires
-    of-written-requires
-    enum-known-fed-2
-    code-of-requires
+    leave-requires
     enum-known-held-2
-    code-of-requires-2
+    code-of-requires
     same-length
     returns
     same-length-2
-    returns-2
-    same-length-3
-    returns-3)
+    returns-2)
