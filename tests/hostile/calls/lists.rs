@@ -1,5 +1,6 @@
 //! Lists of calls by chance: seasons fed line by line, accounts from hostile bytes, lists of accounts, season texts and writers.
 
+use crate::account::{lines, Header};
 use crate::bench::{Bench, Held};
 use crate::damage::*;
 use crate::feeding::{FOLLOWING, TRIAL, TRIED};
@@ -11,8 +12,9 @@ use crate::season::*;
 use crate::states::*;
 use crate::turns::*;
 
-/// The most lines of a season that are fed.
+/// The most lines of a season that are fed, and the most that are refused one after the other.
 const LONGEST: usize = 100;
+const MOST_REFUSED: usize = 4;
 
 /// Makes one list's calls, as far as they are right.
 pub fn run(bench: &mut Bench, rng: &mut Rng) -> Held<()> {
@@ -20,6 +22,7 @@ pub fn run(bench: &mut Bench, rng: &mut Rng) -> Held<()> {
     match rng.below(16) {
         0..=2 => season_list(bench, rng),
         3..=8 => state_list(bench, rng),
+        9..=12 if rng.one_in(16) => stand_list(bench, rng),
         9..=12 => group_list(bench, rng),
         13 | 14 => text_list(bench, rng),
         _ => writer_list(bench, rng),
@@ -32,25 +35,40 @@ fn short_season(rng: &mut Rng) -> Season {
     plausible(rng, header)
 }
 
+/// Of any tree, over many days now and then.
+fn any_season(rng: &mut Rng) -> Season {
+    if !rng.one_in(64) {
+        return short_season(rng);
+    }
+    let number = any_tree(rng);
+    let length = rng.between(51, 70);
+    let header = period(rng, number, length);
+    plausible(rng, header)
+}
+
 const IN_TURN: [fn(&mut Rng, u64) -> Vec<u8>; 14] = [
     every_byte, every_length, every_kind, every_reading, every_field, every_bend, every_border, every_mixture, every_ceiling, every_gap, every_parameter,
     every_place, every_warmth, every_sum,
 ];
 
-/// A short season's text, whole, damaged, cut, or one of those that go through a list in turn.
+/// A season's text, whole, damaged, cut, or one of those that go through a list in turn.
 fn any_text(rng: &mut Rng) -> Vec<u8> {
-    let season = short_season(rng);
-    match rng.below(8) {
+    let season = any_season(rng);
+    match rng.below(9) {
         0 | 1 => text(rng, &season.lines()),
         2 | 3 => {
             let lines = damage(rng, &season);
             text(rng, &lines)
         }
         4 => {
+            let lines = damaged_header(rng, &season);
+            text(rng, &lines)
+        }
+        5 => {
             let whole = text(rng, &season.lines());
             if rng.one_in(2) { cut(rng, whole) } else { disturb(rng, whole) }
         }
-        5 if rng.one_in(4) => noise(rng),
+        6 if rng.one_in(4) => noise(rng),
         _ => {
             let turn = rng.next() >> 16;
             rng.pick(&IN_TURN)(rng, turn)
@@ -73,19 +91,25 @@ fn season_list(bench: &mut Bench, rng: &mut Rng) -> Held<()> {
     bench.fresh(&mut account)?;
     account.resize(rng.pick(&[SIZE, SIZE, SIZE + 1, 200]), 0);
     bench.fresh(&mut account)?;
-    for line in crate::account::lines(&text).into_iter().take(LONGEST) {
+    let mut refused = 0;
+    for line in lines(&text).into_iter().take(LONGEST) {
         if rng.one_in(8) {
             aside(bench, rng, &mut account)?;
         }
-        if rng.one_in(12) {
-            let mut trial = vec![0; TRIAL];
-            bench.trial(&account, line, &mut trial)?;
-            bench.take(&mut account, &trial)?;
-        } else {
-            bench.feed(&mut account, line)?;
+        let code = if rng.one_in(12) { tried(bench, &mut account, line)? } else { bench.feed(&mut account, line)? };
+        refused = if code == 0 { 0 } else { refused + 1 };
+        if refused == MOST_REFUSED {
+            break;
         }
     }
     bench.read(&account)
+}
+
+/// A line tried, and the trial taken at once.
+fn tried(bench: &mut Bench, account: &mut Vec<u8>, line: &[u8]) -> Held<u32> {
+    let mut trial = vec![0; TRIAL];
+    bench.trial(account, line, &mut trial)?;
+    bench.take(account, &trial)
 }
 
 /// Calls on an account from hostile bytes.
@@ -111,11 +135,17 @@ fn aside(bench: &mut Bench, rng: &mut Rng, account: &mut Vec<u8>) -> Held<()> {
         2 => printed_tight(bench, rng, account),
         3 => damaged_copy(bench, rng, account),
         4 | 5 => trials(bench, rng, account),
-        _ => {
-            let floats = any_floats(rng, &account_in(account));
-            bench.feed_floats(account, &floats).map(drop)
-        }
+        _ => floats(bench, rng, account),
     }
+}
+
+/// The hour that is due as floats; seldom to an account of other hours.
+fn floats(bench: &mut Bench, rng: &mut Rng, account: &mut Vec<u8>) -> Held<()> {
+    let held = account_in(account);
+    if held[KIND] > 2 && !rng.one_in(6) {
+        return bench.read(account);
+    }
+    bench.feed_floats(account, &any_floats(rng, &held)).map(drop)
 }
 
 /// The account's line into a buffer of just its length, or one byte short.
@@ -213,6 +243,31 @@ fn group_list(bench: &mut Bench, rng: &mut Rng) -> Held<()> {
     Ok(())
 }
 
+/// Trees around one mast: each opened alone, then the season's lines to all of them, damaged now and then.
+fn stand_list(bench: &mut Bench, rng: &mut Rng) -> Held<()> {
+    let season = short_season(rng);
+    let mut accounts = Vec::new();
+    for _ in 0..rng.between(1, 6) {
+        let tree = rng.pick(&[3, 6, 7]);
+        let header = Header { tree, level: any_level(rng), own: None, warmth: None, ..season.header };
+        let mut account = Account::fresh().stored();
+        let opening = Season { header: with_own(rng, header), ceiling: 0, hours: vec![] };
+        for line in &opening.lines()[..opening.line_of(0)] {
+            bench.feed(&mut account, line)?;
+        }
+        accounts.extend(account);
+    }
+    let rest = if rng.one_in(2) { season.lines() } else { damage(rng, &season) };
+    let mut refused = 0;
+    for line in rest.iter().skip(season.ceiling_place()) {
+        refused = if bench.feed_all(&mut accounts, line)? == 0 { 0 } else { refused + 1 };
+        if refused == MOST_REFUSED {
+            break;
+        }
+    }
+    accounts.chunks(SIZE).try_for_each(|account| bench.read(account))
+}
+
 /// Another account of the same stand: tree, level, figures, parameters and warmth may differ.
 fn member(rng: &mut Rng, first: &Account) -> Account {
     let mut other = *first;
@@ -263,31 +318,23 @@ fn other_member(rng: &mut Rng, first: &Account) -> Vec<u8> {
 
 // ---- texts and writers
 
+/// A comparison, a worst stretch and a report.
 fn text_list(bench: &mut Bench, rng: &mut Rng) -> Held<()> {
-    let first = any_text(rng);
-    match rng.below(3) {
-        0 => {
-            let second = second_text(rng, &first);
-            let far = rng.between(0, 5000);
-            let tolerance = rng.pick(&[0, 0, 1, 10, 4999, 5000, far, 0xFFFF]) as u16;
-            bench.compare(&first, &second, tolerance)
-        }
-        1 => {
-            let any = rng.between(1, 366);
-            let days = rng.pick(&[0, 1, 1, 1, 2, 2, 3, 4, 5, 366, 367, 0xFFFF, any]);
-            let scratch = any_buffer(rng, 3 * days as usize);
-            bench.worst_stretch(&first, days as u16, &scratch)
-        }
-        _ => {
-            let buffer = if rng.one_in(2) { any_buffer(rng, 600) } else { any_buffer(rng, 20) };
-            bench.report(&first, &buffer)
-        }
-    }
+    let whole = any_season(rng).lines();
+    let first = if rng.one_in(3) { text(rng, &whole) } else { any_text(rng) };
+    let second = second_text(rng, &first);
+    let far = rng.between(0, 5000);
+    bench.compare(&first, &second, rng.pick(&[0, 0, 1, 10, 4999, 5000, far, 0xFFFF]) as u16)?;
+    let any = rng.between(1, 366);
+    let days = rng.pick(&[0, 1, 1, 1, 1, 2, 2, 3, 4, 5, 60, 366, 367, 0xFFFF, any]);
+    bench.worst_stretch(&first, days as u16, &any_buffer(rng, 3 * days as usize))?;
+    let length = rng.pick(&[600, 40, 20]);
+    bench.report(&first, &any_buffer(rng, length))
 }
 
 /// The same text with other ozone, with another reading besides, damaged, or another text.
 fn second_text(rng: &mut Rng, first: &[u8]) -> Vec<u8> {
-    let mut lines: Lines = crate::account::lines(first).into_iter().map(<[u8]>::to_vec).collect();
+    let mut lines: Lines = lines(first).into_iter().map(<[u8]>::to_vec).collect();
     let often = rng.pick(&[1, 3, 20, 1000]);
     let far = rng.pick(&[2, 20, 5000]);
     for line in lines.iter_mut().filter(|line| is_hour(line)) {
@@ -300,7 +347,7 @@ fn second_text(rng: &mut Rng, first: &[u8]) -> Vec<u8> {
             0 => wrong_digit(rng, &mut lines),
             1 => wrong_turn(rng, &mut lines),
             2 => change_digit(rng, &mut lines),
-            3 => return any_text(rng),
+            3 | 4 => return any_text(rng),
             _ => {}
         }
     }

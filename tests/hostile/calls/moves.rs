@@ -55,47 +55,97 @@ fn due_hour(rng: &mut Rng, account: &Account) -> (i64, i64, Readings) {
     ((header.first + hours / 24) & 0xFFFF, hours % 24, readings)
 }
 
+/// The frames that an account can take.
+enum Due {
+    Header,
+    Parameters,
+    Warmth,
+    Ceiling,
+    Hour,
+    End,
+}
+
+/// The frame that is due: by chance where there are several.
+fn due(rng: &mut Rng, account: &Account) -> Due {
+    let header = account.header();
+    let is_first = account[HOURS] == 0 && account[CEILING_AT] == 0;
+    if account[PHASE] == FRESH {
+        Due::Header
+    } else if header.tree == 7 && header.own.is_none() {
+        Due::Parameters
+    } else if is_first && header.own.is_some() && header.warmth.is_none() && rng.one_in(3) {
+        Due::Warmth
+    } else if is_first && rng.one_in(3) {
+        Due::Ceiling
+    } else if account[HOURS] >= period_hours(account) {
+        Due::End
+    } else {
+        Due::Hour
+    }
+}
+
+/// The days that ramps may take up; none where the period is broken.
+fn ramp_days(header: &Header) -> i64 {
+    (header.last - header.first).max(0)
+}
+
 /// A line that the account takes, where row 13 lets it pass.
 pub fn due_line(rng: &mut Rng, account: &Account) -> Vec<u8> {
-    let header = account.header();
-    if account[PHASE] == FRESH {
-        let number = any_tree(rng);
-        return header_line(&short_period(rng, number)).into_bytes();
-    }
-    let days = (header.last - header.first).max(0);
-    let is_first = account[HOURS] == 0 && account[CEILING_AT] == 0;
-    let line = if header.tree == 7 && header.own.is_none() {
-        any_parameters(rng, days).line()
-    } else if is_first && header.own.is_some() && header.warmth.is_none() && rng.one_in(3) {
-        any_warmth(rng, days).line()
-    } else if is_first && rng.one_in(3) {
-        ceiling_line(any_ceiling(rng))
-    } else if account[HOURS] >= period_hours(account) {
-        end_line(account[HOURS] as i64)
-    } else {
-        let (day, hour, readings) = due_hour(rng, account);
-        hour_line(day, hour, &readings)
+    let days = ramp_days(&account.header());
+    let line = match due(rng, account) {
+        Due::Header => {
+            let number = any_tree(rng);
+            header_line(&short_period(rng, number))
+        }
+        Due::Parameters => any_parameters(rng, days).line(),
+        Due::Warmth => any_warmth(rng, days).line(),
+        Due::Ceiling => ceiling_line(any_ceiling(rng)),
+        Due::Hour => {
+            let (day, hour, readings) = due_hour(rng, account);
+            hour_line(day, hour, &readings)
+        }
+        Due::End => end_line(account[HOURS] as i64),
+    };
+    line.into_bytes()
+}
+
+/// The frame that is due with a number out of its range, or next to that.
+fn faulty_line(rng: &mut Rng, account: &Account, season: &Season) -> Vec<u8> {
+    let days = ramp_days(&account.header()) + rng.pick(&[0, 1, 200]);
+    let line = match due(rng, account) {
+        Due::Header => return damaged_header(rng, season).swap_remove(0),
+        Due::Parameters => {
+            let sound = any_parameters(rng, days);
+            if rng.one_in(2) { sound.line() } else { broken(rng, &sound).line() }
+        }
+        Due::Warmth => broken_warmth(rng).line(),
+        Due::Ceiling => ceiling_line(rng.pick(&[0, 1, 5000, 5001, 0x8000, 0xFFFF])),
+        Due::Hour => {
+            let (day, hour, readings) = due_hour(rng, account);
+            let mut lines = vec![hour_line(day, hour, &readings).into_bytes()];
+            past_range(rng, season, &mut lines);
+            return lines.swap_remove(0);
+        }
+        Due::End => end_line(account[HOURS] as i64 + rng.between(-1, 1)),
     };
     line.into_bytes()
 }
 
 /// The line that is due, or one that is damaged or out of turn.
 pub fn any_line(rng: &mut Rng, account: &Account) -> Vec<u8> {
-    if rng.one_in(2) {
-        return due_line(rng, account);
+    match rng.below(8) {
+        0..=3 => return due_line(rng, account),
+        4 | 5 => return other_line(rng, account),
+        _ => {}
     }
-    if rng.one_in(2) {
-        return other_line(rng, account);
-    }
-    let mut lines = vec![due_line(rng, account)];
     let season = one_hour(rng, account);
+    let mut lines = vec![due_line(rng, account)];
     match rng.below(8) {
         0 => wrong_length(rng, &mut lines),
         1 => wrong_digit(rng, &mut lines),
         2 => wrong_kind(rng, &mut lines),
         3 => wrong_hour(rng, &mut lines),
-        4 => lines = damaged_header(rng, &season),
-        _ => past_range(rng, &season, &mut lines),
+        _ => return faulty_line(rng, account, &season),
     }
     lines.swap_remove(0)
 }
@@ -112,7 +162,7 @@ fn one_hour(rng: &mut Rng, account: &Account) -> Season {
 /// A frame of any kind, in range or next to it, whatever is due.
 fn other_line(rng: &mut Rng, account: &Account) -> Vec<u8> {
     let header = account.header();
-    let days = (header.last - header.first).max(0) + rng.pick(&[0, 0, 1, 200]);
+    let days = ramp_days(&header) + rng.pick(&[0, 0, 1, 200]);
     let sound = any_parameters(rng, days);
     let hours = account[HOURS] as i64;
     let line = match rng.below(9) {

@@ -22,7 +22,7 @@ pub fn any_buffer(rng: &mut Rng, needed: usize) -> Vec<u8> {
 
 /// Any account that row 13 lets pass, of a season or not.
 pub fn possible_account(rng: &mut Rng) -> Account {
-    if rng.one_in(12) {
+    if rng.one_in(8) {
         return Account::fresh();
     }
     let header = any_header(rng);
