@@ -69,6 +69,16 @@ pub fn fed_alone(account: &[u8], line: &[u8]) -> (u32, Vec<u8>) {
     (code, bytes)
 }
 
+/// A code and an account's bytes after another call than feeding: those of feeding the line.
+fn same_as_fed(account: &[u8], line: &[u8], code: u32, after: &[u8]) -> Held<()> {
+    let alone = fed_alone(account, line);
+    if (alone.0, &alone.1[..]) == (code, after) {
+        return Ok(());
+    }
+    let described = |code, bytes| format!("code {code}, account {}", hex(bytes));
+    Err(Difference { expected: format!("as by feeding: {}", described(alone.0, &alone.1)), got: described(code, after) })
+}
+
 impl Bench {
     pub fn fresh(&mut self, account: &mut [u8]) -> Held<()> {
         self.say(|| format!("pod1_fresh account {}", hex(account)));
@@ -107,14 +117,15 @@ impl Bench {
 
     pub fn feed_floats(&mut self, account: &mut Vec<u8>, floats: &Floats) -> Held<u32> {
         let Floats { day, hour, readings } = *floats;
-        self.say(|| format!("pod1_feed_floats account {} day {day} hour {hour} readings {readings:?}, as bits {:08X?}", hex(account), readings.map(f32::to_bits)));
+        let bits = readings.map(f32::to_bits);
+        self.say(|| format!("pod1_feed_floats account {} day {day} hour {hour} readings {readings:?}, as bits {bits:08X?}", hex(account)));
         let mut lent = self.lend(account);
         let before = account.clone();
         let code = unsafe { pod1_feed_floats(lent.pointer(), lent.length(), day, hour, FloatReadings { readings }) };
         self.counts.add("floats", code);
         self.step(floats_fed(account, floats), code, account, &lent)?;
         if let Some(line) = said_by(floats) {
-            same((code, account.clone()), fed_alone(&before, line.as_bytes()))?; // "the one fed the kind 02 line"
+            same_as_fed(&before, line.as_bytes(), code, account)?;
         }
         Ok(code)
     }
@@ -143,7 +154,7 @@ impl Bench {
     }
 
     /// Tries a line, and takes the trial's bytes over.
-    pub fn trial(&mut self, account: &[u8], line: &[u8], trial: &mut Vec<u8>) -> Held<u32> {
+    pub fn trial(&mut self, account: &[u8], line: &[u8], trial: &mut [u8]) -> Held<()> {
         self.say(|| format!("pod1_trial account {} line {} trial {}", hex(account), shown(line), hex(trial)));
         let (mut lent, mut lent_line, mut lent_trial) = (self.lend(account), self.lend(line), self.lend(trial));
         let (account_at, line_at, trial_at) = (lent.pointer(), lent_line.pointer(), lent_trial.pointer());
@@ -151,15 +162,15 @@ impl Bench {
         self.counts.add("trial", got.code);
         same_bytes("account", account, &lent)?;
         same_bytes("line", line, &lent_line)?;
-        let untried = if Account::taken_up(account).is_none() { 13 } else if trial.len() < TRIAL { 12 } else { 0 };
-        if untried != 0 {
-            same(Tried { code: untried, ..Tried::default() }, got)?;
-        } else {
-            self.counts.add("answer of a trial", got.answer);
-            held_trial(account, line, trial, got, &lent_trial)?;
+        match Account::taken_up(account) {
+            None => same(Tried { code: 13, ..Tried::default() }, got)?,
+            Some(_) if trial.len() < TRIAL => same(Tried { code: 12, ..Tried::default() }, got)?,
+            Some(_) => {
+                self.counts.add("answer of a trial", got.answer);
+                held_trial(account, line, trial, got, &lent_trial)?;
+            }
         }
-        same_bytes("trial", trial, &lent_trial)?;
-        Ok(got.code)
+        same_bytes("trial", trial, &lent_trial)
     }
 
     pub fn take(&mut self, account: &mut Vec<u8>, trial: &[u8]) -> Held<u32> {
@@ -189,9 +200,8 @@ impl Bench {
         let got = lent.bytes().unwrap_or_default();
         for (n, step) in steps.iter().flatten().enumerate() {
             let own = n * SIZE..(n + 1) * SIZE;
-            let alone = fed_alone(&accounts[own.clone()], line); // "as if it alone had been fed"
             let after = settled(step, &accounts[own.clone()], got.get(own.clone()).unwrap_or_default())?;
-            same((0, after.clone()), alone)?;
+            same_as_fed(&accounts[own.clone()], line, 0, &after)?;
             accounts[own].copy_from_slice(&after);
         }
         same_bytes("accounts", accounts, &lent)?;
@@ -224,8 +234,8 @@ fn held_trial(account: &[u8], line: &[u8], trial: &mut [u8], got: Tried, lent: &
         Ok(step) => settled(step, tried, written.get(FOLLOWING).unwrap_or_default())?,
         Err(_) => tried.to_vec(),
     };
-    same((answer, following.clone()), fed_alone(tried, line))?;
     same(Tried { code: 0, answer, reading: readout(&following) }, got)?;
+    same_as_fed(tried, line, answer, &following)?;
     trial[0] = (answer >> 8) as u8;
     trial[1] = answer as u8;
     trial[TRIED].copy_from_slice(tried);

@@ -1,12 +1,14 @@
 //! Lists of calls by chance: seasons fed line by line, accounts from hostile bytes, lists of accounts, season texts and writers.
 
 use crate::account::{lines, Header};
+use crate::accounts::line_of_bytes;
 use crate::bench::{Bench, Held};
 use crate::damage::*;
 use crate::feeding::{FOLLOWING, TRIAL, TRIED};
 use crate::frames::is_hour;
 use crate::layout::*;
 use crate::moves::*;
+use crate::possible::is_impossible;
 use crate::rng::Rng;
 use crate::season::*;
 use crate::states::*;
@@ -46,6 +48,8 @@ fn any_season(rng: &mut Rng) -> Season {
     plausible(rng, header)
 }
 
+/// Of short texts.
+#[rustfmt::skip]
 const IN_TURN: [fn(&mut Rng, u64) -> Vec<u8>; 14] = [
     every_byte, every_length, every_kind, every_reading, every_field, every_bend, every_border, every_mixture, every_ceiling, every_gap, every_parameter,
     every_place, every_warmth, every_sum,
@@ -150,7 +154,7 @@ fn floats(bench: &mut Bench, rng: &mut Rng, account: &mut Vec<u8>) -> Held<()> {
 
 /// The account's line into a buffer of just its length, or one byte short.
 fn printed_tight(bench: &mut Bench, rng: &mut Rng, account: &[u8]) -> Held<()> {
-    let length = crate::accounts::line_of_bytes(account).len();
+    let length = line_of_bytes(account).len();
     bench.line(account, &any_buffer(rng, length))
 }
 
@@ -278,7 +282,7 @@ fn member(rng: &mut Rng, first: &Account) -> Account {
     if rng.one_in(2) {
         with_other_tree(rng, &mut other);
     }
-    if crate::possible::is_impossible(&other) { *first } else { other }
+    if is_impossible(&other) { *first } else { other }
 }
 
 /// Mostly a tree of the same soil measure: its parameters and its warmth by chance, before the first hour none now and then.

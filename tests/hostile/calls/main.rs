@@ -1,10 +1,12 @@
-//! Hostile calls on the part, made by chance from a seed: lists of calls on accounts, trials, lists of accounts, floats, season texts and writers, with hostile bytes.
+//! Hostile calls on the part, made by chance from a seed: lists of calls on accounts, trials, lists of accounts, floats, season texts and writers.
 //!
-//!     calls [--seed S] [--lists N] [--seconds T] [--list K]
+//!     calls [--seed S] [--lists N] [--seconds T]
+//!     calls --list K [--seed S]      one list alone, its calls printed
 //!
-//! Written from documents 01 and 02 alone. Every answer and every byte that a call may write is compared, the margins around them too; the dose that an hour adds is
-//! held to the dose in doubles, and the part's own number carried on, so that every later answer is exact. --list K makes the list of that number alone and prints its calls.
-//! At the first difference the calls of its list are printed, their bytes in hexadecimal, and the exit code is 1.
+//! Written from documents 01 and 02 alone. Every answer and every byte that is lent is compared, with a margin on both sides; the dose that an hour
+//! adds is held to the dose in doubles, and the part's own numbers are carried on, so that every later answer is exact. Trials, lists and floats are
+//! held to feeding the line besides. The answers are counted by call and row, and one that never comes up in a long run is a failure.
+//! At the first difference it prints the calls of that list, bytes in hexadecimal, and exits with 1.
 
 #[allow(dead_code)]
 #[path = "../account.rs"]

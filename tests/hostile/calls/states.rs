@@ -2,7 +2,7 @@
 
 use crate::account::Header;
 use crate::layout::*;
-use crate::parameters::{F1, F4, RANGES, TMIN, TOPT, VPD_MAX, SOIL_MAX};
+use crate::parameters::{F1, F4, RANGES, SOIL_MAX, TMIN, TOPT, VPD_MAX};
 use crate::possible::*;
 use crate::rng::Rng;
 use crate::season::{any_ceiling, any_tree, period, short_period};
@@ -106,9 +106,14 @@ fn add_warmth(rng: &mut Rng, account: &mut Account) {
 
 // ---- past a limit
 
-/// The account with one number, now and then two or three, next to a limit of row 13 or of the bytes.
+/// The account with one number, now and then two or three, next to a limit of row 13 or of the bytes; or without its parameters, or its warmth.
 pub fn broken_account(rng: &mut Rng, account: &Account) -> Account {
     let mut broken = *account;
+    if rng.one_in(8) {
+        let lost = if rng.one_in(2) { OWN..NUMBERS } else { RISE..OWN };
+        lost.for_each(|at| broken[at] = 0);
+        return broken;
+    }
     for _ in 0..rng.pick(&[1, 1, 1, 1, 2, 3]) {
         let limits = limits_of(&broken);
         let (at, limit) = rng.pick(&limits);

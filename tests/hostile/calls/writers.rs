@@ -11,8 +11,11 @@ use crate::season::{any_ceiling, any_level, ceiling_line, end_line, header_line,
 use crate::states::any_buffer;
 use crate::warmth::{any_warmth, broken_warmth, Warmth};
 
-/// A header's line, or the first of rows 5 to 8.
-fn header_written(header: Header) -> Result<Vec<u8>, u32> {
+/// The line that must be written, or the row before row 12 that refuses it.
+type Line = Result<Vec<u8>, u32>;
+
+/// Rows 5 to 8.
+fn header_written(header: Header) -> Line {
     Book::new(NEWEST).feed(Frame::Header(header))?;
     Ok(header_line(&header).into_bytes())
 }
@@ -22,7 +25,7 @@ fn bare(tree: u8, days: u16, first: i64, last: i64, level: u16) -> Header {
 }
 
 /// A place's header: rows 5, 6, 14, 7, 8.
-fn place_written(tree: u8, days: u16, level: u16, latitude: u16, height: u16) -> Result<Vec<u8>, u32> {
+fn place_written(tree: u8, days: u16, level: u16, latitude: u16, height: u16) -> Line {
     if let Err(row @ (5 | 6)) = header_written(bare(tree, days, 1, 365, 1)) {
         return Err(row);
     }
@@ -36,7 +39,7 @@ fn place_written(tree: u8, days: u16, level: u16, latitude: u16, height: u16) ->
 }
 
 /// An hour's line in a kind, or row 10 with its field; ozone FFFF is missing.
-fn hour_written(hour: &Hour, kind: i64, pressure: u16) -> Result<Vec<u8>, u32> {
+fn hour_written(hour: &Hour, kind: i64, pressure: u16) -> Line {
     let natural = [hour.ozone, hour.ppfd, hour.radiation, 0, hour.vapour, hour.wind, hour.soil, pressure];
     let mut readings = Readings { kind, values: natural.map(i64::from) };
     readings[TEMPERATURE] = hour.temperature as i64;
@@ -73,8 +76,8 @@ fn any_hour(rng: &mut Rng, kind: i64) -> (Hour, u16) {
 }
 
 impl Bench {
-    /// A writer by its name, with the line that it must write.
-    fn write(&mut self, name: &'static str, words: String, line: Result<Vec<u8>, u32>, rng: &mut Rng, call: impl FnOnce(*mut u8, usize) -> Printed) -> Held<()> {
+    /// A writer by its name and its numbers, with the line that it must write.
+    fn write(&mut self, name: &'static str, words: String, line: Line, rng: &mut Rng, call: impl FnOnce(*mut u8, usize) -> Printed) -> Held<()> {
         let buffer = any_buffer(rng, line.as_ref().map_or(66, Vec::len));
         self.say(|| format!("{name}: {words} buffer {}", hex(&buffer)));
         let mut lent = self.lend(&buffer);
