@@ -336,7 +336,7 @@ fn text_list(bench: &mut Bench, rng: &mut Rng) -> Held<()> {
     bench.report(&first, &any_buffer(rng, length))
 }
 
-/// The same text with other ozone, with another reading besides, damaged, or another text.
+/// The same text with other ozone, with another reading or an ozone lost besides, damaged, or another text.
 fn second_text(rng: &mut Rng, first: &[u8]) -> Vec<u8> {
     let mut lines: Lines = lines(first).into_iter().map(<[u8]>::to_vec).collect();
     let often = rng.pick(&[1, 3, 20, 1000]);
@@ -347,11 +347,12 @@ fn second_text(rng: &mut Rng, first: &[u8]) -> Vec<u8> {
         }
     }
     if !lines.is_empty() {
-        match rng.below(8) {
+        match rng.below(9) {
             0 => wrong_digit(rng, &mut lines),
             1 => wrong_turn(rng, &mut lines),
             2 => change_digit(rng, &mut lines),
-            3 | 4 => return any_text(rng),
+            3 => lost_ozone(rng, &mut lines),
+            4 | 5 => return any_text(rng),
             _ => {}
         }
     }

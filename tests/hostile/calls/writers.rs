@@ -54,9 +54,11 @@ fn tree_of(hour: &Hour) -> i64 {
     if hour.water == 0 { 3 } else { 1 }
 }
 
+/// A number of a range, now and then an end of it, one past it or where two bytes end.
 fn near(rng: &mut Rng, least: i64, most: i64) -> u16 {
     let any = rng.between(least, most);
-    rng.pick(&[any, any, any, any, any, any, least, most, least - 1, most + 1, 0, 0xFFFF]) as u16
+    let number = if rng.one_in(4) { rng.pick(&[least, most, least - 1, most + 1, 0, 0xFFFF]) } else { any };
+    number as u16
 }
 
 fn any_hour(rng: &mut Rng, kind: i64) -> (Hour, u16) {
@@ -65,7 +67,7 @@ fn any_hour(rng: &mut Rng, kind: i64) -> (Hour, u16) {
     let mut values = [0; 8];
     for (reading, value) in values.iter_mut().enumerate() {
         let (least, most) = range(number, kind, reading);
-        *value = if rng.one_in(8) { near(rng, least, most) } else { rng.between(least, most) as u16 };
+        *value = if rng.one_in(3) { near(rng, least, most) } else { rng.between(least, most) as u16 };
     }
     if rng.one_in(8) {
         values[OZONE] = 0xFFFF;
@@ -111,7 +113,7 @@ impl Bench {
     }
 
     fn write_place(&mut self, rng: &mut Rng) -> Held<()> {
-        let tree = rng.pick(&[0, 1, 2, 4, 5, 1, 2, 4, 5, 3, 6, 7, 8, 255]);
+        let tree = rng.pick(&[1, 2, 4, 5, 1, 2, 4, 5, 1, 2, 4, 5, 0, 3, 6, 7, 8, 255]);
         let (days, level) = (near(rng, 365, 366), near(rng, 1, 10000));
         let (latitude, height) = (near(rng, 350, 720), near(rng, 0, 3000));
         let line = place_written(tree, days, level, latitude, height);
