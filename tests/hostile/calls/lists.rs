@@ -272,7 +272,7 @@ fn stand_list(bench: &mut Bench, rng: &mut Rng) -> Held<()> {
     accounts.chunks(SIZE).try_for_each(|account| bench.read(account))
 }
 
-/// Another account of the same stand: tree, level, figures, parameters and warmth may differ.
+/// Another account of the same stand: tree, level, parameters and warmth may differ.
 fn member(rng: &mut Rng, first: &Account) -> Account {
     let mut other = *first;
     if first[PHASE] == FRESH {
@@ -295,8 +295,7 @@ fn with_other_tree(rng: &mut Rng, account: &mut Account) {
     if tree != 7 || account[HOURS] == 0 && account[CEILING] == 0 && rng.one_in(3) {
         return;
     }
-    let mut header = account.header();
-    header = with_own(rng, header);
+    let header = with_own(rng, account.header());
     let figures = *account;
     *account = opened(&header);
     for at in (PHASE..SUM).chain([CEILING]) {
