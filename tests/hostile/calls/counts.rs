@@ -3,7 +3,7 @@
 use std::collections::BTreeMap;
 
 /// Lists of calls that bring up every answer.
-pub const ENOUGH: u64 = 100_000;
+pub const ENOUGH: u64 = 50_000;
 
 /// Rows of a line but for row 10.
 const LINE: &[u32] = &[1, 2, 3, 4, 5, 6, 7, 8, 9, 11, 15, 17, 18, 24, 25];
