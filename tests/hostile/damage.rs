@@ -235,7 +235,7 @@ pub fn wrong_warmth(rng: &mut Rng, lines: &mut Lines) {
 }
 
 /// An hour's ozone lost, under a ceiling or not; or the header's first day.
-fn lost_ozone(rng: &mut Rng, lines: &mut Lines) {
+pub fn lost_ozone(rng: &mut Rng, lines: &mut Lines) {
     let at = rng.below(lines.len());
     put(&mut lines[at], 8, "FFFF");
 }

@@ -1,8 +1,9 @@
 //! A season with hours without ozone, filled in several ways, held to what was printed for it (document 02, W-207).
 
 use crate::account::{answer, lines, Answer, Figures, Month, Sums};
+use crate::dose::SLACK;
 use crate::frames::*;
-use crate::program::{held, numbers, Difference, SLACK};
+use crate::program::{held, numbers, Difference};
 use crate::rng::Rng;
 use crate::season::pair;
 use std::path::Path;

@@ -40,7 +40,7 @@ pub const PRESSURE: usize = 7;
 pub const MISSING: i64 = 0xFFFF;
 
 /// An hour's readings in the order of its frame.
-#[derive(Clone, Copy)]
+#[derive(Clone, Copy, PartialEq)]
 pub struct Readings {
     pub kind: i64,
     /// The last is left out but for kind 04.

@@ -34,7 +34,7 @@ pub const RANGES: [(i64, i64); 16] = [
 ];
 
 /// In the order of the frame, temperatures with their sign.
-#[derive(Clone, Copy)]
+#[derive(Clone, Copy, PartialEq)]
 pub struct Parameters {
     pub numbers: [i64; 16],
 }

@@ -1,9 +1,9 @@
 //! The program run on a text, and its lines held to the account in doubles.
 
-use crate::account::{answer, Answer, Figures, Month, Sums};
+use crate::account::{answer, limits, refusal, verdict, Answer, Figures, Month, Sums};
+use crate::dose::SLACK;
 use crate::fillings;
 use crate::frames::NEWEST;
-use crate::parameters::MEASURED;
 use std::io::{Read, Write};
 use std::path::Path;
 use std::process::{Child, Command, Stdio};
@@ -11,8 +11,6 @@ use std::sync::mpsc;
 use std::thread;
 use std::time::Duration;
 
-/// How far a double dose may lie outside lower and upper, nmol m⁻².
-pub const SLACK: f64 = 0.01;
 const LONGEST_RUN: Duration = Duration::from_secs(10);
 /// No more of what it prints is read.
 const MOST_PRINTED: u64 = 4096;
@@ -42,7 +40,7 @@ pub fn held(program: &Path, text: &[u8]) -> Result<(Answer, Vec<u8>), Difference
 
 fn describe(expected: &Answer) -> String {
     match expected {
-        Answer::Refused { row, line } => format!("{:?}", format!("refused {row} line {line}\n")),
+        Answer::Refused { code, line } => format!("{:?}", refusal(*code, *line)),
         Answer::Season(figures, months) => {
             let months: String = months.iter().map(|month| format!("; month {}: {}", month.number, describe_sums(&month.sums))).collect();
             format!("hours {}, level {}, {}{months}", figures.hours, figures.level, describe_sums(&figures.sums))
@@ -64,18 +62,10 @@ fn summary(printed: &[u8]) -> String {
 
 // ---- the comparison
 
-/// What an hour adds at most, nmol m⁻² (row 13), and how far apart its two numbers may be, by the tree.
-fn limits(tree: i64) -> (i64, i64) {
-    match tree {
-        MEASURED => (1_500_000, 40),
-        _ => (if NEWEST < 4 { 600_000 } else { 800_000 }, 4),
-    }
-}
-
 /// Why the printed lines are wrong, if they are.
 fn wrong(expected: &Answer, printed: &[u8]) -> Option<String> {
     match expected {
-        Answer::Refused { row, line } if printed == format!("refused {row} line {line}\n").as_bytes() => None,
+        Answer::Refused { code, line } if printed == refusal(*code, *line).as_bytes() => None,
         Answer::Refused { .. } => Some(String::new()),
         Answer::Season(figures, months) => wrong_season(figures, months, printed).map(|why| format!("; {why}")),
     }
@@ -142,16 +132,6 @@ fn wrong_sums(tree: i64, sums: &Sums, [counted, lower, upper, least, most]: [i64
     let gap = each * (counted - missing) + most_hour * missing;
     let is_apart = lower > upper || upper - lower > gap || upper > most_hour * counted;
     is_apart.then_some("lower and upper are out of order, too far apart or too great")
-}
-
-fn verdict(lower: i64, upper: i64, level: i64) -> &'static str {
-    if lower > level * 10000 {
-        "exceeded"
-    } else if upper <= level * 10000 {
-        "below"
-    } else {
-        "undecided"
-    }
 }
 
 /// The six numbers at a line's start; how they are written is seen by the line made of them.

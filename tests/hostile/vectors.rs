@@ -1,6 +1,6 @@
 //! The account in doubles held to season texts with known answers: NAME.txt and NAME.expect in the folder of vectors and in its folders of requests.
 
-use crate::account::{answer, Answer, Figures, Month, Sums};
+use crate::account::{answer, refusal, Answer, Figures, Month, Sums};
 use std::fs::read_to_string;
 use std::path::{Path, PathBuf};
 
@@ -53,9 +53,9 @@ fn texts(folder: &Path) -> Result<Vec<PathBuf>, String> {
 fn differs(found: &Answer, expected: &str) -> Option<String> {
     let (season, months) = expected.split_once('\n').unwrap_or((expected, ""));
     match found {
-        Answer::Refused { row, line } => {
-            let refusal = format!("refused {row} line {line}");
-            (refusal != season).then(|| format!("{refusal}, not {season}"))
+        Answer::Refused { code, line } => {
+            let refusal = refusal(*code, *line);
+            (refusal.trim_end() != season).then(|| format!("{refusal:?}, not {season}"))
         }
         Answer::Season(figures, found) => season_differs(figures, season).or_else(|| months_differ(found, months)),
     }

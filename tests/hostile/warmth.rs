@@ -11,7 +11,7 @@ pub const DEGREE_DAY: i64 = 240;
 const MOST_END: i64 = 5000;
 
 /// °C days.
-#[derive(Clone, Copy)]
+#[derive(Clone, Copy, PartialEq)]
 pub struct Warmth {
     pub rise: i64,
     pub fall: i64,
