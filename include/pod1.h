@@ -6,7 +6,8 @@
  * A code is 0 where the call is accepted, else a row and a field: the row of docs/SPECIFICATION.md that refuses the call, and the reading that rows 10 and 26 name
  * (0 for every other row). Take them apart by POD1_ROW and POD1_FIELD.
  * Every call takes any bytes of any length. The caller owes two things: a pointer lends as many bytes as the length beside it says (it may be null where that is
- * 0), and a buffer that is written overlaps no other argument. A refused call leaves account and buffer as they were.
+ * 0), and a buffer that is written overlaps no other argument. A refused call leaves account and buffer as they were
+ * (but for the scratch bytes of pod1_worst_stretch).
  */
 #ifndef POD1_H
 #define POD1_H
@@ -179,8 +180,9 @@ uint32_t pod1_take(uint8_t *account, size_t account_length, const uint8_t *trial
 
 /* ---- several accounts of one stand */
 
-/* One line to one to six accounts that stand one after the other, POD1_ACCOUNT bytes each: all take it or none. Row 22 where there are none or more; row 13 where
- * one of them holds none or one that no season gives; row 23 where two are unlike; then the row of the first that refuses the line. */
+/* One line to one to six accounts that stand one after the other, POD1_ACCOUNT bytes each: all take it or none. There are as many as the length has room for; bytes
+ * behind the last whole one are never touched. Row 22 where there are none or more than six; row 13 where one holds none or one that no season gives; row 23 where
+ * two are unlike; then the row of the first that refuses the line. */
 uint32_t pod1_feed_all(uint8_t *accounts, size_t accounts_length, const uint8_t *line, size_t line_length);
 
 /* ---- whole season texts */
@@ -188,11 +190,12 @@ uint32_t pod1_feed_all(uint8_t *accounts, size_t accounts_length, const uint8_t 
 /* The report of a season text: its line and its month lines, or "refused N line L". Row 12 alone; POD1_REPORT bytes hold any. */
 pod1_printed pod1_report(const uint8_t *text, size_t text_length, uint8_t *buffer, size_t buffer_length);
 
-/* Two texts of one mast that are alike but for ozone, with a tolerance in tenths of ppb. The row and line of the first text, then of the second; then row 19. */
+/* Two texts of one mast that are alike but for ozone, with a tolerance in tenths of ppb. The row and line of the first text, then of the second, as the report tells
+ * them, without a field; then row 19. */
 pod1_comparison pod1_compare(const uint8_t *first, size_t first_length, const uint8_t *second, size_t second_length, uint16_t tolerance);
 
-/* The highest lower AOT40 of so many whole days in a row. Rows 20, 21, which touch no byte; then the text's row and line. Else the first POD1_SCRATCH(days) bytes are
- * zero on return, after a refused line too. */
+/* The highest lower AOT40 of so many whole days in a row. Rows 20, 21, which touch no byte; then the text's row and line, as the report tells them, without a field.
+ * But for rows 20 and 21 the first POD1_SCRATCH(days) bytes are zero on return, after a refused line too. */
 pod1_stretch pod1_worst_stretch(const uint8_t *text, size_t text_length, uint16_t days, uint8_t *scratch, size_t scratch_length);
 
 /* ---- lines to feed, each into a buffer without a line feed: the frame's own rows, then row 12; POD1_FRAME bytes hold any */
