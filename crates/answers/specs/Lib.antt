@@ -1,3 +1,4 @@
 pub mod Code
+pub mod CodePromise
 pub mod Reading
 pub mod Writing

@@ -4,9 +4,11 @@ use account_spec::Totals;
 use account_spec::Verdict;
 use frames::Refusal;
 use frames::Written;
+ghost use mathlib.Core.Bool.{true};
 ghost use mathlib.Core.Path.{_≡_};
 ghost use Rattle.records.specs.Answers.{accepted, rowOf, writtenAs};
-ghost use Rattle.answers.specs.Code.{codeOf, codeOfRow};
+ghost use Rattle.answers.specs.Code.{codeOf, codeOfRow, isRow, codedOf, codedAs};
+ghost use Rattle.answers.specs.CodePromise.{CodePromise};
 ghost use Rattle.answers.specs.Reading.{verdictNumber, noReadout, readoutOf};
 ghost use Rattle.answers.specs.Writing.{printedOf};
 
@@ -29,6 +31,21 @@ pub struct Readout {
 pub struct Printed {
     pub code: u32,
     pub length: u64,
+}
+
+// What trying a line gives: code 0, the code that the line would get and the reading that would follow, or the code of a refusal and zeros.
+#[repr(C)]
+pub struct Tried {
+    pub code: u32,
+    pub answer: u32,
+    pub reading: Readout,
+}
+
+// What a number says as a code: acceptance, a refusal, or nothing.
+pub enum Coded {
+    Accepted,
+    Refused(Refusal),
+    Unknown,
 }
 
 // The field that rows 10 and 26 name, else 0.
@@ -69,6 +86,63 @@ pub fn code_of(refusal: Refusal) -> u32
     ensures { λ r. ⌜ r ≡ codeOfRow (rowOf «refusal») ⌝ }
 {
     (frames::row_of(refusal) as u32) + 256 * (field_of(refusal) as u32)
+}
+
+// Whether a refusal has this row and field.
+fn is_row(row: u8, field: u8) -> bool
+    ensures { λ r. ⌜ r ≡ isRow row field ⌝ }
+{
+    (1 <= row) & (row <= 26) & ((field == 0) | (row == 10) | (row == 26))
+}
+
+fn refusal_of(row: u8, field: u8) -> Refusal
+    requires { ⌜ isRow row field ≡ true ⌝ }
+    ensures { λ r. ⌜ rowOf r ≡ (row, field) ⌝ }
+{
+    match row {
+        1 => Refusal::Length,
+        2 => Refusal::Digit,
+        3 => Refusal::Kind,
+        4 => Refusal::Turn,
+        5 => Refusal::Tree,
+        6 => Refusal::Year,
+        7 => Refusal::Period,
+        8 => Refusal::Level,
+        9 => Refusal::Due,
+        10 => Refusal::Range(field),
+        11 => Refusal::Count,
+        12 => Refusal::Buffer,
+        13 => Refusal::Account,
+        14 => Refusal::Place,
+        15 => Refusal::Mixed,
+        16 => Refusal::Tried,
+        17 => Refusal::Ceiling,
+        18 => Refusal::NoCeiling,
+        19 => Refusal::Unlike,
+        20 => Refusal::Days,
+        21 => Refusal::Scratch,
+        22 => Refusal::ListSize,
+        23 => Refusal::UnlikeAccounts,
+        24 => Refusal::Parameter,
+        25 => Refusal::Warmth,
+        _ => Refusal::Float(field),
+    }
+}
+
+// The answer that a code names.
+pub fn answer_of(code: u16) -> Coded
+    ensures { λ r. ⌜ codedAs r ≡ codedOf code ⌝ }
+    ensures promise { λ _. ⌜ CodePromise ⌝ }
+{
+    if code == 0 {
+        return Coded::Accepted;
+    }
+    let row = (code % 256) as u8;
+    let field = (code / 256) as u8;
+    if is_row(row, field) {
+        return Coded::Refused(refusal_of(row, field));
+    }
+    Coded::Unknown
 }
 
 pub fn of_written(written: Written) -> u32
