@@ -2,7 +2,7 @@
 use Prim.Native.Nat.{ℕ, zero, suc, _+_, _*_, _/_, _%_, _≤_, _<_}
 use mathlib.Core.Path.{_≡_, refl, sym, ap, _∙_}
 use mathlib.Core.Bool.{Bool, true, false, cond, _&&_, _||_, or-true, or-false}
-use mathlib.Core.Option.{some, none}
+use mathlib.Core.Option.{Option, some, none}
 use native.Mathlib.Omega.{arith}
 use borrow.Author.Tests.{eqb-true, leb-true, ne-eqb}
 use lib.Dec.{eqb, leb}
@@ -135,6 +135,24 @@ some-same e = cc
 coded-same : (code : ℕ) (o : Outcome Unit) (t : Bool) → cond t (some (answerOf code tt)) none ≡ some o → codeOf o ≡ code
 coded-same code o true e = ap codeOf (sym (some-same e)) ∙ answer-code tt code
 coded-same code o false e = let z : _≡_ {A = ℕ} 0 1 = cc in absurd (omega arith)
+
+coded-some : (code : ℕ) (o : Outcome Unit) (t : Bool) → cond t (some (answerOf code tt)) none ≡ some o → t ≡ true
+coded-some code o true e = refl
+coded-some code o false e = let z : _≡_ {A = ℕ} 0 1 = cc in absurd (omega arith)
+
+coded-unknown : (code : ℕ) (t : Bool) → _≡_ {A = Option (Outcome Unit)} (cond t (some (answerOf code tt)) none) none → t ≡ false
+coded-unknown code true e = let z : _≡_ {A = ℕ} 0 1 = cc in absurd (omega arith)
+coded-unknown code false e = refl
+
+module _ (code : ℕ) where
+  -- a number that names an answer is a code
+  pub named-code : (o : Outcome Unit) → codedOf code ≡ some o → isCode code ≡ true
+  unfolding codedOf
+  named-code o e = coded-some code o (isCode code) e
+
+  pub unknown-code : codedOf code ≡ none → isCode code ≡ false
+  unfolding codedOf
+  unknown-code e = coded-unknown code (isCode code) e
 
 coded-named : (r : Refusal) → codedOf (codeOfRow (rowOf r)) ≡ some (refused (rowOf r))
 unfolding codedOf

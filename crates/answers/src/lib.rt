@@ -82,10 +82,17 @@ fn field_of(refusal: Refusal) -> u8
     }
 }
 
+// A refusal's code in 16 bits, as a trial's bytes have it.
+pub fn short_code(refusal: Refusal) -> u16
+    ensures { λ r. ⌜ r ≡ codeOfRow (rowOf «refusal») ⌝ }
+{
+    (frames::row_of(refusal) as u16) + 256 * (field_of(refusal) as u16)
+}
+
 pub fn code_of(refusal: Refusal) -> u32
     ensures { λ r. ⌜ r ≡ codeOfRow (rowOf «refusal») ⌝ }
 {
-    (frames::row_of(refusal) as u32) + 256 * (field_of(refusal) as u32)
+    short_code(refusal) as u32
 }
 
 // Whether a refusal has this row and field.
