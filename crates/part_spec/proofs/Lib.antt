@@ -1,2 +1,3 @@
 pub mod CallLaws
 pub mod PromiseLaws
+pub mod TrialLaws

@@ -63,7 +63,7 @@ module _ (code : ℕ) (tried next : Account) (coded : Coded) (says : codedAs cod
 -- ---- bytes
 
 -- bytes that hold no account are row 13
-taken-row : (l : List ℕ) (w : ℕ × ℕ) → takeUpOf l ≡ refused w → takeUpOf l ≡ refused (13, 0)
+pub taken-row : (l : List ℕ) (w : ℕ × ℕ) → takeUpOf l ≡ refused w → takeUpOf l ≡ refused (13, 0)
 unfolding takeUpOf
 taken-row l w e = by (holdsNone l) e
   where
