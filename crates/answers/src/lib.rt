@@ -1,5 +1,7 @@
 // Answers as numbers, for callers in C and Rust: a code, what reading gives, what writing gives.
 // A code is 0, or the row that refuses the call plus 256 times the field that rows 10 and 26 name.
+use account_spec::Fed;
+use account_spec::Reading;
 use account_spec::Totals;
 use account_spec::Verdict;
 use frames::Refusal;
@@ -7,9 +9,11 @@ use frames::Written;
 ghost use mathlib.Core.Bool.{true};
 ghost use mathlib.Core.Path.{_≡_};
 ghost use Rattle.records.specs.Answers.{accepted, rowOf, writtenAs};
+ghost use Rattle.account_spec.specs.Rules.{fedAs};
+ghost use Rattle.account_spec.specs.Reading.{readingAs};
 ghost use Rattle.answers.specs.Code.{codeOf, codeOfRow, isRow, codedOf, codedAs};
 ghost use Rattle.answers.specs.CodePromise.{CodePromise};
-ghost use Rattle.answers.specs.Reading.{verdictNumber, noReadout, readoutOf};
+ghost use Rattle.answers.specs.Reading.{verdictNumber, noReadout, readoutOf, noTrial};
 ghost use Rattle.answers.specs.Writing.{printedOf};
 
 // What reading gives: code 0, the sums and the verdict by its number, or the code of a refusal and zeros.
@@ -82,8 +86,8 @@ fn field_of(refusal: Refusal) -> u8
     }
 }
 
-// A refusal's code in 16 bits, as a trial's bytes have it.
-pub fn short_code(refusal: Refusal) -> u16
+// A refusal's code in 16 bits.
+fn short_code(refusal: Refusal) -> u16
     ensures { λ r. ⌜ r ≡ codeOfRow (rowOf «refusal») ⌝ }
 {
     (frames::row_of(refusal) as u16) + 256 * (field_of(refusal) as u16)
@@ -93,6 +97,16 @@ pub fn code_of(refusal: Refusal) -> u32
     ensures { λ r. ⌜ r ≡ codeOfRow (rowOf «refusal») ⌝ }
 {
     short_code(refusal) as u32
+}
+
+// The code of the answer to a line, in 16 bits.
+pub fn of_fed(answer: Fed) -> u16
+    ensures { λ r. ⌜ r ≡ codeOf (fedAs answer) ⌝ }
+{
+    match answer {
+        Fed::Accepted(_) => 0,
+        Fed::Refused(refusal, _) => short_code(refusal),
+    }
 }
 
 // Whether a refusal has this row and field.
@@ -219,5 +233,24 @@ pub fn readout_of(totals: Totals) -> Readout
         most: sums.most,
         lower: sums.lower,
         upper: sums.upper,
+    }
+}
+
+pub fn of_reading(reading: Reading) -> Readout
+    ensures { λ r. ⌜ r ≡ readoutOf (readingAs reading) ⌝ }
+{
+    match reading {
+        Reading::Given(totals) => readout_of(totals),
+        Reading::Refused(refusal) => no_readout(code_of(refusal)),
+    }
+}
+
+pub fn no_trial(code: u32) -> Tried
+    ensures { λ r. ⌜ r ≡ noTrial code ⌝ }
+{
+    Tried {
+        code: code,
+        answer: 0,
+        reading: no_readout(0),
     }
 }

@@ -35,13 +35,13 @@ module _ (a : Account) (before after : List ℕ) (w : Written) (p : Prints (acce
   abbrev short : Bool
   short = ltb (length before) (length (accountBytes a))
 
-  put-bytes : short ≡ false → after ≡ accountBytes a ++ drop (length (accountBytes a)) before
+  pub put-bytes : short ≡ false → after ≡ accountBytes a ++ drop (length (accountBytes a)) before
   put-bytes e = p .leaves ∙ rw e
 
-  put-held : short ≡ false → takeUpOf after ≡ accepted a
+  pub put-held : short ≡ false → takeUpOf after ≡ accepted a
   put-held e = ap takeUpOf (put-bytes e) ∙ back .back (drop (length (accountBytes a)) before)
 
-  put-code : short ≡ false → codeOf (writtenAs w) ≡ 0
+  pub put-code : short ≡ false → codeOf (writtenAs w) ≡ 0
   put-code e = ap codeOf (p .answers) ∙ rw e
 
   short-code : short ≡ true → codeOf (writtenAs w) ≡ 12

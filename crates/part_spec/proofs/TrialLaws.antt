@@ -1,80 +1,156 @@
--- Trials in bytes, by what the calls below them answer; a trial that is taken is the line fed.
-use Prim.Native.Nat.{ℕ, _≤_, _<_}
+-- Trials in bytes, by what the calls below them answer.
+use Prim.Native.Nat.{ℕ}
 use mathlib.Core.Path.{_≡_, refl, sym, ap, _∙_}
 use mathlib.Core.Bool.{Bool, true, false}
 use mathlib.Core.List.{List, _++_}
 use native.Mathlib.Omega.{arith}
-use borrow.Author.Tests.{lt-ltb, le-ltb}
+use borrow.Author.Tests.{le-ltb}
 use lib.Dec.{ltb}
 use lib.ListN.{length, drop}
-use Rattle.records.specs.Answers.{Outcome, accepted, refused, row, onward}
-use Rattle.records.proofs.AnswerLaws.{row-passed, onward-passed, accepted-same, refused-not-accepted}
+use Rattle.records.specs.declared.Refusal.{Refusal}
+use Rattle.records.specs.declared.Written.{Written}
+use Rattle.records.specs.Answers.{Outcome, accepted, refused, rowOf, writtenAs}
+use Rattle.records.specs.Buffer.{Prints}
+use Rattle.records.proofs.AnswerLaws.{accepted-same, refused-not-accepted}
 use Rattle.account_spec.specs.declared.Account.{Account}
-use Rattle.account_spec.specs.Account.{impossible}
-use Rattle.account_spec.specs.Rules.{feedOf, leftOf}
-use Rattle.account_spec.specs.Reading.{readOf}
-use Rattle.stored.specs.Layout.{takeUpOf}
+use Rattle.account_spec.specs.declared.Fed.{Fed}
+use Rattle.account_spec.specs.Rules.{fedAs}
+use Rattle.account_spec.specs.Reading.{readingAs}
+use Rattle.stored.specs.declared.Held.{Held}
+use Rattle.stored.specs.Layout.{accountBytes, takeUpOf, heldAs}
+use Rattle.stored.specs.RoundTrip.{TakenUp}
+use Rattle.stored.proofs.HeldLaws.{taken-room}
+use Rattle.stored.proofs.AccountLaws.{account-length}
 use Rattle.answers.specs.declared.Tried.{Tried}
-use Rattle.answers.specs.Code.{codeOf, codeOfRow, answerOf}
-use Rattle.answers.specs.Reading.{readoutOf}
-use Rattle.trial_spec.specs.Taking.{takeWith}
-use Rattle.trial_spec.proofs.TrialLaws.{other, take-fed}
-use Rattle.stored_trial.specs.Layout.{Contents, carriedBy, trialWidth, contentsIn}
-use Rattle.stored_trial.proofs.ContentsLaws.{taken-row}
-use Rattle.part_spec.proofs.PromiseLaws.{fed-is, read-is, left-held}
-use Rattle.part_spec.specs.Calls.{fedIn, bytesAfter, FeedsBytes, readIn}
-use Rattle.part_spec.specs.Trials.{contentsBy, triedIn, triedOf, TriesBytes, takenIn, TakesBytes, TakenAsFed, TrialBytesPromise}
+use Rattle.answers.specs.Code.{codeOf, codeOfRow}
+use Rattle.answers.specs.Reading.{readoutOf, noTrial}
+use Rattle.trial_spec.specs.declared.Trial.{Trial}
+use Rattle.trial_spec.specs.Trial.{Tries}
+use Rattle.trial_spec.specs.Taking.{takeOf, TakesTrial}
+use Rattle.stored_trial.specs.declared.HeldTrial.{HeldTrial}
+use Rattle.stored_trial.specs.Layout.{Contents, contentsOf, carriedBy, trialWidth, trialBytes, contentsIn, Holds}
+use Rattle.stored_trial.specs.Layout.{heldAs as trialHeldAs}
+use Rattle.stored_trial.specs.RoundTrip.{TrialTakenUp}
+use Rattle.stored_trial.proofs.ContentsLaws.{contents-same}
+use Rattle.stored_trial.proofs.RoundTripLaws.{trial-length, fed-answer}
+use Rattle.part_spec.specs.Calls.{fedIn}
+use Rattle.part_spec.specs.Trials.{contentsBy, triedIn, triedOf, trialAfter, TriesBytes, takenIn, TakesBytes}
+use Rattle.part_spec.proofs.CallLaws.{put-bytes, put-held, put-code}
+use Rattle.part_spec.proofs.PromiseLaws.{fed-is}
 
--- ---- a trial that was made and is taken
+refused-same : {v w : ℕ × ℕ} → _≡_ {A = Outcome ℕ} (refused v) (refused w) → v ≡ w
+refused-same e = cc
 
-module _ (tried line : List ℕ) (room : ℕ) where
-  abbrev made : Outcome Contents
-  made = triedIn tried line room
+-- ---- trying
 
-  -- with code 0 a trial of the account was made
-  made-by : (o : Outcome Account) → takeUpOf tried ≡ o → (b : Bool) → ltb room trialWidth ≡ b → triedOf made .code ≡ 0
-      → (a : Account) × (takeUpOf tried ≡ accepted a) × (made ≡ accepted (contentsBy a line))
+tries-row : (account line before after : List ℕ) (answer : Tried) (r : ℕ × ℕ) → triedIn account line (length before) ≡ refused r → answer ≡ noTrial (codeOfRow r) → after ≡ before
+    → TriesBytes account line before answer after
+tries-row account line before after answer r q is same = record {
+  answers = is ∙ ap triedOf (sym q);
+  leaves = same ∙ ap (trialAfter before) (sym q);
+  holds = λ c e. refused-not-accepted (sym q ∙ e);
+  carries = λ c e. refused-not-accepted (sym q ∙ e);
+}
+
+pub tries-none : (account line before : List ℕ) (held : Held) (why : Refusal) (answer : Tried) → heldAs held ≡ takeUpOf account → held ≡ Held.Refused why
+    → answer ≡ noTrial (codeOfRow (rowOf why)) → TriesBytes account line before answer before
+unfolding triedIn
+tries-none account line before held why answer taken e is = tries-row account line before before answer (rowOf why) (rw (sym taken ∙ ap heldAs e) refl) is refl
+
+module _ (account line before after : List ℕ) (a : Account) (t : Trial) (w : Written) (has : takeUpOf account ≡ accepted a) (made : Tries a line t)
+    (p : Prints (accepted (trialBytes (contentsOf t))) before w after) (back : writtenAs w ≡ accepted trialWidth → TrialTakenUp t) where
+  same : contentsOf t ≡ contentsBy a line
+  same = contents-same (ap codeOf (made .answer .answers)) (made .tried) (made .answer .leaves)
+
+  test-is : (b : Bool) → ltb (length before) trialWidth ≡ b → ltb (length before) (length (trialBytes (contentsOf t))) ≡ b
+  test-is b f = ap (λ (n : ℕ). ltb (length before) n) (trial-length (contentsOf t)) ∙ f
+
+  short-by : (b : Bool) → ltb (length before) trialWidth ≡ b → (why : Refusal) (answer : Tried) → w ≡ Written.Refused why → answer ≡ noTrial (codeOfRow (rowOf why))
+      → TriesBytes account line before answer after
   unfolding triedIn
-  made-by (accepted a) e false f z = (a, e, rw (e, f) refl)
-  made-by (accepted a) e true f z =
-      let q : made ≡ refused (12, 0) = rw (e, f) refl in
-      absurd (omega (arith, ap (λ (o : Outcome Contents). triedOf o .code) q))
-  made-by (refused w) e b f z =
-      let q : made ≡ refused (13, 0) = rw (taken-row tried w e) refl in
-      absurd (omega (arith, ap (λ (o : Outcome Contents). triedOf o .code) q))
+  short-by true f why answer e is =
+      let row-is : rowOf why ≡ (12, 0) = refused-same (ap writtenAs (sym e) ∙ p .answers ∙ rw (test-is true f) refl) in
+      tries-row account line before after answer (12, 0) (rw (has, f) refl) (is ∙ ap (λ (r : ℕ × ℕ). noTrial (codeOfRow r)) row-is) (p .leaves ∙ rw (test-is true f) refl)
+  short-by false f why answer e is =
+      let q : refused (rowOf why) ≡ accepted (length (trialBytes (contentsOf t))) = ap writtenAs (sym e) ∙ p .answers ∙ rw (test-is false f) refl in
+      refused-not-accepted q
 
-module _ (tried line before trial account : List ℕ) (made : Tried) (k : TriesBytes tried line before made trial) (a : Account) (has : takeUpOf tried ≡ accepted a)
-    (is : triedIn tried line (length before) ≡ accepted (contentsBy a line)) (same : takeUpOf account ≡ takeUpOf tried) where
-  held : takeUpOf account ≡ accepted a
-  held = same ∙ has
+  pub tries-short : (why : Refusal) (answer : Tried) → w ≡ Written.Refused why → answer ≡ noTrial (codeOfRow (rowOf why)) → TriesBytes account line before answer after
+  tries-short = short-by (ltb (length before) trialWidth) refl
 
-  take-is : takenIn account trial ≡ feedOf a line
-  unfolding takenIn
-  take-is = rw (held, k .holds (contentsBy a line) is, k .carries (contentsBy a line) is, fed-is a tried has line) (take-fed a line)
+  made-bytes : ltb (length before) trialWidth ≡ false → after ≡ trialBytes (contentsBy a line) ++ drop trialWidth before
+  made-bytes f =
+      p .leaves
+      ∙ rw (test-is false f) refl
+      ∙ ap (λ (n : ℕ). trialBytes (contentsOf t) ++ drop n before) (trial-length (contentsOf t))
+      ∙ ap (λ (c : Contents). trialBytes c ++ drop trialWidth before) same
 
-  taken-fed : (answer : ℕ) (after : List ℕ) → TakesBytes account trial answer after → TakenAsFed account line made answer after
-  taken-fed answer after t =
-      let alike : takenIn account trial ≡ fedIn account line = take-is ∙ sym (fed-is a account held line) in
-      let feeds : FeedsBytes account line answer after =
-      record { answers = t .answers ∙ ap codeOf alike; leaves = t .leaves ∙ ap (bytesAfter account) alike; holds = λ b e. t .holds b (alike ∙ e) }
-      in
-      let told : made ≡ triedOf (accepted (contentsBy a line)) = k .answers ∙ ap triedOf is in
-      let left = left-held a account held line after answer feeds (feedOf a line) (fed-is a account held line) in
+  made-held : ltb (length before) trialWidth ≡ false → contentsIn after ≡ accepted (contentsBy a line)
+  made-held f =
+      let up = back (p .answers ∙ rw (test-is false f) refl ∙ ap accepted (trial-length (contentsOf t))) in
+      ap contentsIn (made-bytes f ∙ ap (λ (c : Contents). trialBytes c ++ drop trialWidth before) (sym same)) ∙ up .back (drop trialWidth before) ∙ ap accepted same
+
+  carried : carriedBy (contentsBy a line) ≡ fedIn account line
+  carried = ap carriedBy (sym same) ∙ fed-answer (t .answer) ∙ made .answer .answers ∙ sym (fed-is a account has line)
+
+  abbrev told : Tried
+  told = record { code = 0; answer = codeOf (fedAs (t .answer)); reading = readoutOf (readingAs (t .reading)) }
+
+  told-is : told ≡ triedOf (accepted (contentsBy a line))
+  told-is = rw (made .answer .answers, made .reading .answers) refl
+
+  made-by-test : (b : Bool) → ltb (length before) trialWidth ≡ b → (n : ℕ) (answer : Tried) → w ≡ Written.Bytes n → answer ≡ told → TriesBytes account line before answer after
+  unfolding triedIn
+  made-by-test true f n answer e is =
+      let q : accepted n ≡ refused (12, 0) = ap writtenAs (sym e) ∙ p .answers ∙ rw (test-is true f) refl in
+      refused-not-accepted (sym q)
+  made-by-test false f n answer e is =
+      let q : triedIn account line (length before) ≡ accepted (contentsBy a line) = rw (has, f) refl in
       record {
-        feeds = feeds;
-        answered = t .answers ∙ ap codeOf take-is ∙ sym (ap (λ (r : Tried). r .answer) told);
-        read = ap readoutOf (read-is (leftOf a (feedOf a line)) after left) ∙ sym (ap (λ (r : Tried). r .reading) told);
+        answers = is ∙ told-is ∙ ap triedOf (sym q);
+        leaves = made-bytes f ∙ ap (trialAfter before) (sym q);
+        holds = λ c g. made-held f ∙ sym q ∙ g;
+        carries = λ c g. ap carriedBy (accepted-same (sym g ∙ q)) ∙ carried;
       }
 
-other-bytes : (account trial : List ℕ) (a : Account) (c : Contents) → takeUpOf account ≡ accepted a → contentsIn trial ≡ accepted c → (a ≡ c .tried → ⊥)
-    → takenIn account trial ≡ row 13 (impossible a) (refused (16, 0))
-unfolding takenIn
-other-bytes account trial a c e f h = rw (e, f) (other a (c .tried) (carriedBy c) h)
+  pub tries-made : (n : ℕ) (answer : Tried) → w ≡ Written.Bytes n → answer ≡ told → TriesBytes account line before answer after
+  tries-made = made-by-test (ltb (length before) trialWidth) refl
 
-pub trial-bytes-promise : TrialBytesPromise
-trial-bytes-promise = record {
-  taken = λ tried line before trial made k z account same.
-      let m = made-by tried line (length before) (takeUpOf tried) refl (ltb (length before) trialWidth) refl (sym (ap (λ (r : Tried). r .code) (k .answers)) ∙ z) in
-      taken-fed tried line before trial account made k (m .0) (m .1) (m .2) same;
-  other = other-bytes;
-}
+-- ---- taking
+
+module _ (account trial : List ℕ) where
+  takes-row : (r : ℕ × ℕ) (code : ℕ) → takenIn account trial ≡ refused r → code ≡ codeOfRow r → TakesBytes account trial code account
+  takes-row r code q is = record { answers = is ∙ rw q; leaves = rw q; holds = λ a e. refused-not-accepted (sym q ∙ e) }
+
+  module _ (held : Held) (taken : heldAs held ≡ takeUpOf account) where
+    pub takes-none : (why : Refusal) (code : ℕ) → held ≡ Held.Refused why → code ≡ codeOfRow (rowOf why) → TakesBytes account trial code account
+    unfolding takenIn
+    takes-none why code e is = takes-row (rowOf why) code (rw (sym taken ∙ ap heldAs e) refl) is
+
+    module _ (a : Account) (has : held ≡ Held.Account a) (found : HeldTrial) (holds : Holds (contentsIn trial) found) where
+      held-is : takeUpOf account ≡ accepted a
+      held-is = sym taken ∙ ap heldAs has
+
+      pub takes-no-trial : (why : Refusal) (code : ℕ) → found ≡ HeldTrial.Refused why → code ≡ codeOfRow (rowOf why) → TakesBytes account trial code account
+      unfolding takenIn
+      takes-no-trial why code e is = takes-row (rowOf why) code (rw (held-is, sym (holds .answers) ∙ ap trialHeldAs e) refl) is
+
+      module _ (t : Trial) (is-trial : found ≡ HeldTrial.Trial t) (fed : Fed) (takes : TakesTrial a t fed) where
+        fed-as : takenIn account trial ≡ fedAs fed
+        unfolding takenIn takeOf
+        fed-as = rw (held-is, sym (holds .answers) ∙ ap trialHeldAs is-trial, fed-answer (t .answer)) (sym (takes .answers))
+
+        pub takes-refused : (why : Refusal) (left : Account) (code : ℕ) → fed ≡ Fed.Refused why left → code ≡ codeOfRow (rowOf why) → TakesBytes account trial code account
+        takes-refused why left code e is = takes-row (rowOf why) code (fed-as ∙ ap fedAs e) is
+
+        pub takes-accepted : (next : Account) (after : List ℕ) (w : Written) (code : ℕ) → fed ≡ Fed.Accepted next → Prints (accepted (accountBytes next)) account w after → TakenUp next
+            → code ≡ codeOf (writtenAs w) → TakesBytes account trial code after
+        takes-accepted next after w code e p back is =
+            let q : takenIn account trial ≡ accepted next = fed-as ∙ ap fedAs e in
+            let size = account-length next in
+            let long = le-ltb (length account) (length (accountBytes next)) (omega (arith, size, taken-room account a held-is)) in
+            record {
+              answers = is ∙ put-code next account after w p back long ∙ rw q;
+              leaves = put-bytes next account after w p back long ∙ rw (q, size);
+              holds = λ b f. put-held next account after w p back long ∙ sym q ∙ f;
+            }

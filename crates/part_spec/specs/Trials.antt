@@ -12,7 +12,7 @@ use Rattle.account_spec.specs.Reading.{readOf}
 use Rattle.stored.specs.Layout.{takeUpOf}
 use Rattle.answers.specs.declared.Tried.{Tried}
 use Rattle.answers.specs.Code.{codeOf, codeOfRow}
-use Rattle.answers.specs.Reading.{noReadout, readoutOf}
+use Rattle.answers.specs.Reading.{readoutOf, noTrial}
 use Rattle.trial_spec.specs.Trial.{nextOf}
 use Rattle.trial_spec.specs.Taking.{takeWith}
 use Rattle.stored_trial.specs.Layout.{Contents, carriedBy, trialWidth, trialBytes, contentsIn}
@@ -31,7 +31,7 @@ triedIn account line room = onward (takeUpOf account) (λ a. row 12 (ltb room tr
 -- on a refusal its code, and zeros
 abbrev pub triedOf : Outcome Contents → Tried
 triedOf (accepted c) = record { code = 0; answer = c .code; reading = readoutOf (readOf (c .next)) }
-triedOf (refused r) = record { code = codeOfRow r; answer = 0; reading = noReadout 0 }
+triedOf (refused r) = noTrial (codeOfRow r)
 
 -- past the trial untouched, on a refusal all of it
 abbrev pub trialAfter : List ℕ → Outcome Contents → List ℕ

@@ -3,7 +3,7 @@ use Prim.Native.Nat.{ℕ, _+_, _<_}
 use mathlib.Core.Path.{_≡_, refl, sym, ap, subst, _∙_}
 use mathlib.Core.Bool.{Bool, true, false, not}
 use mathlib.Core.List.{List}
-use mathlib.Core.Option.{some, none}
+use mathlib.Core.Option.{some}
 use native.Mathlib.Omega.{arith}
 use lib.ListN.{length, drop, length-drop}
 use Rattle.records.specs.declared.Refusal.{Refusal}
@@ -20,14 +20,14 @@ use Rattle.answers.specs.Code.{codeOf, isCode, codedOf, codedAs}
 use Rattle.answers.proofs.CodeLaws.{code-promise, named-code, unknown-code}
 use Rattle.trial_spec.specs.declared.Trial.{Trial}
 use Rattle.stored_trial.specs.declared.HeldTrial.{HeldTrial}
-use Rattle.stored_trial.specs.Layout.{Contents, contentsOf, codeWidth, accountWidth, trialWidth, contentsIn, heldAs, Holds}
+use Rattle.stored_trial.specs.Layout.{Contents, codeWidth, accountWidth, trialWidth, contentsIn, Holds}
 
 -- ---- a code and two accounts
 
-abbrev contents : ℕ → Account → Account → Contents
+abbrev pub contents : ℕ → Account → Account → Contents
 contents code tried next = record { code = code; tried = tried; next = next }
 
-contents-same : {m n : ℕ} {a b x y : Account} → m ≡ n → a ≡ b → x ≡ y → contents m a x ≡ contents n b y
+pub contents-same : {m n : ℕ} {a b x y : Account} → m ≡ n → a ≡ b → x ≡ y → contents m a x ≡ contents n b y
 contents-same {m = m} {n = n} {a = a} {b = b} {x = x} {y = y} e f g =
     ap (λ (k : ℕ). contents k a x) e ∙ ap (λ (z : Account). contents n z x) f ∙ ap (λ (z : Account). contents n b z) g
 

@@ -1,34 +1,32 @@
 -- Trials stored and taken up, taken up and stored.
 use Prim.Native.Nat.{ℕ, _+_, _*_, _/_, _%_, _≤_, _<_}
 use mathlib.Core.Path.{_≡_, refl, sym, ap, subst, _∙_}
-use mathlib.Core.Bool.{true, false, not}
-use mathlib.Core.List.{List, [], _∷_, _++_, append-assoc}
+use mathlib.Core.Bool.{true, not}
+use mathlib.Core.List.{List, [], _++_, append-assoc}
 use native.Mathlib.Omega.{arith}
 use native.Mathlib.Nat.{zero-add}
-use borrow.Author.Tests.{not-false}
 use lib.ListN.{length, getD, take, drop, length-append, length-drop, take-append-drop}
 use lib.Seq.{sets, sets-eq, drop-at, drop-drop, getD-drop}
-use Rattle.records.specs.Answers.{Outcome, accepted, refused, row, onward}
+use Rattle.records.specs.Answers.{accepted}
 use Rattle.records.proofs.AnswerLaws.{row-passed, onward-passed, accepted-same, refused-not-accepted}
 use Rattle.account_spec.specs.declared.Account.{Account}
 use Rattle.account_spec.specs.declared.Fed.{Fed}
-use Rattle.account_spec.specs.Rules.{feedOf, fedAs, leftBy}
+use Rattle.account_spec.specs.Rules.{fedAs, leftBy}
 use Rattle.account_spec.specs.Reading.{Reads}
-use Rattle.stored.specs.Packing.{bigEndian, bigEndianAt, totalWidth}
-use Rattle.stored.specs.Layout.{widths, accountBytes, takeUpOf}
-use Rattle.stored.specs.RoundTrip.{TakenUp, StoredBack}
+use Rattle.stored.specs.Packing.{bigEndian, bigEndianAt}
+use Rattle.stored.specs.Layout.{accountBytes, takeUpOf}
+use Rattle.stored.specs.RoundTrip.{TakenUp}
 use Rattle.stored.proofs.HeldLaws.{taken-room}
-use Rattle.stored.proofs.PackingLaws.{bigEndian-on, sets-append}
+use Rattle.stored.proofs.PackingLaws.{sets-append}
 use Rattle.stored.proofs.RoundTripLaws.{bigEndian-back}
 use Rattle.stored.proofs.AccountLaws.{account-length, stored-back}
 use Rattle.answers.specs.Code.{codeOf, isCode, answerOf}
 use Rattle.answers.proofs.CodeLaws.{code-is, code-answer}
 use Rattle.trial_spec.specs.declared.Trial.{Trial}
 use Rattle.trial_spec.specs.Trial.{Tries}
-use Rattle.trial_spec.specs.Taking.{takeOf}
 use Rattle.trial_spec.proofs.TrialLaws.{taken-is}
 use Rattle.stored_trial.specs.declared.HeldTrial.{HeldTrial}
-use Rattle.stored_trial.specs.Layout.{Contents, contentsOf, carriedBy, codeWidth, accountWidth, trialWidth, trialBytes, contentsIn, heldAs, Holds}
+use Rattle.stored_trial.specs.Layout.{Contents, contentsOf, carriedBy, codeWidth, accountWidth, trialWidth, trialBytes, contentsIn, Holds}
 use Rattle.stored_trial.specs.RoundTrip.{TriedAgain, TrialTakenUp, TrialStoredBack}
 
 -- ---- the bytes
@@ -77,7 +75,7 @@ code-valid (Fed.Accepted b) = refl
 code-valid (Fed.Refused r b) = code-is r
 
 -- the answer is that of its code
-fed-answer : (f : Fed) → answerOf (codeOf (fedAs f)) (leftBy f) ≡ fedAs f
+pub fed-answer : (f : Fed) → answerOf (codeOf (fedAs f)) (leftBy f) ≡ fedAs f
 unfolding answerOf
 fed-answer (Fed.Accepted b) = refl
 fed-answer (Fed.Refused r b) = code-answer r b

@@ -15,12 +15,12 @@ ghost use lib.ListN.{length};
 ghost use lib.Seq.{sets};
 ghost use Rattle.records.specs.Answers.{accepted, row, writtenAs};
 ghost use Rattle.records.specs.Buffer.{Prints};
-ghost use Rattle.account_spec.specs.Rules.{fedAs, leftBy};
+ghost use Rattle.account_spec.specs.Rules.{leftBy};
 ghost use Rattle.account_spec.specs.Reading.{Reads};
 ghost use Rattle.stored.specs.Packing.{bigEndian, bigEndianAt};
 ghost use Rattle.stored.specs.Layout.{accountBytes};
 ghost use Rattle.stored.specs.RoundTrip.{TakenUp};
-ghost use Rattle.answers.specs.Code.{codeOf, isCode};
+ghost use Rattle.answers.specs.Code.{isCode};
 ghost use Rattle.stored_trial.specs.Layout.{contentsOf, codeWidth, accountWidth, trialWidth, trialBytes, contentsIn, Holds};
 ghost use Rattle.stored_trial.specs.RoundTrip.{TrialTakenUp, TrialStoredBack};
 
@@ -39,16 +39,6 @@ const TRIED: usize = 2;
 const NEXT: usize = 90;
 
 // ---- storing
-
-// The code of an answer: 0 where it is acceptance.
-fn code_of(answer: Fed) -> u16
-    ensures { λ r. ⌜ r ≡ codeOf (fedAs answer) ⌝ }
-{
-    match answer {
-        Fed::Accepted(_) => 0,
-        Fed::Refused(refusal, _) => answers::short_code(refusal),
-    }
-}
 
 // An account into the bytes from a place on.
 fn put_account(account: Account, buffer: &mut [u8], at: usize)
@@ -78,7 +68,7 @@ pub fn store(trial: Trial, buffer: &mut [u8]) -> Written
     }
     let tried = trial.tried;
     let answer = trial.answer;
-    put_code(code_of(answer), buffer);
+    put_code(answers::of_fed(answer), buffer);
     put_account(tried, buffer, TRIED);
     put_account(trial::left_by(answer), buffer, NEXT);
     Written::Bytes(SIZE)

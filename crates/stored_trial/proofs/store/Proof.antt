@@ -24,8 +24,8 @@ returns c =
     let t = contentsOf (a .trial) in
     (prints-short (trialBytes t) (a .buffer .now) (omega (arith, trial-length t)), λ e. refused-not-accepted e)
 
-code-of-requires : tie.Need-code-of-requires
-code-of-requires c κs = search needs
+of-fed-requires : tie.Need-of-fed-requires
+of-fed-requires c κs = search needs
 
 put-code-requires : tie.Need-put-code-requires
 put-code-requires c κs = search needs
@@ -52,7 +52,7 @@ returns-2 c =
     let a = code .before .before .before .before .args in
     let t = a .trial in
     let b = a .buffer .now in
-    let codes = code .code-of .ensures in
+    let codes = code .of-fed .ensures in
     let next = left .left-by .ensures in
     let laid : second .put-account2 .last .1 .0 ≡ trialBytes (contentsOf t) ++ drop trialWidth b =
     second .put-account2 .ensures .0
@@ -71,7 +71,7 @@ store-spec =
     tie.close
     (tie.spec
     returns
-    code-of-requires
+    of-fed-requires
     put-code-requires
     put-account-requires
     left-by-requires

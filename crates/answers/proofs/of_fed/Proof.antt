@@ -1,7 +1,7 @@
--- `stored_trial::code_of` meets its contract.
+-- `answers::of_fed` meets its contract.
 use borrow.Author.Needs.{needs}
-use Rattle.stored_trial.proofs.code_of.Statement.{statement}
-use Rattle.stored_trial.proofs.code_of.Tie as tie
+use Rattle.answers.proofs.of_fed.Statement.{statement}
+use Rattle.answers.proofs.of_fed.Tie as tie
 
 enum-told : tie.Need-enum-told
 enum-told c = search needs
@@ -18,6 +18,6 @@ returns c = search needs
 returns-2 : tie.Need-returns-2
 returns-2 c = rw (c .before .before .answer .given .1, c .short-code .ensures)
 
-pub code-of-spec : {M : Type 1} → statement M
-code-of-spec =
+pub of-fed-spec : {M : Type 1} → statement M
+of-fed-spec =
     tie.close (tie.spec enum-told enum-known-answer short-code-requires returns returns-2)
