@@ -1,4 +1,5 @@
 pub mod Code
+pub mod CodePromise
 pub mod Reading
 pub mod Writing
 pub mod Comparing

@@ -5,6 +5,7 @@ use Rattle.account_spec.specs.declared.Verdict.{Verdict}
 use Rattle.account_spec.specs.declared.Verdict.the-variants.{None, Undecided, Exceeded, Below}
 use Rattle.account_spec.specs.declared.Totals.{Totals}
 use Rattle.answers.specs.declared.Readout.{Readout}
+use Rattle.answers.specs.declared.Tried.{Tried}
 use Rattle.answers.specs.Code.{codeOfRow}
 
 abbrev pub verdictNumber : Verdict → ℕ
@@ -30,3 +31,7 @@ readoutOf (accepted t) = record {
   upper = t .sums .upper;
 }
 readoutOf (refused r) = noReadout (codeOfRow r)
+
+-- where no trial is made: its code, and zeros
+abbrev pub noTrial : ℕ → Tried
+noTrial code = record { code = code; answer = 0; reading = noReadout 0 }

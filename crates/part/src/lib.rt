@@ -6,6 +6,7 @@ mod lines;
 mod logger;
 mod stand;
 mod texts;
+mod trials;
 
 use account_spec::Reading;
 use answers::Printed;

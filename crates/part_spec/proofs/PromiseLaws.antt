@@ -23,16 +23,16 @@ askedIn (lineTold l code ∷ ts) = line l ∷ askedIn ts
 askedIn (readingTold r ∷ ts) = reading ∷ askedIn ts
 
 module _ (a : Account) (b : List ℕ) (held : takeUpOf b ≡ accepted a) where
-  fed-is : (l : List ℕ) → fedIn b l ≡ feedOf a l
+  pub fed-is : (l : List ℕ) → fedIn b l ≡ feedOf a l
   unfolding fedIn
   fed-is l = rw held
 
-  read-is : readIn b ≡ readOf a
+  pub read-is : readIn b ≡ readOf a
   unfolding readIn
   read-is = rw held
 
   -- the bytes that a line leaves hold the account that it leaves
-  left-held : (l after : List ℕ) (code : ℕ) → FeedsBytes b l code after → (o : Outcome Account) → fedIn b l ≡ o → takeUpOf after ≡ accepted (leftOf a o)
+  pub left-held : (l after : List ℕ) (code : ℕ) → FeedsBytes b l code after → (o : Outcome Account) → fedIn b l ≡ o → takeUpOf after ≡ accepted (leftOf a o)
   left-held l after code k (accepted n) e = k .holds n e
   left-held l after code k (refused r) e = ap takeUpOf (k .leaves ∙ ap (bytesAfter b) e) ∙ held
 

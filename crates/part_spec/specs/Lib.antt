@@ -4,3 +4,4 @@ pub mod Frames
 pub mod Promise
 pub mod Stretch
 pub mod Lists
+pub mod Trials

@@ -1,6 +1,6 @@
 mod BigEndianLaws
-mod PackingLaws
-mod RoundTripLaws
+pub mod PackingLaws
+pub mod RoundTripLaws
 mod JoinedLaws
 mod FieldLaws
 pub mod HeldLaws

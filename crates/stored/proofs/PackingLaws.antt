@@ -74,7 +74,7 @@ unfolding bigEndian
 bigEndian-length zero n rest = omega arith
 bigEndian-length (suc w) n rest = bigEndian-length w (n / 256) (n % 256 ∷ rest) ∙ add-suc w (length rest) ∙ sym (suc-add w (length rest))
 
-sets-append : (xs ys b : List ℕ) (at : ℕ) → sets (sets b at xs) (at + length xs) ys ≡ sets b at (xs ++ ys)
+pub sets-append : (xs ys b : List ℕ) (at : ℕ) → sets (sets b at xs) (at + length xs) ys ≡ sets b at (xs ++ ys)
 sets-append [] ys b at = ap (λ (n : ℕ). sets b n ys) (add-zero at)
 sets-append (x ∷ xs) ys b at =
     ap (λ (n : ℕ). sets (sets (set b at x) (suc at) xs) n ys) (add-suc at (length xs) ∙ sym (suc-add at (length xs)))

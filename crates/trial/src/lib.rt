@@ -12,7 +12,7 @@ ghost use Rattle.trial_spec.specs.Taking.{TakesTrial};
 ghost use Rattle.trial_spec.specs.Promise.{TrialPromise};
 
 // The account that an answer leaves.
-fn left_by(answer: Fed) -> Account
+pub fn left_by(answer: Fed) -> Account
     ensures { λ r. ⌜ r ≡ leftBy answer ⌝ }
 {
     match answer {

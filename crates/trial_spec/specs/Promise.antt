@@ -23,7 +23,7 @@ pub record TrialPromise : Type 0 where
   -- with any other account it is row 13, else row 16
   pub other : (a : Account) (t : Trial) → (a ≡ t .tried → ⊥) → takeOf a t ≡ row 13 (impossible a) (refused (16, 0))
   -- a trial made otherwise gives what it carries
-  pub carries : (t : Trial) → impossible (t .tried) ≡ false → takeOf (t .tried) t ≡ answerIn (t .answer)
+  pub carries : (t : Trial) → impossible (t .tried) ≡ false → takeOf (t .tried) t ≡ answerIn (fedAs (t .answer))
   -- no trial makes an account impossible
   pub possible : (a b : Account) (t : Trial) → takeOf a t ≡ accepted b → impossible b ≡ false
   -- taken twice it is row 16, unless nothing changed

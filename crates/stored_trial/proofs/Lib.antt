@@ -1,0 +1,3 @@
+mod PartLaws
+pub mod ContentsLaws
+pub mod RoundTripLaws
