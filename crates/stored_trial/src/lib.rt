@@ -70,7 +70,8 @@ pub fn store(trial: Trial, buffer: &mut [u8]) -> Written
     let answer = trial.answer;
     put_code(answers::of_fed(answer), buffer);
     put_account(tried, buffer, TRIED);
-    put_account(trial::left_by(answer), buffer, NEXT);
+    let next = trial::left_by(answer);
+    put_account(next, buffer, NEXT);
     Written::Bytes(SIZE)
 }
 
