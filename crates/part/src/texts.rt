@@ -5,6 +5,7 @@ use answers::StretchNumbers;
 ghost use mathlib.Core.Path.{_≡_};
 ghost use Rattle.records.specs.Answers.{accepted};
 ghost use Rattle.report_spec.specs.Season.{reportOf};
+ghost use Rattle.report_spec.specs.Promise.{ReportPromise};
 ghost use Rattle.compare_spec.specs.Comparison.{compareOf};
 ghost use Rattle.compare_spec.specs.Promise.{ComparePromise};
 ghost use Rattle.stretch_spec.specs.Promise.{StretchPromise};
@@ -17,6 +18,7 @@ ghost use Rattle.part_spec.specs.Stretch.{TellsWorst};
 #[no_mangle]
 pub extern "C" fn pod1_report(text: &[u8], buffer: &mut [u8]) -> Printed
     ensures { λ r. ⌜ PrintsBytes (accepted (reportOf (now (text .entry)))) (now (buffer .entry)) r (now (buffer .exit)) ⌝ }
+    ensures promise { λ _. ⌜ ReportPromise ⌝ }
 {
     let written = report::season_report(text, buffer);
     answers::printed_of(written)
