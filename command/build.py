@@ -6,6 +6,7 @@ import shutil
 import signal
 import subprocess
 from contextlib import contextmanager
+from functools import cache
 from pathlib import Path
 
 from speak import Failure, say
@@ -16,10 +17,10 @@ REPORT = "pod1"  # the report program
 PATIENCE = 10  # seconds until what rt has started must have ended
 
 FIRST = (
-    "{name}: {count} crates are proved and the program is built, once. Where nothing is proved yet this takes about ten minutes on two cores;"
+    "pod1: target/bin/{name} is proved and built first, {count} crates, once: about ten minutes on two cores where nothing is proved yet."
     " Ctrl-C stops it, and the next run goes on from there."
 )
-AGAIN = "{name}: sources have changed since the program was built; what stands on them is proved again."
+AGAIN = "pod1: sources have changed since the program was built; what stands on them is proved again."
 NO_RT = (
     "rt is missing, the Rattle toolchain that proves and compiles the program, and it is needed: no unproved program is run. Put rt on the PATH and start again."
 )
@@ -43,12 +44,18 @@ def crates_of(name):
     return found
 
 
-def newest(folder):
-    """When anything in the folder last changed; a file that was taken out changes its folder."""
-    times = [folder.stat().st_mtime] if folder.exists() else []
+def times_in(folder):
+    """When everything in the folder last changed; a file that was taken out changes its folder."""
+    if folder.exists():
+        yield folder.stat().st_mtime_ns
     for place, folders, files in os.walk(folder):
-        times += (os.stat(os.path.join(place, entry)).st_mtime for entry in folders + files)
-    return max(times, default=0)
+        yield from (os.stat(os.path.join(place, entry)).st_mtime_ns for entry in folders + files)
+
+
+def last_change(name):
+    """Of what the program is made of."""
+    times = [time for crate in crates_of(name) for time in times_in(ROOT / "crates" / crate)]
+    return max([(ROOT / "crates.txt").stat().st_mtime_ns, *times])
 
 
 def is_built(name):
@@ -56,9 +63,7 @@ def is_built(name):
     program = TARGET / "bin" / name
     if not os.access(program, os.X_OK) or not (TARGET / "stamp" / name).exists():
         return False
-    built = program.stat().st_mtime
-    changed = max(newest(ROOT / "crates" / crate) for crate in crates_of(name) | {name})
-    return max(changed, (ROOT / "crates.txt").stat().st_mtime) <= built
+    return last_change(name) <= program.stat().st_mtime_ns
 
 
 # ---- building
@@ -128,14 +133,16 @@ def build(name):
         raise Failure(NO_RT)
     is_there = (TARGET / "bin" / name).exists()
     say((AGAIN if is_there else FIRST).format(name=name, count=len(crates_of(name))))
+    changed = last_change(name)
     status, kept = check(name)
     if status != 0:
         for line in kept[-40:]:
             say(line.rstrip("\n"))
         raise Failure(f"the program could not be built: rt check {name} ended with status {status}")
-    os.utime(TARGET / "bin" / name)  # as new as the sources that rt found unchanged
+    os.utime(TARGET / "bin" / name, ns=(changed, changed))  # as new as the sources that were there; one that has changed since is newer
 
 
+@cache
 def program(name):
     """The program's path, proved and built."""
     if not is_built(name):
