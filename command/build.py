@@ -49,7 +49,7 @@ def times_in(folder):
     if folder.exists():
         yield folder.stat().st_mtime_ns
     for place, folders, files in os.walk(folder):
-        yield from (os.stat(os.path.join(place, entry)).st_mtime_ns for entry in folders + files)
+        yield from (os.lstat(os.path.join(place, entry)).st_mtime_ns for entry in folders + files)
 
 
 def last_change(name):
@@ -155,7 +155,11 @@ def program(name):
 def answer(name, words=(), text=None):
     """What the program prints for these words, or for a text on standard input; None where it could read none."""
     command = [str(program(name)), *words]
-    done = subprocess.run(command, input=text, stdout=subprocess.PIPE, check=False)
+    try:
+        # the files that a shell has opened for it, as <(..), stay open
+        done = subprocess.run(command, input=text, stdout=subprocess.PIPE, close_fds=False, check=False)
+    except OSError as error:
+        raise Failure(f"{command[0]}: cannot be run: {error.strerror}") from None
     if done.returncode < 0:
         raise Failure(f"{name} was ended by signal {-done.returncode}, and its answer is not used")
     return done.stdout.decode("ascii") or None

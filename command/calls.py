@@ -91,8 +91,8 @@ def compare(words):
 
 
 def tell_line(name, row, at):
-    """A line of a file that can be read again; standard input cannot."""
-    text = b"" if name == texts.STANDARD_INPUT else texts.read(name)
+    """A line of a text; of one that cannot be read again the row alone."""
+    text = texts.read_again(name)
     if text:
         report.explain_text(name, text, row, at)
     else:
@@ -124,6 +124,7 @@ def stretch_answer(days, name):
 
 # ---- place
 
+LONGEST = 9  # digits of a word that a message repeats
 PLACE = ("TREE", "YEAR", "LEVEL", "LATITUDE", "HEIGHT")
 LATITUDE = readings.Reading("latitude", "", "°", 1, 350, 720)
 HEIGHT = readings.Reading("height", "", "m", 0, 0, 3000)
@@ -139,7 +140,8 @@ def place(words):
     if not found:
         return ACCEPTED
     row = int(found[2])
-    tell(row, place_sentence(row, *map(int, words)))
+    is_short = all(len(word) <= LONGEST for word in words)
+    tell(row, place_sentence(row, *map(int, words)) if is_short else None)
     return status_of(row)
 
 
@@ -197,11 +199,10 @@ def tell_header(row, at, header):
 
 def tell_shared(name, row, at, headers):
     """A line of the text, by the first account that bears the row out."""
-    if name == texts.STANDARD_INPUT:
-        return report.explain(name, row, at, None, None)
-    lines = texts.lines_of(texts.read(name))
+    text = texts.read_again(name)
+    lines = texts.lines_of(text)
     line = report.line_at(lines, at)
-    sentences = (explanations.sentence_of(row, season_under(header, lines[: at - 1]), line) for header in headers)
+    sentences = (explanations.sentence_of(row, season_under(header, lines[: at - 1]), line) for header in headers if text)
     report.explain(name, row, at, line, next(filter(None, sentences), None))
 
 

@@ -69,8 +69,8 @@ def figures_of(name, text, printed):
 def draw(python, figures):
     """The pictures; each name as it is written."""
     script = os.path.join(os.path.dirname(os.path.abspath(__file__)), "draw.py")
-    done = subprocess.run([python, script], input=json.dumps(figures), stdout=subprocess.PIPE, text=True, check=False)
-    put(done.stdout)
+    done = subprocess.run([python, script], input=json.dumps(figures).encode(), stdout=subprocess.PIPE, check=False)
+    put(done.stdout.decode("utf-8", "surrogateescape"))
     return ACCEPTED if done.returncode == 0 else FAILED
 
 

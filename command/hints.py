@@ -5,14 +5,16 @@ import shlex
 from texts import STANDARD_INPUT
 
 HEX = b"0123456789abcdefABCDEF"
-MARKS = {b"\xef\xbb\xbf": "a byte order mark", b"\xff\xfe": "a mark of UTF-16", b"\xfe\xff": "a mark of UTF-16"}
+MARK = b"\xef\xbb\xbf"
+WIDE = (b"\xff\xfe", b"\xfe\xff")
 
 
 def mark_hint(name, line, at):
     """A mark that an editor has put before the first line."""
-    for mark, what in MARKS.items():
-        if at == 1 and line.startswith(mark):
-            return f"the text begins with {what}, which an editor has put there: save it again as plain text, UTF-8 without a mark"
+    if at == 1 and line.startswith(MARK):
+        return f"the text begins with a byte order mark, which an editor has put there. Make a copy without it:  tail -c +4 <{name} >COPY"
+    if at == 1 and line.startswith(WIDE):
+        return "the text is in UTF-16: save it again as plain text, UTF-8 without a byte order mark"
     return None
 
 

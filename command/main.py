@@ -1,6 +1,5 @@
 """./pod1: the words of a command, and where each goes."""
 
-import os
 import signal
 import sys
 
@@ -11,7 +10,7 @@ import refusals
 import report
 import speak
 import texts
-from build import ROOT
+import trees
 from speak import ACCEPTED, FAILED, Failure, Usage, put, say
 
 VERSION = "1.0"
@@ -49,12 +48,12 @@ the output has gone.
 
 
 def help_text():
-    return HELP.format(trees=encode.trees.LIST, columns=" ".join(encode.COLUMNS))
+    return HELP.format(trees=trees.LIST, columns=" ".join(encode.COLUMNS))
 
 
 def explain(words):
     """`./pod1 explain N`"""
-    if len(words) != 1 or not words[0].isascii() or not words[0].isdigit() or int(words[0]) not in refusals.ROWS:
+    if len(words) != 1 or words[0] not in map(str, refusals.ROWS):
         raise Usage(f"explain takes the number of a row, 1 to {max(refusals.ROWS)}: ./pod1 explain 10")
     put(refusals.text_of(int(words[0])))
     return ACCEPTED
@@ -112,18 +111,24 @@ def stop(number, _frame):
     sys.exit(128 + number)
 
 
-def guarded(words):
-    """The status; nothing that a person does to the command ends in a traceback."""
+def answered(words):
+    """The status, failures among it."""
     try:
-        status = run(words)
-        sys.stdout.flush()
-        return status
+        return run(words)
     except Usage as usage:
         speak.fail(usage)
         say("pod1: ./pod1 --help has all of it")
         return FAILED
     except Failure as failure:
         return speak.fail(failure)
+
+
+def guarded(words):
+    """The status; nothing that happens to standard output ends in a traceback."""
+    try:
+        status = answered(words)
+        sys.stdout.flush()
+        return status
     except BrokenPipeError:
         speak.silence()
         return speak.GONE
@@ -132,7 +137,7 @@ def guarded(words):
         return 128 + signal.SIGINT
     except OSError as error:  # a full disk
         speak.silence()
-        return speak.fail(f"standard output: cannot be written: {error.strerror}")
+        return speak.fail(f"{error.filename or 'standard output'}: cannot be used: {error.strerror}")
 
 
 def main():

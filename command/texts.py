@@ -50,17 +50,24 @@ def read_input(most):
 
 
 def hold_readable(name):
-    """A message where the file cannot be opened; what it holds is left to the program that reads it."""
+    """A message where the file cannot be read; it is not opened, as a pipe can be once."""
     if name == STANDARD_INPUT:
         if sys.stdin is None:
             raise Failure(f"{label(name)}: cannot be read: it is closed")
         return
-    if os.path.isdir(name):
-        raise Failure(f"{label(name)}: {reason(IsADirectoryError())}")
     try:
-        open(name, "rb").close()
+        os.stat(name)
     except OSError as error:
         raise Failure(f"{label(name)}: {reason(error)}") from None
+    if os.path.isdir(name):
+        raise Failure(f"{label(name)}: {reason(IsADirectoryError())}")
+    if not os.access(name, os.R_OK):
+        raise Failure(f"{label(name)}: {reason(PermissionError())}")
+
+
+def read_again(name):
+    """The text that a program has read; nothing where it was a pipe, which is read once."""
+    return read(name) if name != STANDARD_INPUT and os.path.isfile(name) else b""
 
 
 def lines_of(text):

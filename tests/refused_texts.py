@@ -151,7 +151,8 @@ REFUSED = [(text_of(lines), message) for cases in (LINES, TURNS, HEADERS, DUES, 
 
 # texts that a person can mend: message and hints
 RETURN = "  hint: the line ends in a carriage return: this is a Windows text. Make a copy without them:  tr -d '\\r' <{name} >COPY"
-MARK = "  hint: the text begins with {what}, which an editor has put there: save it again as plain text, UTF-8 without a mark"
+MARK = "  hint: the text begins with a byte order mark, which an editor has put there. Make a copy without it:  tail -c +4 <{name} >COPY"
+WIDE = "  hint: the text is in UTF-16: save it again as plain text, UTF-8 without a byte order mark"
 BLANK = "  hint: a text has no blank lines, after the end frame neither: take them out"
 SPACE = "  hint: the line has spaces or tabs: a frame is digits alone, from the line's first character to its last"
 SMALL = "  hint: the line has small letters a to f, and frames are written in capitals. Make a copy:  tr a-f A-F <{name} >COPY"
@@ -159,8 +160,8 @@ SEASON = text_of(DAY)
 MENDABLE = (
     (SEASON.replace(b"\n", b"\r\n"), f"line 1: the line has 21 characters; {LENGTHS}", [RETURN]),
     (SEASON + b"\r\n", f"line 27: the line has 1 character; {LENGTHS}", [RETURN, BLANK]),
-    (b"\xef\xbb\xbf" + SEASON, f"line 1: the line has 23 characters; {LENGTHS}", [MARK.replace("{what}", "a byte order mark")]),
-    (b"\xff\xfe" + SEASON.decode().encode("utf-16-le"), f"line 1: the line has 42 characters; {LENGTHS}", [MARK.replace("{what}", "a mark of UTF-16")]),
+    (b"\xef\xbb\xbf" + SEASON, f"line 1: the line has 23 characters; {LENGTHS}", [MARK]),
+    (b"\xff\xfe" + SEASON.decode().encode("utf-16-le"), f"line 1: the line has 42 characters; {LENGTHS}", [WIDE]),
     (SEASON + b"\n", f"line 27: the line is blank; {LENGTHS}", [BLANK]),
     (b"\n" + SEASON, f"line 1: the line is blank; {LENGTHS}", [BLANK]),
     (SEASON.lower(), "line 1: 'd' at column 8 is not a digit 0-9 or A-F (row 2)", [SMALL]),
