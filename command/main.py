@@ -1,5 +1,6 @@
 """./pod1: the words of a command, and where each goes."""
 
+import re
 import signal
 import sys
 
@@ -71,8 +72,8 @@ COMMANDS = {
 
 
 def hold_option(word):
-    """A word that begins with a dash and is no option is not taken for a file."""
-    if word.startswith("-") and word != texts.STANDARD_INPUT:
+    """A word that begins with a dash and is no option is not taken for a file; a number below 0 is left to its command."""
+    if re.match("-[^0-9]", word):
         raise Usage(f"{word} is no option; a file of that name is ./{word}, or stands behind --")
 
 
