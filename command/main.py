@@ -18,38 +18,50 @@ VERSION = "1.0"
 LAYOUT = 1  # of an account's bytes (POD1_VERSION in include/pod1.h)
 
 HELP = """\
-The ozone dose of a tree's season (POD1) from a text of hourly readings, with a verdict against the critical level.
+The ozone dose of a tree's season (POD1) from a text of hourly readings, with a verdict against
+the critical level.
 
-  ./pod1 FILE..                          the report of each season text; - or no name is standard input
+  ./pod1 FILE..                          the report of each season text; - or no name: standard input
   ./pod1 explain N                       what row N of a refusal means and what to do, 1 to 26
   ./pod1 encode HEADER READINGS.csv      a season text from a table of readings
-  ./pod1 chart FILE..                    a picture of each report, FILE.svg beside the text
-  ./pod1 compare FIRST SECOND TOLERANCE  two analysers of one mast: hours whose ozone differs by more than TOLERANCE (tenths of ppb), and the sum of differences
-  ./pod1 stretch DAYS FILE..             the highest AOT40 of so many days in a row, and their first day
+  ./pod1 chart FILE..                    a picture of each report, beside the text
+  ./pod1 compare FIRST SECOND TOLERANCE  two analysers of one mast: the hours whose ozone differs by
+                                         more than TOLERANCE, in tenths of ppb
+  ./pod1 stretch DAYS FILE..             the highest AOT40 of so many days in a row, and the first one
   ./pod1 place TREE YEAR LEVEL LATITUDE HEIGHT
-                                         a header by the latitude model: days in the year, level in hundredths of mmol m⁻², tenths of a degree, metres
-  ./pod1 stand FILE HEADER..             the hours of one text for one to six trees, each by its own header
-  ./pod1 --help, --version;  -- ends the options
+                                         a header by the latitude model: days in the year, hundredths
+                                         of mmol m⁻², tenths of a degree, metres
+  ./pod1 stand FILE HEADER..             one text's hours for one to six trees
+  ./pod1 --help | --version              -- ends the options
 
-A report is one line for the season and one for each month:
-  hours counted lower upper AOT40 AOT40 verdict        dose in nmol m⁻², AOT40 in tenths of ppb h, each at least and at most
-  exceeded: the dose is above the critical level. below: it is not. undecided: it lies too near the level to say, or hours without ozone leave it open.
-  refused N line L: the text is no season; standard error says why.
+A report is one line for the season, and one for each month without hours and verdict:
+  HOURS COUNTED LOWER UPPER AOT40 AOT40 VERDICT
+  the dose at least and at most, in nmol m⁻²; AOT40 at least and at most, in tenths of ppb h
+  exceeded   the dose is above the critical level
+  below      it is not
+  undecided  it lies too near the level to say, or hours without ozone leave it open
+A text that is no season gets "refused N line L"; standard error says why.
 
-HEADER is a header's line, and behind commas what follows it: 07.. and 08.. for tree 7, for encode 06.. (the ozone ceiling) too.
-TREE: {trees}.
+HEADER is a header's line and, behind commas, what follows it: 07.. and 08.. for tree 7, for encode
+also 06.., the ozone ceiling.
+TREE is {trees}.
 
-Columns of READINGS.csv, in any order, the first row their names:
-  {columns}
-  vpd_kpa or humidity_percent; soil_suction_kpa, or soil_water_percent for trees 1 and 2; pressure_hpa may be left out. A blank ozone is missing.
+READINGS.csv names its columns in the first row, in any order:
+  day, hour
+  ozone_ppb           blank where it is missing
+  ppfd_umol_m2_s, radiation_w_m2, temperature_c, wind_m_s
+  vpd_kpa             or humidity_percent
+  soil_suction_kpa    or soil_water_percent for trees 1 and 2
+  pressure_hpa        may be left out; with vpd_kpa only
 
-Exit status: 0 all accepted; 1 some text refused; 2 unreadable, not built or wrong usage; the worst of several files. 130: stopped by Ctrl-C. 141: the reader of
-the output has gone.
+Exit status: 0 all accepted; 1 some text refused; 2 unreadable, not built or wrong usage; of several
+files the worst. 130: stopped by Ctrl-C. 141: the reader of the output has gone.
 """
 
 
 def help_text():
-    return HELP.format(trees=trees.LIST, columns=" ".join(encode.COLUMNS))
+    *most, last = (f"{number} {name}" for number, name in trees.NAMES.items())
+    return HELP.format(trees=f"{', '.join(most)}\n  or {last}")
 
 
 def explain(words):

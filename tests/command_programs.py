@@ -10,7 +10,7 @@ from pathlib import Path
 
 import refused_texts
 from account_cases import header_line
-from command_base import ONE_DAY, SEASON, SECONDS, USAGE, Copied, report
+from command_base import ONE_DAY, SEASON, SECONDS, USAGE, Copied, report, to_do
 from local_trees import parameters_line
 from refused_texts import DAY, text_of
 

@@ -67,9 +67,15 @@ class Reports(Case):
         path.chmod(0)
         self.folder.chmod(0o755)
         options = {"user": 65534, "env": {"PATH": "/usr/bin:/bin"}} if os.getuid() == 0 else {}
-        if options and run("--version", **options)[0] != 0:
+        if not self.can_run(options):
             self.skipTest("nobody cannot run the command here")
         self.fails(f"{path}: it may not be read: permission denied", path, **options)
+
+    def can_run(self, options):
+        try:
+            return run(BEECH, **options)[0] == 0
+        except OSError:
+            return False
 
     def test_closed_input_and_directory(self):
         closed = ["sh", "-c", 'exec "$0" <&-', REPOSITORY / "pod1"]
@@ -110,6 +116,7 @@ class Options(Case):
         status, out, err = run("--help")
         self.assertEqual((status, err), (0, ""))
         self.assertEqual(run("compare", "-h")[1], out)
+        self.assertLessEqual(max(map(len, out.splitlines())), 100)
         for word in (*"explain encode chart compare stretch place stand".split(), *(reading.column for reading in readings.ALL), "Exit status", "undecided"):
             self.assertIn(word, out)
 
