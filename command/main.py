@@ -21,16 +21,16 @@ HELP = """\
 The ozone dose of a tree's season (POD1) from a text of hourly readings, with a verdict against
 the critical level.
 
-  ./pod1 FILE..                          the report of each season text; - or no name: standard input
+  ./pod1 FILE..                          the report of each season text; none or -: standard input
   ./pod1 explain N                       what row N of a refusal means and what to do, 1 to 26
   ./pod1 encode HEADER READINGS.csv      a season text from a table of readings
   ./pod1 chart FILE..                    a picture of each report, beside the text
   ./pod1 compare FIRST SECOND TOLERANCE  two analysers of one mast: the hours whose ozone differs by
                                          more than TOLERANCE, in tenths of ppb
-  ./pod1 stretch DAYS FILE..             the highest AOT40 of so many days in a row, and the first one
+  ./pod1 stretch DAYS FILE..             the highest AOT40 of so many days in a row, and the first
   ./pod1 place TREE YEAR LEVEL LATITUDE HEIGHT
-                                         a header by the latitude model: days in the year, hundredths
-                                         of mmol m⁻², tenths of a degree, metres
+                                         a header by the latitude model: days in the year,
+                                         hundredths of mmol m⁻², tenths of a degree, metres
   ./pod1 stand FILE HEADER..             one text's hours for one to six trees
   ./pod1 --help | --version              -- ends the options
 
