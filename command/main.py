@@ -157,7 +157,7 @@ def main():
     if 1 in speak.open_streams():
         speak.fail("standard output: it is closed")
         return FAILED
-    for number in (signal.SIGTERM, signal.SIGHUP):
+    for number in (signal.SIGTERM, signal.SIGHUP, signal.SIGQUIT):
         if signal.getsignal(number) is not signal.SIG_IGN:  # nohup
             signal.signal(number, stop)
     return guarded(sys.argv[1:])
