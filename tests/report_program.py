@@ -1,5 +1,5 @@
 #!/usr/bin/env python3
-"""The report program target/bin/pod1 and the script ./pod1, held to the lines that tests/report_cases.py expects of each text.
+"""The report program target/bin/pod1, held to the lines that tests/report_cases.py expects of each text. The command ./pod1 has tests/command.py.
 
     python3 tests/report_program.py [VECTORS]
 
@@ -12,7 +12,6 @@ import re
 import signal
 import subprocess
 import sys
-import tempfile
 from itertools import chain
 from pathlib import Path
 
@@ -25,7 +24,6 @@ from paper import HOUR_KINDS
 from vectors import REPOSITORY
 
 PROGRAM = REPOSITORY / "target" / "bin" / "pod1"
-SCRIPT = REPOSITORY / "pod1"
 TIME = Path("/usr/bin/time")
 LEAP_YEAR = {2: 325036, 4: 360172, 5: 325036}  # bytes of a leap year's text, by the kind of its hours
 LONGEST = 360246  # the same with parameters and a ceiling; no accepted text exceeds it
@@ -140,10 +138,10 @@ def border_texts(year):
 # ---- runs of the program
 
 
-def run(command, text=None, stdin=subprocess.PIPE, cwd=None):
+def run(command, text=None, stdin=subprocess.PIPE):
     """What it printed, its messages, its exit status; ended with all that it started where it takes too long."""
     out = subprocess.PIPE
-    process = subprocess.Popen(command, stdin=stdin, stdout=out, stderr=out, cwd=cwd, start_new_session=True)
+    process = subprocess.Popen(command, stdin=stdin, stdout=out, stderr=out, start_new_session=True)
     try:
         printed, messages = process.communicate(text, timeout=SECONDS)
     except subprocess.TimeoutExpired:
@@ -204,42 +202,17 @@ def try_pieces_of(day, year):
     try_pieces("leap year", year, 4096)
 
 
-def try_folder(command, message, status):
+def try_folder():
     """Nothing is printed where standard input is a directory."""
     folder = os.open(REPOSITORY, os.O_RDONLY)
-    same(f"{command.name}, a directory as standard input", run([command], stdin=folder), (b"", message, status))
+    same("a directory as standard input", run([PROGRAM], stdin=folder), (b"", b"", 0))
     os.close(folder)
 
 
-def try_closed(command, message, status):
+def try_closed():
     """Nothing is printed where standard input is closed."""
-    closed = ["sh", "-c", 'exec "$0" <&-', command]
-    same(f"{command.name}, standard input closed", run(closed), (b"", message, status))
-
-
-# ---- the script
-
-
-def cannot(*names):
-    return b"".join(b"pod1: %s: cannot be read\n" % os.fsencode(name) for name in names)
-
-
-def try_script(day):
-    texts = {"day.txt": day, "a name with spaces": day[:-1], "-n": b"0104\n", "empty": b""}
-    with tempfile.TemporaryDirectory() as folder:
-        for name, text in texts.items():
-            Path(folder, name).write_bytes(text)
-        Path(folder, "folder").mkdir()
-        lines = [report_cases.report(text) for text in texts.values()]
-        same("script, files", run([SCRIPT, *texts], cwd=folder), (b"".join(lines), b"", 0))
-        first, *others = texts
-        mixed = [SCRIPT, "missing", first, "folder", *others]
-        same("script, a missing file and a folder", run(mixed, cwd=folder), (b"".join(lines), cannot("missing", "folder"), 1))
-        same("script, a missing file last", run([SCRIPT, first, "missing"], cwd=folder), (lines[0], cannot("missing"), 1))
-    same("script, no file", run([SCRIPT], day), (report_cases.report(day), b"", 0))
-    same("script, no file, empty", run([SCRIPT], b""), (report_cases.report(b""), b"", 0))
-    try_folder(SCRIPT, cannot("standard input"), 1)
-    try_closed(SCRIPT, cannot("standard input"), 1)
+    closed = ["sh", "-c", 'exec "$0" <&-', PROGRAM]
+    same("standard input closed", run(closed), (b"", b"", 0))
 
 
 # ---- memory
@@ -287,9 +260,8 @@ def main():
         try_text(f"season {text[:20].decode()}", text)
     try_fillings()
     try_pieces_of(day, year)
-    try_folder(PROGRAM, b"", 0)
-    try_closed(PROGRAM, b"", 0)
-    try_script(day)
+    try_folder()
+    try_closed()
     try_memory(year)
     print(f"{cases} cases")
     print("ok")

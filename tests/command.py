@@ -1,0 +1,30 @@
+#!/usr/bin/env python3
+"""The command ./pod1 as a person calls it: reports, messages, statuses, encode, chart, the further programs' words and answers, and the first build.
+
+    python3 tests/command.py [-v] [Encode]
+
+The report program is target/bin/pod1, which must be built. The programs behind compare, stretch, place and stand, and rt, are stand-ins; the proved ones have tests of their own.
+"""
+
+import sys
+import unittest
+
+from command_base import PROGRAM
+from command_programs import Builds, Calls
+from command_reports import Options, Refusals, Reports, Tables
+from command_tables import Chart, Encode
+
+__all__ = ["Builds", "Calls", "Chart", "Encode", "Options", "Refusals", "Reports", "Tables"]
+
+
+def main():
+    if not PROGRAM.exists():
+        sys.exit(f"{PROGRAM} is not built: rt check pod1")
+    result = unittest.main(exit=False).result
+    for test, why in result.skipped:
+        print(f"command: {test._testMethodName} is left out: {why}")
+    sys.exit(not result.wasSuccessful())
+
+
+if __name__ == "__main__":
+    main()
