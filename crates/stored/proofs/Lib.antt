@@ -1,7 +1,6 @@
 mod BigEndianLaws
-mod PackingLaws
-mod RoundTripLaws
-mod JoinedLaws
+pub mod PackingLaws
+pub mod RoundTripLaws
 mod FieldLaws
 pub mod HeldLaws
 pub mod AccountLaws

@@ -57,7 +57,7 @@ packed-length (w ∷ ws) (n ∷ ns) e = bigEndian-length w n (packed ws ns) ∙ 
 -- ---- read and written back
 
 module _ (l : List ℕ) (small : (i : ℕ) → getD l i 0 < 256) where
-  bigEndian-back : (w at : ℕ) (rest : List ℕ) → at + w ≤ length l → bigEndian w (bigEndianAt w at l) rest ≡ take w (drop at l) ++ rest
+  pub bigEndian-back : (w at : ℕ) (rest : List ℕ) → at + w ≤ length l → bigEndian w (bigEndianAt w at l) rest ≡ take w (drop at l) ++ rest
   unfolding bigEndian bigEndianAt
   bigEndian-back zero at rest h = refl
   bigEndian-back (suc w) at rest h =
