@@ -18,16 +18,20 @@ use Rattle.account_spec.specs.declared.HourKind.{HourKind}
 use Rattle.account_spec.specs.declared.Account.{Account}
 use Rattle.account_spec.specs.HourKinds.{kindNumber}
 use Rattle.account_spec.specs.Account.{phaseNumber}
-use Rattle.stored.specs.Packing.{bigEndian, bigEndianAt, packed, unpacked, slice, totalWidth}
+use Rattle.stored.specs.Packing.{bigEndian, bigEndianAt, packed, unpacked, slice, totalWidth, FitFrom}
 use Rattle.stored.specs.Layout.{version, widths, accountNumbers, phaseOf, hourKindOf, isKind, accountFrom, accountBytes, accountIn, holdsNone, takeUpOf}
 use Rattle.stored.specs.RoundTrip.{TakenUp, StoredBack}
-use Rattle.stored.specs.Steps.{Storable}
-use Rattle.stored.proofs.PackingLaws.{each-fits, unpacked-fit}
+use Rattle.stored.proofs.PackingLaws.{each-fits}
 use Rattle.stored.proofs.RoundTripLaws.{packed-unpacked, packed-length, unpacked-packed}
-use Rattle.stored.proofs.FieldLaws.{phase-back, phase-byte, phase-number, kind-back, kind-byte, kind-number}
+use Rattle.stored.proofs.FieldLaws.{phase-back, phase-le, phase-number, kind-back, kind-byte, kind-number}
 use Rattle.stored.proofs.HeldLaws.{held-room, held-version, held-phase, held-kind}
 
 -- ---- stored and taken up
+
+-- an account whose numbers have room in their bytes, as every account of the program has
+pub record Storable (a : Account) : Type 0 where
+  pub numbers : FitFrom 0 widths (accountNumbers a)
+  pub total : signedOf (complementOf (a .carried .total)) ≡ a .carried .total
 
 pub account-length : (a : Account) → length (accountBytes a) ≡ totalWidth widths
 unfolding accountBytes
@@ -39,7 +43,7 @@ account-back a s rest =
     let l = accountBytes a ++ rest in
     let size : length l ≡ totalWidth widths + length rest = length-append (accountBytes a) rest ∙ ap (λ (k : ℕ). k + length rest) (account-length a) in
     let long = le-ltb (length l) (totalWidth widths) (omega arith) in
-    let phase = le-ltb 2 (getD l 1 0) (phase-byte (a .phase)) in
+    let phase = le-ltb 2 (getD l 1 0) (omega (arith, phase-le (a .phase))) in
     let kind : isKind (getD l 2 0) ≡ true = kind-byte (a .kind) in
     let ns = accountNumbers a in
     let read : unpacked widths 0 l ≡ ns = packed-unpacked widths ns [] rest refl (s .numbers) in
@@ -98,13 +102,6 @@ module _ (l : List ℕ) (small : (i : ℕ) → getD l i 0 < 256) (a : Account) (
       ap (λ (ms : List ℕ). packed widths ms ++ drop (totalWidth widths) l) numbers-same
       ∙ ap (λ (x : List ℕ). x ++ drop (totalWidth widths) l) (unpacked-packed l small widths 0 (omega arith))
       ∙ take-append-drop (totalWidth widths) l
-
-  -- an account that is taken up has room in its bytes
-  pub account-storable : Storable a
-  unfolding accountIn
-  account-storable =
-      let total : a .carried .total ≡ signedOf (getD ns 11 0) = ap (λ (b : Account). b .carried .total) (sym (accepted-same (passed .1))) in
-      record { numbers = unpacked-fit l small widths (accountNumbers a) numbers-same; total = rw total (ap signedOf (complement-signed (getD ns 11 0) total-lt)) }
 
 pub stored-back : (l : List ℕ) → ((i : ℕ) → getD l i 0 < 256) → StoredBack l
 stored-back l small = record { same = bytes-same l small }

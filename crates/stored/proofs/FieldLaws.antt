@@ -25,10 +25,10 @@ phase-back Fresh = refl
 phase-back Open = refl
 phase-back Closed = refl
 
-pub phase-byte : (p : Phase) → phaseNumber p % 256 ≤ 2
-phase-byte Fresh = omega arith
-phase-byte Open = omega arith
-phase-byte Closed = omega arith
+pub phase-le : (p : Phase) → phaseNumber p ≤ 2
+phase-le Fresh = omega arith
+phase-le Open = omega arith
+phase-le Closed = omega arith
 
 pub phase-number : (n : ℕ) → n ≤ 2 → phaseNumber (phaseOf n) ≡ n
 unfolding phaseOf
@@ -43,6 +43,12 @@ kind-back None = refl
 kind-back Deficit = refl
 kind-back Pressure = refl
 kind-back Humidity = refl
+
+pub kind-le : (k : HourKind) → kindNumber k ≤ 5
+kind-le None = omega arith
+kind-le Deficit = omega arith
+kind-le Pressure = omega arith
+kind-le Humidity = omega arith
 
 pub kind-byte : (k : HourKind) → isKind (kindNumber k % 256) ≡ true
 kind-byte None = refl
@@ -61,6 +67,11 @@ module _ (n : ℕ) where
       (λ e₃. ⊎-elim (λ e₂. ⊎-elim (kind-of 0 refl) (kind-of 2 refl) (or-either (eqb n 0) (eqb n 2) e₂)) (kind-of 4 refl) (or-either (eqb n 0 || eqb n 2) (eqb n 4) e₃))
       (kind-of 5 refl)
       (or-either (eqb n 0 || eqb n 2 || eqb n 4) (eqb n 5) e)
+
+pub total-lt : (t : ℤ) → SFits w16 t → complementOf t < 65536
+unfolding complementOf
+total-lt (pos n) f = let h : n < 32768 = f .sfits in omega arith
+total-lt (negsuc n) f = omega arith
 
 pub total-back : (t : ℤ) → SFits w16 t → signedOf (complementOf t) ≡ t
 unfolding signedOf complementOf

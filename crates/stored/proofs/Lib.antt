@@ -1,7 +1,6 @@
 mod BigEndianLaws
 pub mod PackingLaws
 pub mod RoundTripLaws
-mod JoinedLaws
 mod FieldLaws
 pub mod HeldLaws
 pub mod AccountLaws

@@ -1,4 +1,3 @@
 pub mod Packing
 pub mod Layout
 pub mod RoundTrip
-pub mod Steps

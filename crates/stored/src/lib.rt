@@ -2,8 +2,8 @@
 // version 1 | phase 1 | kind 1 | hours 2 | counted 2 | missing 2 | lower 8 | upper 8 | least 4 | most 4 | sum 4 | total 2 |
 // tree 1 | days 2 | first 2 | last 2 | level 2 | ceiling 2 | rise 2 | fall 2 | end 2 | sixteen parameters, 2 each      88 bytes
 mod big_endian;
-mod numbers;
-mod packing;
+mod storing;
+mod taking;
 
 use account_spec::Account;
 use frames::Refusal;
@@ -31,11 +31,19 @@ pub fn store(account: Account, buffer: &mut [u8]) -> Written
     ensures { λ r. ⌜ Prints (accepted (accountBytes account)) (now (buffer .entry)) r (now (buffer .exit)) ⌝ }
     ensures back { λ _. ⌜ TakenUp account ⌝ }
 {
-    let ns = numbers::account_numbers(account);
     if buffer.len() < SIZE {
         return Written::Refused(Refusal::Buffer);
     }
-    packing::put_numbers(buffer, ns);
+    let phase = account.phase;
+    let season = account.season;
+    let kind = account.kind;
+    let sums = account.sums;
+    let carried = account.carried;
+    let p = account::phase_number(phase);
+    let k = account::kind_number(kind);
+    let total = frames::complement(carried.total);
+    storing::put_front(buffer, p, k, total, sums, carried.sum);
+    storing::put_season(buffer, season);
     Written::Bytes(SIZE)
 }
 
@@ -52,7 +60,7 @@ fn holds_none(bytes: &[u8]) -> bool
     if 2 < bytes[1] {
         return true;
     }
-    !numbers::is_kind(bytes[2])
+    !taking::is_kind(bytes[2])
 }
 
 // The account in the first bytes of a slice: row 13 where there is none.
@@ -63,9 +71,5 @@ pub fn take_up(bytes: &[u8]) -> Held
     if holds_none(bytes) {
         return Held::Refused(Refusal::Account);
     }
-    let ns = packing::numbers_in(bytes);
-    let phase = numbers::phase_of(ns[1]);
-    let kind = numbers::hour_kind_of(ns[2]);
-    let total = frames::signed(ns[11] as u16);
-    Held::Account(numbers::account_from(phase, kind, total, ns))
+    Held::Account(taking::account_in(bytes))
 }

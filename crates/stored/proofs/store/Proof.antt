@@ -1,42 +1,90 @@
 -- `stored::store` meets its contract.
 use native.Mathlib.Omega.{arith}
 use borrow.Author.Needs.{needs}
-use Prim.Native.Nat.{ℕ}
-use mathlib.Core.List.{List}
-use mathlib.Core.Path.{ap, _∙_}
-use lib.Seq.{sets}
+use lib.ListN.{take, drop}
+use mir.Syntax.{w16}
+use mir.Val.{SFits}
+use Rattle.records.specs.Temperature.{complementOf}
+use Rattle.records.proofs.SignedLaws.{at-plain}
 use Rattle.records.proofs.BufferLaws.{prints-short, prints-whole}
-use Rattle.stored.specs.Packing.{packed, totalWidth}
-use Rattle.stored.specs.Layout.{widths, accountBytes}
-use Rattle.stored.proofs.AccountLaws.{account-length, taken-up, put-bytes}
+use Rattle.stored.specs.Packing.{bigEndian, totalWidth, FitFrom}
+use Rattle.stored.specs.Layout.{widths, accountNumbers, accountBytes}
+use Rattle.stored.proofs.PackingLaws.{fits-split}
+use Rattle.stored.proofs.FieldLaws.{phase-le, kind-le, total-lt, total-back}
+use Rattle.stored.proofs.AccountLaws.{Storable, account-length, taken-up, put-bytes}
 use Rattle.stored.proofs.store.Statement.{statement}
 use Rattle.stored.proofs.store.Tie as tie
 
-account-numbers-requires : tie.Need-account-numbers-requires
-account-numbers-requires c κs = search needs
+storable : (s : tie.Start) → Storable (s .args .account)
+storable s =
+    let a = s .args .account in
+    let total : SFits w16 (a .carried .total) = search needs in
+    let front : FitFrom 0 (take 21 widths) (accountNumbers a) = omega (arith, phase-le (a .phase), kind-le (a .kind), total-lt (a .carried .total) total) in
+    -- that each parameter has two bytes, too deep for `omega` to find by itself
+    let parameters : FitFrom 21 (drop 21 widths) (accountNumbers a) = omega (arith, s .good .0 .1 .1 .1 .0 .1 .1 .1 .1 .0) in
+    record { numbers = fits-split 21 widths (accountNumbers a) 0 front parameters; total = total-back (a .carried .total) total }
 
 returns : tie.Need-returns
 returns c =
-    let a = c .before .before .before .args in
-    (prints-short (accountBytes (a .account)) (a .buffer .now) (omega (arith, account-length (a .account))), taken-up (a .account) (c .before .account-numbers .ensures .1))
+    let start = c .before .before in
+    let a = start .args in
+    (prints-short (accountBytes (a .account)) (a .buffer .now) (omega (arith, account-length (a .account))), taken-up (a .account) (storable start))
 
-put-numbers-requires : tie.Need-put-numbers-requires
-put-numbers-requires c κs = search needs
+phase-number-requires : tie.Need-phase-number-requires
+phase-number-requires c κs = search needs
+
+kind-number-requires : tie.Need-kind-number-requires
+kind-number-requires c κs = search needs
+
+complement-requires : tie.Need-complement-requires
+complement-requires c κs = search needs
+
+put-front-requires : tie.Need-put-front-requires
+put-front-requires c κs = search needs
+
+put-season-requires : tie.Need-put-season-requires
+put-season-requires c κs = search needs
 
 same-length : tie.Need-same-length
 same-length c = search needs
 
 returns-2 : tie.Need-returns-2
+unfolding bigEndian
 returns-2 c =
-    let made = c .before .before .before .before .before in
-    let a = made .before .before .args in
-    let l = a .buffer .now in
-    let put =
-    c .before .before .put-numbers .ensures
-    ∙ ap (λ (ns : List ℕ). sets l 0 (packed widths ns)) (made .account-numbers .ensures .0)
-    ∙ put-bytes (a .account) l (omega arith)
-    in
-    (prints-whole (accountBytes (a .account)) l _ (totalWidth widths) (account-length (a .account)) (omega arith) put, taken-up (a .account) (made .account-numbers .ensures .1))
+    let season = c .before .before in
+    let front = season .before .before .before .before in
+    let made = front .before .before in
+    let kind = made .before .before in
+    let start = kind .before .before .before .before .before .before .before in
+    let a = start .args .account in
+    let l = start .args .buffer .now in (
+      prints-whole
+          (accountBytes a)
+          l
+          _
+          (totalWidth widths)
+          (account-length a)
+          (omega arith)
+          (rw (
+            season .put-season .ensures,
+            front .put-front .ensures,
+            kind .before .phase-number .ensures,
+            kind .kind-number .ensures,
+            at-plain (a .carried .total) (search needs) complementOf (made .complement .ensures),
+          )
+          (put-bytes a l (omega arith))),
+      taken-up a (storable start),
+    )
 
 pub store-spec : {M : Type 1} → statement M
-store-spec = tie.close (tie.spec account-numbers-requires returns put-numbers-requires same-length returns-2)
+store-spec =
+    tie.close
+    (tie.spec
+    returns
+    phase-number-requires
+    kind-number-requires
+    complement-requires
+    put-front-requires
+    put-season-requires
+    same-length
+    returns-2)

@@ -1,9 +1,9 @@
--- `stored::numbers::hour_kind_of` meets its contract.
+-- `stored::taking::hour_kind_of` meets its contract.
 use borrow.Author.Tests.{ne-eqb}
 use native.Mathlib.Omega.{arith}
 use Rattle.stored.specs.Layout.{hourKindOf}
-use Rattle.stored.proofs.numbers.hour_kind_of.Statement.{statement}
-use Rattle.stored.proofs.numbers.hour_kind_of.Tie as tie
+use Rattle.stored.proofs.taking.hour_kind_of.Statement.{statement}
+use Rattle.stored.proofs.taking.hour_kind_of.Tie as tie
 
 returns : tie.Need-returns
 unfolding hourKindOf

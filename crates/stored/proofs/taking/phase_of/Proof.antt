@@ -1,9 +1,9 @@
--- `stored::numbers::phase_of` meets its contract.
+-- `stored::taking::phase_of` meets its contract.
 use borrow.Author.Tests.{ne-eqb}
 use native.Mathlib.Omega.{arith}
 use Rattle.stored.specs.Layout.{phaseOf}
-use Rattle.stored.proofs.numbers.phase_of.Statement.{statement}
-use Rattle.stored.proofs.numbers.phase_of.Tie as tie
+use Rattle.stored.proofs.taking.phase_of.Statement.{statement}
+use Rattle.stored.proofs.taking.phase_of.Tie as tie
 
 returns : tie.Need-returns
 unfolding phaseOf
