@@ -1,6 +1,6 @@
--- What reading standard input answers.
+-- What reading a text answers.
 use Prim.Native.Nat.{ℕ}
-use Rattle.pod1.specs.declared.input.Got.{Got}
+use Rattle.words.specs.declared.input.Got.{Got}
 
 -- the bytes that are there: none where a read failed
 abbrev pub bytesIn : Got → ℕ

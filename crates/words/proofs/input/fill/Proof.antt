@@ -1,21 +1,21 @@
--- `pod1::input::fill` is safe and ends, and its bytes are within the buffer: each read takes at least one.
+-- `words::input::fill` is safe and ends, and its bytes are within the buffer: each read takes at least one.
 use Prim.Native.Nat.{ℕ, _+_, _-_, _≤_}
 use mathlib.Core.Path.{_≡_, ap, subst}
 use native.Mathlib.Omega.{arith}
 use borrow.Author.Needs.{needs}
 use lib.ListN.{length}
-use Rattle.pod1.specs.Input.{bytesIn}
-use Rattle.pod1.proofs.input.fill.Statement.{statement}
-use Rattle.pod1.proofs.input.fill.Tie as tie
-use Rattle.pod1.proofs.input.fill.Reads as reads
-use Rattle.pod1.proofs.input.fill.Lts as lts
-use Rattle.pod1.proofs.input.read_at.Reads as read-at-reads
+use Rattle.words.specs.Input.{bytesIn}
+use Rattle.words.proofs.input.fill.Statement.{statement}
+use Rattle.words.proofs.input.fill.Tie as tie
+use Rattle.words.proofs.input.fill.Reads as reads
+use Rattle.words.proofs.input.fill.Lts as lts
+use Rattle.words.proofs.input.read_at.Reads as read-at-reads
 
 abbrev Inv-loop : tie.InvT-loop
-Inv-loop buf₀ n₀ buf n = (length buf ≡ length buf₀) × (n ≤ length buf)
+Inv-loop fd buf₀ n₀ buf n = (length buf ≡ length buf₀) × (n ≤ length buf)
 
 abbrev μ-loop : tie.MeasureT-loop
-μ-loop buf₀ n₀ buf n = length buf - n
+μ-loop fd buf₀ n₀ buf n = length buf - n
 
 loop-holds : tie.Need-loop-holds Inv-loop μ-loop
 loop-holds c = search needs
