@@ -27,7 +27,7 @@ PROGRAM = REPOSITORY / "target" / "bin" / "pod1"
 TIME = Path("/usr/bin/time")
 LEAP_YEAR = {2: 325036, 4: 360172, 5: 325036}  # bytes of a leap year's text, by the kind of its hours
 LONGEST = 360246  # the same with parameters and a ceiling; no accepted text exceeds it
-TAKEN = 360448  # bytes that the program reads; the longest text and 67 more decide any report
+TAKEN = 364544  # bytes that the program reads; the longest text and 67 more decide any report
 MOST_MEMORY = 4096  # KiB
 SECONDS = 30  # for a run to end
 

@@ -19,7 +19,7 @@ ghost use Rattle.report_spec.specs.Season.{refusalLine};
 ghost use Rattle.report_spec.specs.Steps.{textIn, Whole, figuresBefore};
 
 // A word before the text.
-fn word_before(t: Text, word: &[u8]) -> Text
+pub(crate) fn word_before(t: Text, word: &[u8]) -> Text
     requires room { ⌜ Whole t × (length (now word) ≤ t .at) ⌝ }
     ensures text { λ r. ⌜ textIn r ≡ now (word .entry) ++ textIn t ⌝ }
     ensures room { λ r. ⌜ Whole r × (r .at + length (now (word .entry)) ≡ t .at) ⌝ }
@@ -48,7 +48,7 @@ fn of_verdict(verdict: Verdict) -> Text
 }
 
 // A number and a space before the text.
-fn column_before(t: Text, n: u64) -> Text
+pub(crate) fn column_before(t: Text, n: u64) -> Text
     requires room { ⌜ Whole t × (21 ≤ t .at) ⌝ }
     ensures text { λ r. ⌜ textIn r ≡ decimal n (space ∷ textIn t) ⌝ }
     ensures room { λ r. ⌜ Whole r × (t .at ≤ r .at + 21) ⌝ }

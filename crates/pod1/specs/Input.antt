@@ -1,8 +1,0 @@
--- What reading standard input answers.
-use Prim.Native.Nat.{ℕ}
-use Rattle.pod1.specs.declared.input.Got.{Got}
-
--- the bytes that are there: none where a read failed
-abbrev pub bytesIn : Got → ℕ
-bytesIn (Got.Bytes n) = n
-bytesIn Got.Failed = 0
