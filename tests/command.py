@@ -3,18 +3,19 @@
 
     python3 tests/command.py [-v] [Encode]
 
-The report program is target/bin/pod1, which must be built. The programs behind compare, stretch, place and stand, and rt, are stand-ins; the proved ones have tests of their own.
+The report program is target/bin/pod1, which must be built. How the command calls the programs behind compare, stretch, place and stand, and rt, is tried with stand-ins; the proved programs themselves in `RealCalls`.
 """
 
 import sys
 import unittest
 
 from command_base import PROGRAM
+from command_calls import RealCalls
 from command_programs import Builds, Calls
 from command_reports import Options, Refusals, Reports, Tables
 from command_tables import Chart, Encode
 
-__all__ = ["Builds", "Calls", "Chart", "Encode", "Options", "Refusals", "Reports", "Tables"]
+__all__ = ["Builds", "Calls", "Chart", "Encode", "Options", "RealCalls", "Refusals", "Reports", "Tables"]
 
 
 def main():
