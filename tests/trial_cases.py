@@ -120,7 +120,8 @@ class Sheet:
         self.trial = self.trial._replace(row=None, next=account)
 
     def forge_refusal(self, row):
-        self.command(b"R", b"%02X%02X" % (row[0], row[-1]))
+        number, field = (*row, 0)[:2]
+        self.command(b"R", b"%02X%02X" % (number, field))
         self.trial = self.trial._replace(row=row)
 
     def forge_reading(self):

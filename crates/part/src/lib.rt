@@ -8,7 +8,6 @@ mod stand;
 mod texts;
 mod trials;
 
-use account_spec::Reading;
 use answers::Printed;
 use answers::Readout;
 use frames::Written;
@@ -54,10 +53,7 @@ pub extern "C" fn pod1_read(account: &[u8]) -> Readout
     match held {
         Held::Account(a) => {
             let reading = account::read(a);
-            match reading {
-                Reading::Given(totals) => answers::readout_of(totals),
-                Reading::Refused(refusal) => answers::no_readout(answers::code_of(refusal)),
-            }
+            answers::of_reading(reading)
         },
         Held::Refused(refusal) => answers::no_readout(answers::code_of(refusal)),
     }

@@ -1,47 +1,19 @@
 // Trials that nothing made: one part of a trial set to something else.
-use account::Account;
 use account::Fed;
 use account::Reading;
+use answers::Coded;
 use cases::u8_at;
 use cases_account::with_field;
 use frames::Refusal;
 use trial::Trial;
 
+// Row 13 where no refusal has this row and field.
 fn refusal_of(row: u8, field: u8) -> Refusal {
-    match row {
-        1 => Refusal::Length,
-        2 => Refusal::Digit,
-        3 => Refusal::Kind,
-        4 => Refusal::Turn,
-        5 => Refusal::Tree,
-        6 => Refusal::Year,
-        7 => Refusal::Period,
-        8 => Refusal::Level,
-        9 => Refusal::Due,
-        10 => Refusal::Range(field),
-        11 => Refusal::Count,
-        12 => Refusal::Buffer,
-        13 => Refusal::Account,
-        14 => Refusal::Place,
-        15 => Refusal::Mixed,
-        16 => Refusal::Tried,
-        17 => Refusal::Ceiling,
-        18 => Refusal::NoCeiling,
-        19 => Refusal::Unlike,
-        20 => Refusal::Days,
-        21 => Refusal::Scratch,
-        22 => Refusal::ListSize,
-        23 => Refusal::UnlikeAccounts,
-        24 => Refusal::Parameter,
-        _ => Refusal::Warmth,
-    }
-}
-
-// The account inside an answer.
-fn account_in(answer: Fed) -> Account {
-    match answer {
-        Fed::Accepted(next) => next,
-        Fed::Refused(_, same) => same,
+    let coded = answers::answer_of((row as u16) + 256 * (field as u16));
+    match coded {
+        Coded::Accepted => Refusal::Account,
+        Coded::Refused(refusal) => refusal,
+        Coded::Unknown => Refusal::Account,
     }
 }
 
@@ -64,7 +36,7 @@ pub(crate) fn with_acceptance(made: Trial, digits: &[u8]) -> Trial {
     let reading = made.reading;
     Trial {
         tried: tried,
-        answer: Fed::Accepted(with_field(account_in(answer), digits)),
+        answer: Fed::Accepted(with_field(trial::left_by(answer), digits)),
         reading: reading,
     }
 }
@@ -78,7 +50,7 @@ pub(crate) fn with_refusal(made: Trial, digits: &[u8]) -> Trial {
         tried: tried,
         answer: Fed::Refused(
             refusal_of(u8_at(digits, 0), u8_at(digits, 2)),
-            account_in(answer),
+            trial::left_by(answer),
         ),
         reading: reading,
     }

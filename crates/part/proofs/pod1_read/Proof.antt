@@ -1,8 +1,7 @@
 -- `part::pod1_read` meets its contract.
 use borrow.Author.Needs.{needs}
-use mathlib.Core.Path.{sym, ap, _∙_}
-use Rattle.account_spec.specs.Reading.{readingAs}
-use Rattle.answers.specs.Reading.{noReadout, readoutOf}
+use mathlib.Core.Path.{ap, _∙_}
+use Rattle.answers.specs.Reading.{noReadout}
 use Rattle.part_spec.proofs.CallLaws.{reads-none, reads-some}
 use Rattle.part.proofs.pod1_read.Statement.{statement}
 use Rattle.part.proofs.pod1_read.Tie as tie
@@ -16,14 +15,11 @@ enum-known-held c = search needs
 read-requires : tie.Need-read-requires
 read-requires c κs = search needs
 
-enum-known-reading : tie.Need-enum-known-reading
-enum-known-reading c = search needs
+of-reading-requires : tie.Need-of-reading-requires
+of-reading-requires c κs = search needs
 
-readout-of-requires : tie.Need-readout-of-requires
-readout-of-requires c κs = search needs
-
-enum-known-reading-2 : tie.Need-enum-known-reading-2
-enum-known-reading-2 c = search needs
+enum-known-held-2 : tie.Need-enum-known-held-2
+enum-known-held-2 c = search needs
 
 code-of-requires : tie.Need-code-of-requires
 code-of-requires c κs = search needs
@@ -31,56 +27,19 @@ code-of-requires c κs = search needs
 no-readout-requires : tie.Need-no-readout-requires
 no-readout-requires c κs = search needs
 
-enum-known-held-2 : tie.Need-enum-known-held-2
-enum-known-held-2 c = search needs
-
-code-of-requires-2 : tie.Need-code-of-requires-2
-code-of-requires-2 c κs = search needs
-
-no-readout-requires-2 : tie.Need-no-readout-requires-2
-no-readout-requires-2 c κs = search needs
-
 returns : tie.Need-returns
 returns c =
-    let given = c .before .before in
-    let call = given .before .before in
+    let call = c .before in
     let held = call .before .before in
-    c .readout-of .ensures
-    ∙ ap (λ r. readoutOf (readingAs r)) (sym (given .reading .given .1))
-    ∙ reads-some _ _ (held .before .before .take-up .ensures .0) _ _ (held .held .given .1) (call .read .ensures)
+    c .of-reading .ensures ∙ reads-some _ _ (held .before .before .take-up .ensures .0) _ _ (held .held .given .1) (call .read .ensures)
 
 returns-2 : tie.Need-returns-2
 returns-2 c =
-    let given = c .before .before .before in
-    let call = given .before .before in
-    let held = call .before .before in
+    let held = c .before .before .before in
     c .no-readout .ensures
     ∙ ap noReadout (c .before .code-of .ensures)
-    ∙ ap (λ r. readoutOf (readingAs r)) (sym (given .reading2 .given .1))
-    ∙ reads-some _ _ (held .before .before .take-up .ensures .0) _ _ (held .held .given .1) (call .read .ensures)
-
-returns-3 : tie.Need-returns-3
-returns-3 c =
-    let held = c .before .before .before in
-    c .no-readout2 .ensures
-    ∙ ap noReadout (c .before .code-of2 .ensures)
     ∙ reads-none _ _ (held .before .before .take-up .ensures .0) _ (held .held2 .given .1)
 
 pub pod1-read-spec : {M : Type 1} → statement M
 pod1-read-spec =
-    tie.close
-    (tie.spec
-    take-up-requires
-    enum-known-held
-    read-requires
-    enum-known-reading
-    readout-of-requires
-    enum-known-reading-2
-    code-of-requires
-    no-readout-requires
-    enum-known-held-2
-    code-of-requires-2
-    no-readout-requires-2
-    returns
-    returns-2
-    returns-3)
+    tie.close (tie.spec take-up-requires enum-known-held read-requires of-reading-requires enum-known-held-2 code-of-requires no-readout-requires returns returns-2)
