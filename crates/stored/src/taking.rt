@@ -70,26 +70,26 @@ fn warmth_of(ns: [u16; 4]) -> Warmth
     }
 }
 
-fn parameters_of(n: [u16; 4], m: [u16; 4], l: [u16; 4], k: [u16; 4]) -> Parameters
-    ensures { λ r. ⌜ r ≡ parametersOf (slice 0 4 n ++ slice 0 4 m ++ slice 0 4 l ++ slice 0 4 k) ⌝ }
+fn parameters_of(first: [u16; 4], second: [u16; 4], third: [u16; 4], fourth: [u16; 4]) -> Parameters
+    ensures { λ r. ⌜ r ≡ parametersOf (slice 0 4 first ++ slice 0 4 second ++ slice 0 4 third ++ slice 0 4 fourth) ⌝ }
 {
     Parameters {
-        gmax: n[0],
-        fmin: n[1],
-        lighta: n[2],
-        tmin: n[3],
-        topt: m[0],
-        tmax: m[1],
-        vpdmax: m[2],
-        vpdmin: m[3],
-        soilmax: l[0],
-        soilmin: l[1],
-        leaf: l[2],
-        a: l[3],
-        e: k[0],
-        f1: k[1],
-        f4: k[2],
-        y: k[3],
+        gmax: first[0],
+        fmin: first[1],
+        lighta: first[2],
+        tmin: first[3],
+        topt: second[0],
+        tmax: second[1],
+        vpdmax: second[2],
+        vpdmin: second[3],
+        soilmax: third[0],
+        soilmin: third[1],
+        leaf: third[2],
+        a: third[3],
+        e: fourth[0],
+        f1: fourth[1],
+        f4: fourth[2],
+        y: fourth[3],
     }
 }
 
@@ -100,14 +100,14 @@ fn season_in(b: &[u8]) -> Season
     let tree = get(b, 39, 1) as u8;
     let period = get_four(b, 40);
     let limits = get_four(b, 48);
-    let n = get_four(b, 56);
-    let m = get_four(b, 64);
-    let l = get_four(b, 72);
-    let k = get_four(b, 80);
+    let first = get_four(b, 56);
+    let second = get_four(b, 64);
+    let third = get_four(b, 72);
+    let fourth = get_four(b, 80);
     Season {
         header: header_of(tree, period),
         ceiling: limits[0],
-        parameters: parameters_of(n, m, l, k),
+        parameters: parameters_of(first, second, third, fourth),
         warmth: warmth_of(limits),
     }
 }

@@ -7,20 +7,20 @@ returns : tie.Need-returns
 returns c =
     let parameters = c .before in
     let header = parameters .before in
-    let k = header .before in
-    let l = k .before in
-    let m = l .before in
-    let n = m .before in
-    let limits = n .before in
+    let fourth = header .before in
+    let third = fourth .before in
+    let second = third .before in
+    let first = second .before in
+    let limits = first .before in
     let period = limits .before in
     rw (
       c .warmth-of .ensures,
       parameters .parameters-of .ensures,
       header .header-of .ensures,
-      k .get-four6 .ensures,
-      l .get-four5 .ensures,
-      m .get-four4 .ensures,
-      n .get-four3 .ensures,
+      fourth .get-four6 .ensures,
+      third .get-four5 .ensures,
+      second .get-four4 .ensures,
+      first .get-four3 .ensures,
       limits .get-four2 .ensures,
       period .get-four .ensures,
       period .before .get .ensures .0,
