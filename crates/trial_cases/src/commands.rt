@@ -1,8 +1,8 @@
 // Commands, one a line, over an account and a trial that are held. `H` sets a field of the account, `F` and a line feeds it; `T` and a
 // line tries it; `K` takes the trial. `P` sets a field of the account tried, `Q` makes the answer an acceptance and sets a field of its account, `R` makes it
 // a refusal, `V` spoils the reading. `T`, `F` and `K` print.
-use crate::answers::print_trial;
 use crate::forged;
+use crate::printing::print_trial;
 use account::Account;
 use cases::print;
 use cases_account::print_fed;

@@ -1,7 +1,7 @@
 // Tries lines and takes trials, made and forged, as the commands on standard input say. What it must print is made by tests/trial_cases.py.
-mod answers;
 mod commands;
 mod forged;
+mod printing;
 
 fn main() {
     let mut text = cases::buffer();
