@@ -17,7 +17,7 @@ REPORT = "pod1"  # the report program
 PATIENCE = 10  # seconds until what rt has started must have ended
 
 FIRST = (
-    "pod1: target/bin/{name} is proved and built first, {count} crates, once: some six minutes on two cores where nothing is proved yet."
+    "pod1: target/bin/{name} is proved and built first, {count} crates, once: about six minutes on two cores where nothing is proved yet."
     " Ctrl-C stops it, and the next run goes on from there."
 )
 AGAIN = "pod1: sources have changed since the program was built; what stands on them is proved again."
