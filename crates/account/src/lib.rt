@@ -1,4 +1,6 @@
 // The season account (document 01, "Account"): a fresh one, feeding it a line, reading it.
+#![tactic(auto)]
+
 mod adding;
 
 ghost use Rattle.std.specs.Prelude.{◌≡◌};

@@ -1,4 +1,6 @@
 // Feeds and reads accounts as the commands on standard input say. What it must print is made by tests/account_cases.py.
+#![tactic(auto)]
+
 mod answers;
 mod commands;
 mod fields;

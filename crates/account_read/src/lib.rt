@@ -1,4 +1,6 @@
 // Row 13 and reading the account (document 01, "Account" and "Turned-back lines").
+#![tactic(auto)]
+
 mod limits;
 mod possible;
 

@@ -1,8 +1,10 @@
 // The season account, the book of demand 3 and the rules of both (document 01, "Account" and "The book of demand 3"): definitions and laws only.
+#![tactic(auto)]
+
 use frames::{Header, Parameters, Refusal, Warmth};
 
 // An account's phase: before a header, after it, and after the right end frame.
-#[derive(Drop)]
+#[derive(Clone, Copy)]
 pub enum Phase {
     Fresh,
     Open,
@@ -10,7 +12,7 @@ pub enum Phase {
 }
 
 // The kind of a season's hours, by what they say of the air: that of its first hour, none before it.
-#[derive(Drop)]
+#[derive(Clone, Copy)]
 pub enum HourKind {
     None,
     Deficit,
@@ -20,7 +22,7 @@ pub enum HourKind {
 
 // What the frames before the first hour said: the header, the ozone ceiling in tenths of ppb (0: not fed), a measured tree's parameters and its leaf age by warmth
 // (all 0: not fed).
-#[derive(Drop)]
+#[derive(Clone, Copy)]
 pub struct Season {
     pub header: Header,
     pub ceiling: u16,
@@ -30,7 +32,7 @@ pub struct Season {
 
 // What hours add up to: POD1 at least lower and at most upper nmol m⁻², AOT40 at least `least` and at most `most` tenths of ppb h, their number, how many are
 // counted, how many of those are without ozone. The wide ones stand first, which spares an account eight bytes.
-#[derive(Drop)]
+#[derive(Clone, Copy)]
 pub struct Sums {
     pub lower: u64,
     pub upper: u64,
@@ -43,14 +45,14 @@ pub struct Sums {
 
 // What leaf age by warmth takes from the hours before (W-213), in tenths of a degree over hours: the temperature sum of the earlier days, a day's negative total taken
 // as 0, and the running day's total. Both 0 where no frame of warmth was fed.
-#[derive(Drop)]
+#[derive(Clone, Copy)]
 pub struct Carried {
     pub sum: u32,
     pub total: i16,
 }
 
 // The season so far.
-#[derive(Drop)]
+#[derive(Clone, Copy)]
 pub struct Account {
     pub phase: Phase,
     pub season: Season,
@@ -60,7 +62,7 @@ pub struct Account {
 }
 
 // What a line's answer depends on: an account's, or a book's, phase, season, kind and number of hours accepted.
-#[derive(Drop)]
+#[derive(Clone, Copy)]
 pub struct State {
     pub phase: Phase,
     pub season: Season,
@@ -69,7 +71,7 @@ pub struct State {
 }
 
 // Whether POD1 is above the critical level; `word_of` (specs/Reading.antt) gives each case's word.
-#[derive(Drop)]
+#[derive(Clone, Copy)]
 pub enum Verdict {
     None,
     Undecided,
@@ -78,21 +80,21 @@ pub enum Verdict {
 }
 
 // What reading an account gives.
-#[derive(Drop)]
+#[derive(Clone, Copy)]
 pub struct Totals {
     pub sums: Sums,
     pub verdict: Verdict,
 }
 
 // The answer to a line: the new account, or the row that refuses the line and the account as it was.
-#[derive(Drop)]
+#[derive(Clone, Copy)]
 pub enum Fed {
     Accepted(Account),
     Refused(Refusal, Account),
 }
 
 // The answer to a reading: the figures, or row 13.
-#[derive(Drop)]
+#[derive(Clone, Copy)]
 pub enum Reading {
     Given(Totals),
     Refused(Refusal),

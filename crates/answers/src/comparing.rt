@@ -7,7 +7,7 @@ use compare_spec::{Comparison, Differences, Place};
 
 // Code 0 and the figures, or the code of a refusal with the text and its line, and zeros.
 #[repr(C)]
-#[derive(Drop)]
+#[derive(Clone, Copy)]
 pub struct ComparisonNumbers {
     pub code: u32,
     pub text: u32,

@@ -1,5 +1,7 @@
 // Answers as numbers, for callers in C and Rust: a code and what it names, what reading, writing, trying, comparing and the worst stretch give.
 // A code is 0, or the row that refuses the call plus 256 times the field that rows 10 and 26 name.
+#![tactic(auto)]
+
 mod comparing;
 mod stretching;
 
@@ -21,7 +23,7 @@ pub use stretching::{StretchNumbers, stretch_of};
 
 // What reading gives: code 0, the sums and the verdict by its number, or the code of a refusal and zeros.
 #[repr(C)]
-#[derive(Drop)]
+#[derive(Clone, Copy)]
 pub struct Readout {
     pub code: u32,
     pub verdict: u32,
@@ -36,7 +38,7 @@ pub struct Readout {
 
 // What writing gives: code 0 and the bytes written, or the code of a refusal and 0.
 #[repr(C)]
-#[derive(Drop)]
+#[derive(Clone, Copy)]
 pub struct Printed {
     pub code: u32,
     pub length: u64,
@@ -44,7 +46,7 @@ pub struct Printed {
 
 // What trying a line gives: code 0, the code that the line would get and the reading that would follow, or the code of a refusal and zeros.
 #[repr(C)]
-#[derive(Drop)]
+#[derive(Clone, Copy)]
 pub struct Tried {
     pub code: u32,
     pub answer: u32,
@@ -52,7 +54,7 @@ pub struct Tried {
 }
 
 // What a number says as a code: acceptance, a refusal, or nothing.
-#[derive(Drop)]
+#[derive(Clone, Copy)]
 pub enum Coded {
     Accepted,
     Refused(Refusal),

@@ -7,7 +7,7 @@ use stretch_spec::Stretch;
 
 // Code 0, found 1, the sum and its first day, or zeros where there is none yet; or the code of a refusal with the text's line, and zeros.
 #[repr(C)]
-#[derive(Drop)]
+#[derive(Clone, Copy)]
 pub struct StretchNumbers {
     pub code: u32,
     pub found: u32,

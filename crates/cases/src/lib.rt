@@ -1,4 +1,6 @@
 // What the case programs share: the lines of their input, the numbers in a line, and printing.
+#![tactic(auto)]
+
 mod digits;
 mod lines;
 mod stdio;

@@ -1,4 +1,6 @@
 // What the case programs over accounts share: an account's fields by number, set and printed, and what feeding answers.
+#![tactic(auto)]
+
 mod answers;
 mod fields;
 mod parameters;

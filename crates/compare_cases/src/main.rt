@@ -1,4 +1,6 @@
 // Compares the two texts of each case on standard input, and prints the answer and the line handed back. What it must print is made by tests/compare_cases.py.
+#![tactic(auto)]
+
 mod pairs;
 
 fn main() {

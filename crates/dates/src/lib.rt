@@ -1,4 +1,6 @@
 // Dates from a place (W-202): a header record from tree, year, level, latitude and height, its first and last day by the manual's latitude model.
+#![tactic(auto)]
+
 mod days;
 
 ghost use Rattle.std.specs.Prelude.{◌≡◌};

@@ -1,4 +1,6 @@
 // Prints the header of each place on standard input, or why it is refused. What it must print is made by tests/dates_cases.py.
+#![tactic(auto)]
+
 mod answers;
 mod rows;
 

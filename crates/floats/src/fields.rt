@@ -9,14 +9,14 @@ use floats_spec::FloatReadings;
 use frames::{Air, RawHour};
 
 // The bytes are 0 where the float is no whole number.
-#[derive(Drop)]
+#[derive(Clone, Copy)]
 pub(crate) struct Field {
     whole: bool,
     bytes: u16,
 }
 
 // In kind 02's order.
-#[derive(Drop)]
+#[derive(Clone, Copy)]
 pub(crate) struct Fields {
     ozone: Field,
     ppfd: Field,

@@ -1,4 +1,6 @@
 // An hour of floats into an account (W-214): each is turned to the whole number that it is, where nothing is lost.
+#![tactic(auto)]
+
 mod fields;
 mod whole;
 

@@ -6,14 +6,14 @@ ghost use Rattle.floats_spec.specs.Whole.{whole_of};
 ghost use Rattle.floats.specs.Steps.{cut_size, cut};
 
 // The size of a whole number, 16777216 where it is larger.
-#[derive(Drop)]
+#[derive(Clone, Copy)]
 enum Size {
     Of(u32),
     Broken,
 }
 
 // The number n, or -(n + 1); a float that is not finite or not whole.
-#[derive(Drop)]
+#[derive(Clone, Copy)]
 pub(crate) enum Number {
     Plus(u32),
     Minus(u32),

@@ -5,7 +5,7 @@ use crate::bits::readings_at;
 use account::Account;
 use cases::{print, u8_at, u16_at};
 
-#[derive(Drop)]
+#[derive(Clone, Copy)]
 struct Held {
     lines: Account,
     floats: Account,

@@ -1,4 +1,6 @@
 // Feeds one account lines and another floats, as the commands on standard input say. What it must print is made by tests/floats_cases.py.
+#![tactic(auto)]
+
 mod answers;
 mod bits;
 mod commands;

@@ -1,4 +1,6 @@
 // The hour's stomatal ozone dose (document 01, "Factors" and "The exact dose").
+#![tactic(auto)]
+
 mod boundary;
 mod decay;
 mod dose;
@@ -30,7 +32,7 @@ use frames::{Checked, Hour, Parameters, Refusal};
 use trees::{Choice, Figures};
 
 // What follows in a text: the next hour, or anything else.
-#[derive(Drop)]
+#[derive(Clone, Copy)]
 pub(crate) enum Following {
     Hour(Hour),
     Other,

@@ -1,5 +1,7 @@
 // Prints what `flux::hour_dose` answers to each call on standard input: a pair, or the row that refuses it. What it must print is made by
 // tests/flux_cases.py.
+#![tactic(auto)]
+
 mod answers;
 mod rows;
 

@@ -21,7 +21,7 @@ fn value(c: u8) -> u8
 }
 
 // The values of a line's characters, and whether all are digits.
-#[derive(Drop)]
+#[derive(Clone, Copy)]
 pub(crate) struct Line {
     pub digits: bool,
     pub values: [u8; LONGEST],

@@ -1,5 +1,7 @@
 // Frames (document 01, "Frames"): a line of capital hexadecimal digits, and the record that it says.
 // A line goes to a frame (rows 1 to 3), a frame to a record (rows 5 to 8, 10, 17, 24 and 25). The crate `writer` has the way back.
+#![tactic(auto)]
+
 mod digits;
 mod kinds;
 mod layout;

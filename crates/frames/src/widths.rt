@@ -12,7 +12,7 @@ pub const KIND: usize = 0;
 pub const FIELDS: usize = KIND + BYTE;
 
 // 01 | tree 1 | days 2 | first 2 | last 2 | level 2
-#[derive(Drop)]
+#[derive(Clone, Copy)]
 pub struct HeaderLine;
 
 impl HeaderLine {
@@ -31,7 +31,7 @@ impl HeaderLine {
 
 // 02 | day 2 | hour 1 | ozone 2 | PPFD 2 | G 2 | T 2 | VPD 2 | wind 2 | soil 2
 // 05 | the same, humidity in VPD's place
-#[derive(Drop)]
+#[derive(Clone, Copy)]
 pub struct HourLine;
 
 impl HourLine {
@@ -57,7 +57,7 @@ impl HourLine {
 }
 
 // 03 | number of hour frames 2
-#[derive(Drop)]
+#[derive(Clone, Copy)]
 pub struct EndLine;
 
 impl EndLine {
@@ -67,7 +67,7 @@ impl EndLine {
 }
 
 // 04 | the fields of 02 | pressure 2
-#[derive(Drop)]
+#[derive(Clone, Copy)]
 pub struct PressureLine;
 
 impl PressureLine {
@@ -77,7 +77,7 @@ impl PressureLine {
 }
 
 // 06 | ozone ceiling 2
-#[derive(Drop)]
+#[derive(Clone, Copy)]
 pub struct CeilingLine;
 
 impl CeilingLine {
@@ -87,7 +87,7 @@ impl CeilingLine {
 }
 
 // 07 | gmax 2 | f_min 2 | light_a 2 | Tmin 2 | Topt 2 | Tmax 2 | VPD max 2 | VPD min 2 | suction max 2 | suction min 2 | leaf 2 | a 2 | e 2 | f1 2 | f4 2 | Y 2
-#[derive(Drop)]
+#[derive(Clone, Copy)]
 pub struct ParameterLine;
 
 impl ParameterLine {
@@ -127,7 +127,7 @@ impl ParameterLine {
 }
 
 // 08 | rise 2 | fall 2 | end 2
-#[derive(Drop)]
+#[derive(Clone, Copy)]
 pub struct WarmthLine;
 
 impl WarmthLine {

@@ -1,4 +1,6 @@
 // Reads, changes and writes frames as the commands on standard input say. What it must print is made by tests/frames_cases.py.
+#![tactic(auto)]
+
 mod answers;
 mod changes;
 mod commands;

@@ -1,5 +1,7 @@
 // The hour that a line of kind 02, 04 or 05 says, many characters at a time (document 01, "Frames").
 // The shape is for speed: a loop of 16 turns with no branch is compiled to vectors. A line that does not go this way goes through `frames::parse`.
+#![tactic(auto)]
+
 ghost use Rattle.std.specs.Prelude.{◌≡◌, List, ℕ, ◌+◌, ◌*◌, ◌≤◌, ◌<◌, length, get_or};
 ghost use Rattle.frames.specs.Frames.{parsed_of};
 ghost use Rattle.frames.specs.Steps.{bits_of};
@@ -10,7 +12,7 @@ use frames::widths::{HourLine, PressureLine};
 use frames::{Air, Parsed, Raw, RawHour};
 
 // What reading a line as an hour of a kind gives.
-#[derive(Drop)]
+#[derive(Clone, Copy)]
 pub enum HourRead {
     Hour(RawHour),
     Other,

@@ -1,4 +1,6 @@
 // The vapour pressure deficit out of humidity and temperature (W-205), by a table of saturation pressures.
+#![tactic(auto)]
+
 mod entries;
 mod lookups;
 mod values;

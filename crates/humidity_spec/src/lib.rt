@@ -1,9 +1,11 @@
 // The vapour pressure deficit out of humidity and temperature (W-205), and the pair that encloses it: definitions and laws only.
+#![tactic(auto)]
+
 use records::Refusal;
 use trees::Deficits;
 
 // The deficit between two numbers, or why a reading is refused.
-#[derive(Drop)]
+#[derive(Clone, Copy)]
 pub enum Derived {
     Between(Deficits),
     Refused(Refusal),

@@ -1,4 +1,6 @@
 // The lines of a report (document 01, "Report") and of the other calls' answers, into a lent buffer: row 12 where it is too short, and then nothing is written.
+#![tactic(auto)]
+
 mod calls;
 mod line;
 mod text;

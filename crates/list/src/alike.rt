@@ -10,7 +10,7 @@ use account::{Account, kind_number, phase_number};
 use trees::{Choice, Measure};
 
 // The eight numbers by which accounts are compared.
-#[derive(Drop)]
+#[derive(Clone, Copy)]
 pub(crate) struct Common {
     pub(crate) days: u16,
     pub(crate) first: u16,

@@ -10,7 +10,7 @@ use frames::{Decoded, Parsed, Refusal};
 use list_spec::FedAll;
 
 // Rows 22, 13 and 23, the first account's numbers where one was seen, and the record that all seen so far take, or the first refusal.
-#[derive(Drop)]
+#[derive(Clone, Copy)]
 pub(crate) struct Tally {
     outside: bool,
     impossible: bool,

@@ -5,7 +5,7 @@ use cases::{print, u8_at};
 use cases_account::{print_account, print_fed, print_refusal, with_field};
 use list::FedAll;
 
-#[derive(Drop)]
+#[derive(Clone, Copy)]
 struct Held {
     accounts: [Account; 6],
     count: usize,

@@ -1,4 +1,6 @@
 // A laboratory's own tree (document 02, W-212 and W-213): the parameters that its frame brings, the figures that they make, and leaf age by warmth.
+#![tactic(auto)]
+
 ghost use Rattle.std.specs.Prelude.{◌≡◌};
 ghost use Rattle.trees.specs.Figures.{choice_row};
 ghost use Rattle.measured.specs.Parameters.{no_parameters, is_fed, degrees_of};
@@ -10,7 +12,7 @@ use power::Reduced;
 use trees::{Choice, Figures, Measure, Phenology, Source, Warmth};
 
 // The sixteen numbers of a frame of kind 07, as they stand in its line; all 0 where none was fed. Units as in `Figures`, but for the temperatures: whole °C, two's complement.
-#[derive(Drop)]
+#[derive(Clone, Copy)]
 pub struct Parameters {
     pub gmax: u16,
     pub fmin: u16,

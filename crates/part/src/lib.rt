@@ -1,5 +1,7 @@
 // The part that makers link from C and Rust: the account as bytes in a lent buffer, and answers as numbers.
 // A code is 0, or the row that refuses the call plus 256 times the field that rows 10 and 26 name.
+#![tactic(auto)]
+
 mod given;
 mod leaving;
 mod lines;

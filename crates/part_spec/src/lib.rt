@@ -1,9 +1,10 @@
 // The part that makers link from C and Rust: what each call is given, answers and leaves, and demand 3 for every list of calls: types, definitions and laws only.
+#![tactic(auto)]
 
 // An hour in the units of its frames: ozone with 65535 for none; vapour, which is the deficit of kinds 02 and 04 or the humidity of kind 05; soil, which is suction
 // where `water` is 0, else available water.
 #[repr(C)]
-#[derive(Drop)]
+#[derive(Clone, Copy)]
 pub struct HourReadings {
     pub day: u16,
     pub hour: u8,
@@ -19,7 +20,7 @@ pub struct HourReadings {
 
 // The numbers of a frame of kind 07, temperatures with their sign.
 #[repr(C)]
-#[derive(Drop)]
+#[derive(Clone, Copy)]
 pub struct TreeParameters {
     pub gmax: u16,
     pub fmin: u16,

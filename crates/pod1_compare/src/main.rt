@@ -1,5 +1,7 @@
 // Two season texts compared (W-208): `pod1_compare FIRST SECOND TOLERANCE` prints the hours whose ozone differs by more than the tolerance and the sum of the
 // differences, then the first such hour's line in the second text; or the text, row and line of a refusal; or row 19.
+#![tactic(auto)]
+
 ghost use Rattle.records.specs.Answers.{accepted};
 ghost use Rattle.records.specs.Buffer.{Prints};
 ghost use Rattle.compare_spec.specs.Comparison.{comparison_as};

@@ -1,4 +1,6 @@
 // The header of a place (W-202): `pod1_place TREE YEAR LEVEL LATITUDE HEIGHT` prints its line, or the row that refuses it.
+#![tactic(auto)]
+
 use dates::Placed;
 use frames::{Header, Record, Refusal};
 use words::Said;

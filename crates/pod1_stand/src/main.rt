@@ -1,5 +1,7 @@
 // One text's lines for one to six accounts (W-210): `pod1_stand FILE HEADER..` prints a line for each account, in the order of the headers; or the row, with
 // the line or the header, of a refusal; or row 22 where there is no header or more than six.
+#![tactic(auto)]
+
 mod headers;
 mod season;
 mod stand;

@@ -2,7 +2,7 @@
 use account::Account;
 
 // No refusal; the call refused by a row; a header, from 1; a line of the text, from 1.
-#[derive(Drop)]
+#[derive(Clone, Copy)]
 pub(crate) enum Stopped {
     Not,
     Call(u8),
@@ -10,7 +10,7 @@ pub(crate) enum Stopped {
     Line { row: u8, line: u64 },
 }
 
-#[derive(Drop)]
+#[derive(Clone, Copy)]
 pub(crate) struct Stand {
     pub(crate) accounts: [Account; 6],
     pub(crate) stopped: Stopped,

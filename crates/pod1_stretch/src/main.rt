@@ -1,4 +1,6 @@
 // The worst stretch of a season text (W-209): `pod1_stretch DAYS FILE` prints its AOT40 and its first day; `none yet`; or the row, and the line, of a refusal.
+#![tactic(auto)]
+
 ghost use Rattle.records.specs.Answers.{accepted};
 ghost use Rattle.records.specs.Buffer.{Prints};
 ghost use Rattle.stretch_spec.specs.Worst.{stretch_as};

@@ -1,5 +1,7 @@
 // f_temp of a measured tree (document 02, W-212): worked out at nine decimals for any reading, nothing tabled; and p and q out of the temperatures.
 // Temperatures are whole degrees above -50 °C, a reading is tenths of a degree above -50.0 °C.
+#![tactic(auto)]
+
 mod guess;
 mod root;
 mod rounded;
@@ -27,21 +29,21 @@ const LOWEST: u16 = 30;
 const HIGHEST: u16 = 250;
 
 // f_temp between two numbers, in units of 10⁻⁹; or the figures' temperatures and powers do not fit together.
-#[derive(Drop)]
+#[derive(Clone, Copy)]
 pub enum Factor {
     Pair(Bounds),
     Unfit,
 }
 
 // p/q in lowest terms; or p or q is above 22, or the temperatures do not rise.
-#[derive(Drop)]
+#[derive(Clone, Copy)]
 pub enum Reduced {
     Of { p: u16, q: u16 },
     None,
 }
 
 // a = above/rise and w = below/fall, in tenths of a degree, with their powers p/q.
-#[derive(Drop)]
+#[derive(Clone, Copy)]
 struct Terms {
     above: u32,
     rise: u32,

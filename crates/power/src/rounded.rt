@@ -10,7 +10,7 @@ const HALF: u64 = 9223372036854775808;
 const WORD: u64 = 4294967296;
 
 // From mantissa·2^exponent to (mantissa + short)·2^exponent, over 2⁶⁴.
-#[derive(Drop)]
+#[derive(Clone, Copy)]
 pub(crate) struct Rounded {
     mantissa: u64,
     short: u64,

@@ -1,4 +1,6 @@
 // Prints p and q and f_temp's pair of each row on standard input. What it must print is made by tests/power_cases.py.
+#![tactic(auto)]
+
 mod answers;
 mod rows;
 

@@ -1,6 +1,8 @@
 // Records (document 01, "Frames"): what a line says by its kind, why a call is refused, the rows that a record meets by itself, the hours
 // of a header's period, and what is written into a lent buffer.
 // The crate `frames` reads a line to a record, the crate `writer` has the way back.
+#![tactic(auto)]
+
 mod period;
 mod ranges;
 
@@ -18,7 +20,7 @@ pub use ranges::{
 pub use trees::Warmth;
 
 // The season's header: tree number, days in the year, first and last day of the accumulation period, critical level in hundredths of mmol m⁻².
-#[derive(Drop)]
+#[derive(Clone, Copy)]
 pub struct Header {
     pub tree: u8,
     pub days: u16,
@@ -28,14 +30,14 @@ pub struct Header {
 }
 
 // A soil reading: suction in kPa, or available water in tenths of a percent.
-#[derive(Drop)]
+#[derive(Clone, Copy)]
 pub enum Soil {
     Suction(u16),
     Water(u16),
 }
 
 // A reading of ozone in tenths of ppb, or none: FFFF in a line (W-207).
-#[derive(Drop)]
+#[derive(Clone, Copy)]
 pub enum Ozone {
     Tenths(u16),
     Missing,
@@ -43,7 +45,7 @@ pub enum Ozone {
 
 // What an hour says of the air besides its ozone and temperature, by the kind of its frame: vapour pressure deficit in Pa (02);
 // deficit, and pressure in tenths of hPa (04); relative humidity in tenths of a percent (05).
-#[derive(Drop)]
+#[derive(Clone, Copy)]
 pub enum Air {
     Deficit(u16),
     Pressure { deficit: u16, pressure: u16 },
@@ -52,7 +54,7 @@ pub enum Air {
 
 // An hour's readings: ozone, PPFD in µmol m⁻² s⁻¹, global radiation in W m⁻², temperature in tenths of °C,
 // the air's, wind in cm/s, soil in its measure's unit.
-#[derive(Drop)]
+#[derive(Clone, Copy)]
 pub struct Hour {
     pub day: u16,
     pub hour: u8,
@@ -66,19 +68,19 @@ pub struct Hour {
 }
 
 // The season's end: the number of hour frames.
-#[derive(Drop)]
+#[derive(Clone, Copy)]
 pub struct End {
     pub hours: u16,
 }
 
 // The most that a missing ozone can have been, in tenths of ppb (W-207).
-#[derive(Drop)]
+#[derive(Clone, Copy)]
 pub struct Ceiling {
     pub ozone: u16,
 }
 
 // What a line says, by its kind.
-#[derive(Drop)]
+#[derive(Clone, Copy)]
 pub enum Record {
     Header(Header),
     Hour(Hour),
@@ -89,7 +91,7 @@ pub enum Record {
 }
 
 // The numbers of an hour frame as they stand in its line: ozone with FFFF for none, temperature in two's complement, soil in the measure of a tree not yet named.
-#[derive(Drop)]
+#[derive(Clone, Copy)]
 pub struct RawHour {
     pub day: u16,
     pub hour: u8,
@@ -103,7 +105,7 @@ pub struct RawHour {
 }
 
 // A frame that rows 1 to 3 let pass.
-#[derive(Drop)]
+#[derive(Clone, Copy)]
 pub enum Raw {
     Header(Header),
     Hour(RawHour),
@@ -115,7 +117,7 @@ pub enum Raw {
 
 // Why a call is refused: a case for each row, document 01's 1 to 13 and the requests' from 14 on, in that order. Range and Float name the field, 1 to 8.
 // `row_of` (specs/Answers.antt) gives each case's number.
-#[derive(Drop)]
+#[derive(Clone, Copy)]
 pub enum Refusal {
     Length,
     Digit,
@@ -146,28 +148,28 @@ pub enum Refusal {
 }
 
 // The answer to a line by rows 1 to 3: its frame, or the row that refuses it.
-#[derive(Drop)]
+#[derive(Clone, Copy)]
 pub enum Parsed {
     Frame(Raw),
     Refused(Refusal),
 }
 
 // The answer to a record by its own rows: none refuses it, or the first that does.
-#[derive(Drop)]
+#[derive(Clone, Copy)]
 pub enum Checked {
     Sound,
     Refused(Refusal),
 }
 
 // The answer to a line or a frame that is read: its record, or the row that refuses it.
-#[derive(Drop)]
+#[derive(Clone, Copy)]
 pub enum Decoded {
     Read(Record),
     Refused(Refusal),
 }
 
 // The answer to a writing: the bytes written from the buffer's front, or the row that refuses it, nothing written.
-#[derive(Drop)]
+#[derive(Clone, Copy)]
 pub enum Written {
     Bytes(usize),
     Refused(Refusal),

@@ -1,6 +1,8 @@
 // An account in a lent buffer of bytes, so that it can be stored and taken up again. The bytes are the same on every machine.
 // version 1 | phase 1 | kind 1 | hours 2 | counted 2 | missing 2 | lower 8 | upper 8 | least 4 | most 4 | sum 4 | total 2 |
 // tree 1 | days 2 | first 2 | last 2 | level 2 | ceiling 2 | rise 2 | fall 2 | end 2 | sixteen parameters, 2 each      88 bytes
+#![tactic(auto)]
+
 mod big_endian;
 mod storing;
 mod taking;
@@ -15,7 +17,7 @@ use account_spec::Account;
 use frames::{Refusal, Written};
 
 // What bytes hold at their front: an account, or none (row 13).
-#[derive(Drop)]
+#[derive(Clone, Copy)]
 pub enum Held {
     Account(Account),
     Refused(Refusal),

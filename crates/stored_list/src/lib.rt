@@ -1,4 +1,6 @@
 // A list of accounts in a lent buffer of bytes, one after the other, that takes each line together, or not at all.
+#![tactic(auto)]
+
 ghost use Rattle.std.specs.Prelude.{◌≡◌, take};
 ghost use Rattle.stored_list.specs.InBytes.{accounts_in};
 ghost use Rattle.stored_list.specs.Feeding.{FeedsListed};
@@ -14,7 +16,7 @@ use stored::{Held, SIZE};
 const MOST: usize = 6;
 
 // Whether bytes hold as many accounts as were asked for; those are the first of six.
-#[derive(Drop)]
+#[derive(Clone, Copy)]
 struct HeldAll {
     all: bool,
     accounts: [Account; MOST],

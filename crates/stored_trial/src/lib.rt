@@ -1,5 +1,7 @@
 // A trial in a lent buffer of bytes (W-206), so that it can be stored and taken up again. The bytes are the same on every machine.
 // code 2 (field, row) | tried account 88 | account that would follow 88      178 bytes
+#![tactic(auto)]
+
 ghost use Rattle.std.specs.Prelude.{◌≡◌, not, [], ◌+◌, ◌≤◌, ◌<◌, length};
 ghost use Rattle.std.proofs.lemmas.List.Edits.{sets};
 ghost use Rattle.records.specs.Answers.{accepted, row, written_as};
@@ -20,7 +22,7 @@ use stored::Held;
 use trial_spec::Trial;
 
 // What bytes hold at their front: a trial, or none (row 13).
-#[derive(Drop)]
+#[derive(Clone, Copy)]
 pub enum HeldTrial {
     Trial(Trial),
     Refused(Refusal),

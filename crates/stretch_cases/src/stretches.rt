@@ -77,7 +77,7 @@ fn text_in(buf: &mut [u8], said: u32, held: usize) -> usize {
     n
 }
 
-#[derive(Drop)]
+#[derive(Clone, Copy)]
 enum Next {
     Text(usize),
     End,

@@ -1,4 +1,6 @@
 // What a counted hour's ozone adds to the sums (document 01, "Account").
+#![tactic(auto)]
+
 ghost use Rattle.std.specs.Prelude.{◌-◌, ◌<◌, ◌≡◌, cond};
 ghost use Rattle.records.specs.Ozone.{is_missing, read_as};
 ghost use Rattle.flux_spec.specs.Dose.{excess};
@@ -14,7 +16,7 @@ fn excess(ozone: u16) -> u32
 }
 
 // What a counted hour's ozone adds: to AOT40's two numbers, and to the hours without.
-#[derive(Drop)]
+#[derive(Clone, Copy)]
 pub struct OzoneSums {
     pub least: u32,
     pub most: u32,

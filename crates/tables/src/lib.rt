@@ -1,4 +1,6 @@
 // f_temp (document 01, "Factors"), out of each curve's table. A reading is tenths of a degree above -50.0 °C.
+#![tactic(auto)]
+
 mod entries;
 mod lookups;
 mod values;
@@ -18,7 +20,7 @@ use trees::Curve;
 const HIGHEST: u16 = 1100;
 
 // f_temp between two numbers, in units of 10⁻⁹, or why a reading is refused.
-#[derive(Drop)]
+#[derive(Clone, Copy)]
 pub enum Factored {
     Pair(Bounds),
     Refused(Refusal),

@@ -2,7 +2,7 @@
 // Tmax and up to 60.0 °C, from the first to the last that is not under f_min. TEMPERATURE_609 has the entries of the reading 609 and the 99
 // after it: a table is copied where it is read, so each is short.
 
-#[derive(Drop)]
+#[derive(Clone, Copy)]
 pub(crate) struct BorealSpruce;
 
 impl BorealSpruce {
@@ -102,7 +102,7 @@ impl BorealSpruce {
     ];
 }
 
-#[derive(Drop)]
+#[derive(Clone, Copy)]
 pub(crate) struct Birch;
 
 impl Birch {
@@ -196,7 +196,7 @@ impl Birch {
     ];
 }
 
-#[derive(Drop)]
+#[derive(Clone, Copy)]
 pub(crate) struct ContinentalSpruce;
 
 impl ContinentalSpruce {
@@ -251,7 +251,7 @@ impl ContinentalSpruce {
     pub const TEMPERATURE_811: [u32; 3] = [177787131, 171543004, 165344573];
 }
 
-#[derive(Drop)]
+#[derive(Clone, Copy)]
 pub(crate) struct Beech;
 
 impl Beech {
@@ -297,7 +297,7 @@ impl Beech {
     ];
 }
 
-#[derive(Drop)]
+#[derive(Clone, Copy)]
 pub(crate) struct Oak;
 
 impl Oak {
@@ -357,7 +357,7 @@ impl Oak {
     ];
 }
 
-#[derive(Drop)]
+#[derive(Clone, Copy)]
 pub(crate) struct Evergreen;
 
 impl Evergreen {

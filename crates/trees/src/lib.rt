@@ -1,4 +1,6 @@
 // The tree table of document 01: each tree's figures, as constants that belong to that tree's type.
+#![tactic(auto)]
+
 pub mod factors;
 pub mod phen;
 
@@ -8,14 +10,14 @@ ghost use Rattle.trees.specs.Figures.{boreal_spruce, birch, continental_spruce, 
 use exact::Fraction;
 
 // What a soil reading measures: suction in kPa, or available water in tenths of a percent.
-#[derive(Drop)]
+#[derive(Clone, Copy)]
 pub enum Measure {
     Suction,
     Water,
 }
 
 // What f_phen goes by: ramps from the first and to the last day, the evergreen dip, or temperature.
-#[derive(Drop)]
+#[derive(Clone, Copy)]
 pub enum Phenology {
     Ramps,
     Dip,
@@ -23,7 +25,7 @@ pub enum Phenology {
 }
 
 // Whose table of f_temp.
-#[derive(Drop)]
+#[derive(Clone, Copy)]
 pub enum Curve {
     BorealSpruce,
     Birch,
@@ -34,14 +36,14 @@ pub enum Curve {
 }
 
 // Where f_temp is found: in a tree's table, or worked out from the figures (W-212).
-#[derive(Drop)]
+#[derive(Clone, Copy)]
 pub enum Source {
     Tabled(Curve),
     Worked,
 }
 
 // A tree's figures. Percent: fmin, a, e. Whole degrees above -50 °C: tmin, topt, tmax.
-#[derive(Drop)]
+#[derive(Clone, Copy)]
 pub struct Figures {
     // mmol m⁻² s⁻¹
     pub gmax: u16,
@@ -75,7 +77,7 @@ pub struct Figures {
 }
 
 // Leaf age by warmth (W-213): the temperature sums, in °C days, within which f_phen rises, within which it falls, and at which it ends; all 0 where none was fed.
-#[derive(Drop)]
+#[derive(Clone, Copy)]
 pub struct Warmth {
     pub rise: u16,
     pub fall: u16,
@@ -83,7 +85,7 @@ pub struct Warmth {
 }
 
 // A vapour pressure deficit lies from lower/den to upper/den, in Pa; a den of 0 is read as 1.
-#[derive(Drop)]
+#[derive(Clone, Copy)]
 pub struct Deficits {
     pub lower: u64,
     pub upper: u64,
@@ -91,14 +93,14 @@ pub struct Deficits {
 }
 
 // A factor lies from lower to upper.
-#[derive(Drop)]
+#[derive(Clone, Copy)]
 pub struct FactorPair {
     pub lower: Fraction,
     pub upper: Fraction,
 }
 
 // What a tree's number names: the tree's figures, or nothing (row 5).
-#[derive(Drop)]
+#[derive(Clone, Copy)]
 pub enum Choice {
     Tree(Figures),
     Unknown,
@@ -107,7 +109,7 @@ pub enum Choice {
 // 0 °C in whole degrees above -50 °C.
 const ZERO: u16 = 50;
 
-#[derive(Drop)]
+#[derive(Clone, Copy)]
 pub struct BorealSpruce;
 
 impl BorealSpruce {
@@ -176,7 +178,7 @@ impl BorealSpruce {
     }
 }
 
-#[derive(Drop)]
+#[derive(Clone, Copy)]
 pub struct Birch;
 
 impl Birch {
@@ -245,7 +247,7 @@ impl Birch {
     }
 }
 
-#[derive(Drop)]
+#[derive(Clone, Copy)]
 pub struct ContinentalSpruce;
 
 impl ContinentalSpruce {
@@ -314,7 +316,7 @@ impl ContinentalSpruce {
     }
 }
 
-#[derive(Drop)]
+#[derive(Clone, Copy)]
 pub struct Beech;
 
 impl Beech {
@@ -383,7 +385,7 @@ impl Beech {
     }
 }
 
-#[derive(Drop)]
+#[derive(Clone, Copy)]
 pub struct Oak;
 
 impl Oak {
@@ -452,7 +454,7 @@ impl Oak {
     }
 }
 
-#[derive(Drop)]
+#[derive(Clone, Copy)]
 pub struct Evergreen;
 
 impl Evergreen {

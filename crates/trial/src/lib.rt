@@ -1,4 +1,6 @@
 // Try a line, then take it (W-206).
+#![tactic(auto)]
+
 mod same;
 
 ghost use Rattle.std.specs.Prelude.{◌≡◌};

@@ -8,7 +8,7 @@ use cases::print;
 use cases_account::{print_fed, with_field};
 use trial::Trial;
 
-#[derive(Drop)]
+#[derive(Clone, Copy)]
 struct Held {
     account: Account,
     made: Trial,

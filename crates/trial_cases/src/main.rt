@@ -1,4 +1,6 @@
 // Tries lines and takes trials, made and forged, as the commands on standard input say. What it must print is made by tests/trial_cases.py.
+#![tactic(auto)]
+
 mod commands;
 mod forged;
 mod printing;

@@ -1,4 +1,6 @@
 // Rows 4 to 11, 15, 17, 18, 24 and 25 for a state: phase, season, kind and number of hours accepted so far (document 01, "Turned-back lines").
+#![tactic(auto)]
+
 ghost use Rattle.std.specs.Prelude.{◌≡◌};
 ghost use Rattle.records.specs.Answers.{checked_as, decoded_as};
 ghost use Rattle.account_spec.specs.declared.Phase.TheVariants.{Open};

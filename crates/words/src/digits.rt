@@ -5,7 +5,7 @@ ghost use Rattle.words.specs.Number.{greatest, number_of, said_as};
 use crate::input::word_buffer;
 
 // A number, the greatest of its type for any that is greater; or the word is no number.
-#[derive(Drop)]
+#[derive(Clone, Copy)]
 pub enum Said {
     Number(u16),
     None,

@@ -1,4 +1,6 @@
 // What the programs share: their words, the texts that these name, and printing what was written.
+#![tactic(auto)]
+
 mod digits;
 mod input;
 mod output;

@@ -1,4 +1,6 @@
 // The writer of frames (document 01, "Frames"): a record to its line in a lent buffer (rows 5 to 8, 10, 17, 24, 25 and 12).
+#![tactic(auto)]
+
 mod digits;
 mod writing;
 
