@@ -1,0 +1,17 @@
+-- `measured::figures_in` meets its contract: 7 is the measured tree, every other number is left to the six.
+use mathlib.Core.Path.{ap, ◌∙◌}
+use borrow.Author.Rules.{rules}
+use borrow.Author.Tests.{ne_eqb}
+use Rattle.trees.specs.declared.Choice.TheVariants.{Tree}
+use Rattle.measured.specs.Figures.{figures_in}
+use Rattle.measured.proofs.MeasuredLaws.{number-row-is}
+use Rattle.measured.proofs.figures_in.Goals as goal
+
+pub returns-then-tree-eq-MEASURED : goal.returns-then-tree-eq-MEASURED
+unfolding figures_in
+returns-then-tree-eq-MEASURED c = record { value = rw c.if-tree-eq-MEASURED.true (ap Tree c.figures.ensures.value); row = rw c.if-tree-eq-MEASURED.true }
+
+pub returns : goal.returns
+unfolding figures_in
+returns c = let other = c.if-tree-eq-MEASURED.false in
+    record { value = rw (ne_eqb _ 7 other) c.figures_of.ensures.value; row = c.figures_of.ensures.row ∙ number-row-is _ other }

@@ -1,0 +1,6 @@
+-- `measured::powers` meets its contract.
+use borrow.Author.Rules.{rules}
+use Rattle.measured.proofs.powers.Goals as goal
+
+pub returns : goal.returns
+returns c = simp (c.powers.ensures.value, c.degrees-3.ensures, c.degrees-2.ensures, c.degrees.ensures)

@@ -1,0 +1,14 @@
+-- `power::f_temp` meets its contract.
+use Rattle.std.proofs.Common.{rules}
+use Rattle.power.proofs.FitLaws.{fit-fits}
+use Rattle.power.proofs.AnswerLaws.{holds, factor-pair, factor-unfit}
+use Rattle.power.proofs.f_temp.Goals as goal
+
+pub pair_at-requires : goal.pair_at-requires
+pair_at-requires c = fit-fits _ (holds c.is_fit.ensures c.if-is_fit.true)
+
+pub returns-then-is_fit : goal.returns-then-is_fit
+returns-then-is_fit c = record { value = (factor-pair _ _ c.is_fit.ensures c.if-is_fit.true c.pair_at.ensures).0; sound = (factor-pair _ _ c.is_fit.ensures c.if-is_fit.true c.pair_at.ensures).1 }
+
+pub returns : goal.returns
+returns c = record { value = (factor-unfit _ _ c.is_fit.ensures c.if-is_fit.false).0; sound = (factor-unfit _ _ c.is_fit.ensures c.if-is_fit.false).1 }

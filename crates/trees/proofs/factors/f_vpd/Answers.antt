@@ -1,0 +1,11 @@
+-- `trees::factors::f_vpd` meets its contract.
+use borrow.Author.Rules.{rules}
+use Rattle.trees.specs.Deficit.{deficit_of}
+use Rattle.trees.proofs.DeficitLaws.{deficit-pair}
+use Rattle.trees.proofs.FactsLaws.{factor-facts}
+use Rattle.trees.proofs.factors.f_vpd.Goals as goal
+
+pub returns : goal.returns
+unfolding deficit_of
+returns c = let is = c.divisor-den.ensures in
+    record { deficit_pair = deficit-pair _ _ _ (rw is at c.deficit_factor-lower.ensures) (rw is at c.deficit_factor-upper.ensures); facts = factor-facts }
