@@ -1,0 +1,6 @@
+-- `records::period::all_given` meets its contract.
+use borrow.Author.Rules.{rules}
+use Rattle.records.proofs.period.all_given.Goals as goal
+
+pub returns : goal.returns
+returns c = rw c.period_hours.ensures
