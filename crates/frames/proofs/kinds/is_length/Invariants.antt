@@ -1,0 +1,16 @@
+-- `frames::kinds::is_length` meets its contract: the kinds that are left have the answer of all.
+use Prim.Native.Nat.{◌≤◌, ◌-◌}
+use mathlib.Core.Path.{◌≡◌, sym, ◌∙◌}
+use mathlib.Core.List.{◌∷◌}
+use native.Mathlib.Omega.{arith}
+use borrow.Author.Rules.{rules}
+use lib.ListN.{length, drop, drop_of_length-le}
+use Rattle.frames.specs.Kinds.{lengths, among, is_length, length_of}
+use Rattle.frames.proofs.KindLaws.{among-found, among-passed, among_none}
+use Rattle.frames.proofs.kinds.is_length.Given as goal
+
+abbrev pub invariant-loop-kind : goal.invariant-loop-kind
+invariant-loop-kind l = (1 ≤ l.kind) × (l.kind ≤ length (0 ∷ lengths)) × (among (drop l.kind (0 ∷ lengths)) l.digits ≡ is_length l.digits)
+
+abbrev pub decreases-loop-kind : goal.decreases-loop-kind
+decreases-loop-kind l = length (0 ∷ lengths) - l.kind

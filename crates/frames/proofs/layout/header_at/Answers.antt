@@ -1,0 +1,16 @@
+-- `frames::layout::header_at` meets its contract.
+use native.Mathlib.Omega.{arith}
+use borrow.Author.Rules.{rules}
+use Rattle.frames.specs.Kinds.{length_of}
+use Rattle.frames.proofs.layout.header_at.Goals as goal
+
+pub returns : goal.returns
+unfolding length_of
+returns c = λ l says h.
+    rw (
+      c.byte_at.ensures l says (omega arith),
+      c.number_at.ensures l says (omega arith),
+      c.number_at-2.ensures l says (omega arith),
+      c.number_at-3.ensures l says (omega arith),
+      c.number_at-4.ensures l says (omega arith),
+    )

@@ -1,0 +1,9 @@
+-- `frames::layout::soil_of` meets its contract.
+use borrow.Author.Rules.{rules}
+use Rattle.frames.proofs.layout.soil_of.Goals as goal
+
+pub returns-in-Suction : goal.returns-in-Suction
+returns-in-Suction c = rw c.in-Suction.is
+
+pub returns-in-Water : goal.returns-in-Water
+returns-in-Water c = rw c.in-Water.is
