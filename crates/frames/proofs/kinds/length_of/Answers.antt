@@ -1,5 +1,5 @@
 -- `frames::kinds::length_of` meets its contract.
-use Rattle.std.proofs.Common.{ℕ, ◌≤◌, ◌<◌, ⊥, refl, arith}
+use Rattle.std.proofs.Common.{ℕ, ◌≤◌, ◌<◌, refl, arith}
 use Rattle.frames.specs.Kinds.{length_of}
 use Rattle.frames.specs.Steps.{with_deficit, with_pressure, with_humidity}
 use Rattle.frames.proofs.KindLaws.{KindCase, header, hour, end, ceiling, parameters, warmth, kind-other}
