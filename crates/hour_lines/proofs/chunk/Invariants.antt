@@ -1,0 +1,14 @@
+-- `hour_lines::chunk` meets its contract: so many of its characters are read.
+use Prim.Native.Nat.{ℕ, ◌+◌, ◌-◌, ◌*◌, ◌≤◌}
+use mathlib.Core.Path.{◌≡◌, ap₂}
+use borrow.Author.Rules.{rules}
+use native.Mathlib.Omega.{arith}
+use Rattle.hour_lines.specs.Steps.{ReadTo}
+use Rattle.hour_lines.proofs.ChunkLaws.{read_none, read_more}
+use Rattle.hour_lines.proofs.chunk.Given as goal
+
+abbrev pub invariant-loop-i : goal.invariant-loop-i
+invariant-loop-i l = (l.i ≤ 16) × ReadTo l.line l.from l.i l.digits l.bytes
+
+abbrev pub decreases-loop-i : goal.decreases-loop-i
+decreases-loop-i l = 16 - l.i

@@ -1,0 +1,61 @@
+-- `hour_lines::hour_at` meets its contract: each number of a chunk stands in the line where the chunk begins and so much further.
+use Prim.Native.Nat.{ℕ}
+use mathlib.Core.Path.{◌≡◌, ap, ap₂, ◌∙◌}
+use mathlib.Core.List.{List}
+use mathlib.Core.Logic.{⊎_elim}
+use native.Mathlib.Omega.{arith}
+use borrow.Author.Rules.{rules}
+use lib.ListN.{get_or}
+use Rattle.records.specs.declared.Air.TheVariants.{Deficit, Pressure, Humidity}
+use Rattle.frames.specs.Digits.{number_at}
+use Rattle.frames.specs.Fields.{fields_at}
+use Rattle.frames.specs.Layout.{air_of}
+use Rattle.frames.proofs.KindLaws.{deficit-left}
+use Rattle.hour_lines.specs.Steps.{HourIn, hour_in}
+use Rattle.hour_lines.proofs.ChunkLaws.{number-says}
+use Rattle.hour_lines.proofs.HourLaws.{hour-is, pressure-says, soil-before, soil-last, air-pressure, air-humidity, air-deficit}
+use Rattle.hour_lines.proofs.hour_at.Goals as goal
+
+pub returns-then-kind-eq4 : goal.returns-then-kind-eq4
+returns-then-kind-eq4 c = let air-is : (l : List ℕ) → (HourIn c.args.kind l c.args.a.now c.args.b.now c.args.c.now) l → c.match-kind.air ≡ air_of c.args.kind (fields_at c.args.kind l) = λ l h. let vapour = c.number-vapour.ensures ∙ number-says l 16 _ h.second 8 24 (omega arith) (omega arith) in
+    ⊎_elim
+    (λ p. p.1 ∙ ap₂ Pressure vapour (c.number-last.ensures ∙ pressure-says _ l _ _ _ h p.0.keys1) ∙ air-pressure _ l p.0.keys1)
+    (λ q.
+    ⊎_elim
+    (λ p. p.1 ∙ ap Humidity vapour ∙ air-humidity _ l p.0.keys2)
+    (λ p. p.1 ∙ ap Deficit vapour ∙ air-deficit _ l (deficit-left _ h.sized.hour p.0.rest.0.1 p.0.rest.1))
+    q)
+    c.match-kind.branch in
+    let but-soil : (l : List ℕ) → (HourIn c.args.kind l c.args.a.now c.args.b.now c.args.c.now) l → {soil : ℕ} → soil ≡ number_at 32 l → record { day = c.number.result; hour = get_or c.args.a.now 6 0; ozone = c.number-2.result; ppfd = c.number-3.result; radiation = c.number-4.result; temperature = c.number-5.result; air = c.match-kind.air; wind = c.number-6.result; soil = soil; } ≡ hour_in (c.args.kind) l = λ l h soil. hour-is l h.sized.hour
+    (c.number.ensures ∙ number-says l 0 _ h.first 2 2 (omega arith) (omega arith))
+    (h.first.byte 6 (omega arith))
+    (c.number-2.ensures ∙ number-says l 0 _ h.first 8 8 (omega arith) (omega arith))
+    (c.number-3.ensures ∙ number-says l 0 _ h.first 12 12 (omega arith) (omega arith))
+    (c.number-4.ensures ∙ number-says l 16 _ h.second 0 16 (omega arith) (omega arith))
+    (c.number-5.ensures ∙ number-says l 16 _ h.second 4 20 (omega arith) (omega arith))
+    (air-is l h)
+    (c.number-6.ensures ∙ number-says l 16 _ h.second 12 28 (omega arith) (omega arith))
+    soil in
+    λ l h. but-soil l h (c.number-then-kind-eq4.ensures ∙ soil-before _ l _ _ _ h c.if-kind-eq4.true)
+
+pub returns-else-kind-eq4 : goal.returns-else-kind-eq4
+returns-else-kind-eq4 c = let air-is : (l : List ℕ) → (HourIn c.args.kind l c.args.a.now c.args.b.now c.args.c.now) l → c.match-kind.air ≡ air_of c.args.kind (fields_at c.args.kind l) = λ l h. let vapour = c.number-vapour.ensures ∙ number-says l 16 _ h.second 8 24 (omega arith) (omega arith) in
+    ⊎_elim
+    (λ p. p.1 ∙ ap₂ Pressure vapour (c.number-last.ensures ∙ pressure-says _ l _ _ _ h p.0.keys1) ∙ air-pressure _ l p.0.keys1)
+    (λ q.
+    ⊎_elim
+    (λ p. p.1 ∙ ap Humidity vapour ∙ air-humidity _ l p.0.keys2)
+    (λ p. p.1 ∙ ap Deficit vapour ∙ air-deficit _ l (deficit-left _ h.sized.hour p.0.rest.0.1 p.0.rest.1))
+    q)
+    c.match-kind.branch in
+    let but-soil : (l : List ℕ) → (HourIn c.args.kind l c.args.a.now c.args.b.now c.args.c.now) l → {soil : ℕ} → soil ≡ number_at 32 l → record { day = c.number.result; hour = get_or c.args.a.now 6 0; ozone = c.number-2.result; ppfd = c.number-3.result; radiation = c.number-4.result; temperature = c.number-5.result; air = c.match-kind.air; wind = c.number-6.result; soil = soil; } ≡ hour_in (c.args.kind) l = λ l h soil. hour-is l h.sized.hour
+    (c.number.ensures ∙ number-says l 0 _ h.first 2 2 (omega arith) (omega arith))
+    (h.first.byte 6 (omega arith))
+    (c.number-2.ensures ∙ number-says l 0 _ h.first 8 8 (omega arith) (omega arith))
+    (c.number-3.ensures ∙ number-says l 0 _ h.first 12 12 (omega arith) (omega arith))
+    (c.number-4.ensures ∙ number-says l 16 _ h.second 0 16 (omega arith) (omega arith))
+    (c.number-5.ensures ∙ number-says l 16 _ h.second 4 20 (omega arith) (omega arith))
+    (air-is l h)
+    (c.number-6.ensures ∙ number-says l 16 _ h.second 12 28 (omega arith) (omega arith))
+    soil in
+    λ l h. but-soil l h (c.number-last.ensures ∙ soil-last _ l _ _ _ h c.if-kind-eq4.false)

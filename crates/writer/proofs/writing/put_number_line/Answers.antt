@@ -1,0 +1,13 @@
+-- `writer::writing::put_number_line` meets its contract.
+use mathlib.Core.Path.{refl}
+use native.Mathlib.Omega.{arith}
+use borrow.Author.Rules.{rules}
+use Rattle.records.proofs.BufferLaws.{prints-short}
+use Rattle.writer.proofs.WriterLaws.{prints-set}
+use Rattle.writer.proofs.writing.put_number_line.Goals as goal
+
+pub returns-then-buf-lt-ONE_NUMBER : goal.returns-then-buf-lt-ONE_NUMBER
+returns-then-buf-lt-ONE_NUMBER c = prints-short _ _ (omega arith)
+
+pub returns : goal.returns
+returns c = prints-set _ _ _ _ refl (omega arith) (rw (c.put_number.ensures, c.put_byte.ensures))
