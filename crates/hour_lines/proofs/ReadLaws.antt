@@ -5,7 +5,6 @@ use mathlib.Core.Bool.{Bool, true, false, cond}
 use mathlib.Core.List.{List, [], ◌∷◌}
 use mathlib.Core.Logic.{⊎_elim}
 use native.Mathlib.Omega.{arith}
-use types.Run.{OneOf}
 use denote.Enum.Declared.{tag_of}
 use borrow.Author.Tests.{eq-eqb, ne_eqb, eqb-true}
 use lib.Dec.{eqb}
@@ -34,18 +33,16 @@ module _ (kind : ℕ) {o : Outcome Raw} where
     unfolding read_of
     read-other k = rw (e, ne_eqb (air_kind raw.air) kind k)
 
-no-hour : (kind : ℕ) (frame : Raw) → OneOf (0 ∷ 2 ∷ 3 ∷ 4 ∷ 5 ∷ []) (tag_of raw-type.the_type frame) → HourRead.Other ≡ read_of kind (accepted frame)
+no-hour : (kind : ℕ) (frame : Raw) → ((h : RawHour) → frame ≡ Raw.Hour h → ⊥) → HourRead.Other ≡ read_of kind (accepted frame)
 unfolding read_of
 no-hour kind (Raw.Header h) k = refl
-no-hour kind (Raw.Hour h) k =
-    ⊎_elim (λ z. absurd (omega arith))
-    (λ y. ⊎_elim (λ z. absurd (omega arith)) (λ x. ⊎_elim (λ z. absurd (omega arith)) (λ w. ⊎_elim (λ z. absurd (omega arith)) (λ z. absurd (omega arith)) w) x) y) k
+no-hour kind (Raw.Hour h) k = absurd (k h refl)
 no-hour kind (Raw.End e) k = refl
 no-hour kind (Raw.Ceiling c) k = refl
 no-hour kind (Raw.Parameters p) k = refl
 no-hour kind (Raw.Warmth w) k = refl
 
-pub read-no-hour : (kind : ℕ) {o : Outcome Raw} {frame : Raw} → o ≡ accepted frame → OneOf (0 ∷ 2 ∷ 3 ∷ 4 ∷ 5 ∷ []) (tag_of raw-type.the_type frame) → HourRead.Other ≡ read_of kind o
+pub read-no-hour : (kind : ℕ) {o : Outcome Raw} {frame : Raw} → o ≡ accepted frame → ((h : RawHour) → frame ≡ Raw.Hour h → ⊥) → HourRead.Other ≡ read_of kind o
 read-no-hour kind {o} {frame} e k = rw e (no-hour kind frame k)
 
 -- ---- the hour of an answer

@@ -14,7 +14,7 @@ returns-else-air_kind-kind c = read-other _ (sym c.parse-parsed.ensures ∙ ap p
     (λ e. c.if-air_kind-kind.false (c.air_kind.ensures ∙ e))
 
 pub returns-in_default : goal.returns-in_default
-returns-in_default c = read-no-hour _ (sym c.parse-parsed.ensures ∙ ap parsed_as c.in-Frame.is) c.in_default.keys2
+returns-in_default c = read-no-hour _ (sym c.parse-parsed.ensures ∙ ap parsed_as c.in-Frame.is) c.in_default.not-Hour
 
 pub returns-in-Refused : goal.returns-in-Refused
 returns-in-Refused c = read-refused _ (sym c.parse-parsed.ensures ∙ ap parsed_as c.in-Refused.is)
