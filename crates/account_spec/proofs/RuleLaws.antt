@@ -6,8 +6,6 @@ use mathlib.Core.List.{List, [], ◌∷◌}
 use mathlib.Core.Logic.{⊎_elim}
 use native.Mathlib.Omega.{arith}
 use borrow.Author.Tests.{not-false}
-use types.Run.{OneOf}
-use denote.Enum.Declared.{tag_of}
 use Rattle.trees.specs.declared.Warmth.{Warmth}
 use Rattle.records.specs.declared.Header.{Header}
 use Rattle.records.specs.declared.Raw.{Raw}
@@ -37,11 +35,10 @@ use Rattle.account_spec.specs.Account.{is_fresh, impossible}
 use Rattle.account_spec.specs.Rules.{is_due, count_wrong, due_of, turn_of, answer_of, state_of, entered, feed_of, unread_row, feed_frame_of, Answers, Feeds}
 use Rattle.account_spec.specs.Reading.{totals_of, read_of, Reads}
 use Rattle.account_spec.specs.Steps.{refusal_in}
-use Rattle.account_spec.specs.contracts.Phase as phase
 
 -- the `else` of a `let` that asks for a fresh phase
-pub fresh-false : (p : Phase) → OneOf (1 ∷ 2 ∷ []) (tag_of phase.the_type p) → is_fresh p ≡ false
-fresh-false Fresh k = ⊎_elim (λ z. absurd (omega arith)) (λ z. absurd (omega arith)) k
+pub fresh-false : (p : Phase) → (p ≡ Fresh → ⊥) → is_fresh p ≡ false
+fresh-false Fresh k = absurd (k refl)
 fresh-false Open k = refl
 fresh-false Closed k = refl
 

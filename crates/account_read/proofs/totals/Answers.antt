@@ -1,0 +1,6 @@
+-- `account_read::totals` meets its contract.
+use borrow.Author.Rules.{rules}
+use Rattle.account_read.proofs.totals.Goals as goal
+
+pub returns : goal.returns
+returns c = rw c.verdict.ensures
