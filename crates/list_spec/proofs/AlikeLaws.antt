@@ -25,6 +25,7 @@ first-common a b xs e In.here = refl
 first-common a b xs e (In.later k) = any-common a b xs e k
 
 pub unlike-common : (xs : List Account) → unlike xs ≡ false → (a b : Account) → In a xs → In b xs → common_numbers a ≡ common_numbers b
+unlike-common [] e a b k l = elim k [ ]
 unlike-common (c ∷ xs) e a b k l = sym (first-common c a xs e k) ∙ first-common c b xs e l
 
 -- ---- the other way: row 23 comes up only where two differ
