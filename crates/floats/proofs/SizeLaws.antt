@@ -130,6 +130,7 @@ back-value n h = round_whole binary32 false n (omega (arith, h))
 
 sign_zero : (s : Bool) (m : ℕ) (e : ℤ) → T (le (fin false 0 (pos 0)) (fin s m e)) → T s → m * up e ≡ 0
 sign_zero true m e z t = minus-size-zero m e z
+sign_zero false m e z t = elim t [ ]
 
 cut_small : (n : ℕ) → n < 16777216 → min n 16777216 ≡ n
 cut_small n h = omega arith

@@ -45,6 +45,7 @@ wholes-broken r f (later z1 h1 (later z2 h2 (later z3 h3 (here b)))) = rw (whole
 wholes-broken r f (later z1 h1 (later z2 h2 (later z3 h3 (later z4 h4 (here b))))) = rw (whole-taken r.ozone z1 h1, whole-taken r.ppfd z2 h2, whole-taken r.radiation z3 h3, whole-taken r.temperature z4 h4, whole-broken r.vpd b) refl
 wholes-broken r f (later z1 h1 (later z2 h2 (later z3 h3 (later z4 h4 (later z5 h5 (here b)))))) = rw (whole-taken r.ozone z1 h1, whole-taken r.ppfd z2 h2, whole-taken r.radiation z3 h3, whole-taken r.temperature z4 h4, whole-taken r.vpd z5 h5, whole-broken r.wind b) refl
 wholes-broken r f (later z1 h1 (later z2 h2 (later z3 h3 (later z4 h4 (later z5 h5 (later z6 h6 (here b))))))) = rw (whole-taken r.ozone z1 h1, whole-taken r.ppfd z2 h2, whole-taken r.radiation z3 h3, whole-taken r.temperature z4 h4, whole-taken r.vpd z5 h5, whole-taken r.wind z6 h6, whole-broken r.soil b) refl
+wholes-broken r _ (later z1 h1 (later z2 h2 (later z3 h3 (later z4 h4 (later z5 h5 (later z6 h6 (later {f = f} z _ k))))))) = elim k [ ]
 
 pub feed-broken : (a : Account) (day hour : ℕ) (r : FloatReadings) (f : ℕ) → timely_of a (hour_at day hour) ≡ accepted tt → FirstBroken f (floats_in r)
     → feed_floats_of a day hour r ≡ refused (26, f)
