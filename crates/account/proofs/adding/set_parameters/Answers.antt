@@ -1,0 +1,6 @@
+-- `account::adding::set_parameters` meets its contract.
+use borrow.Author.Rules.{rules}
+use Rattle.account.proofs.adding.set_parameters.Goals as goal
+
+pub returns : goal.returns
+returns c = c.with_season.ensures

@@ -1,0 +1,6 @@
+-- `answers::no_trial` meets its contract.
+use borrow.Author.Rules.{rules}
+use Rattle.answers.proofs.no_trial.Goals as goal
+
+pub returns : goal.returns
+returns c = rw c.no_readout.ensures

@@ -1,0 +1,6 @@
+-- `answers::readout_of` meets its contract.
+use borrow.Author.Rules.{rules}
+use Rattle.answers.proofs.readout_of.Goals as goal
+
+pub returns : goal.returns
+returns c = rw c.verdict_number-number.ensures
