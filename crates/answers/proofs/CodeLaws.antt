@@ -33,19 +33,10 @@ module _ (row field : ℕ) (e : is_row row field ≡ true) where
       let none : field ≡ 0 = eqb-true field 0 (simp (ten, twenty-six, or-false) at bounds.1) in
       cc
 
--- not 1, .. , not k
-abbrev NoneUpTo : ℕ → ℕ → Type 0
-NoneUpTo zero n = Unit
-NoneUpTo (suc k) n = NoneUpTo k n × (n ≡ suc k → ⊥)
-
-none-up-to : (k n : ℕ) → NoneUpTo k n → 1 ≤ n → k < n
-none-up-to zero n h pos = pos
-none-up-to (suc k) n h pos = let below = none-up-to k n h.0 pos in let other = h.1 in omega arith
-
 -- the row after all others
-pub row_last : (row field : ℕ) → is_row row field ≡ true → NoneUpTo 25 row → ◌≡◌ {A = ℕ × ℕ} (26, field) (row, field)
+pub row_last : (row field : ℕ) → is_row row field ≡ true → (0 < row → 25 < row) → ◌≡◌ {A = ℕ × ℕ} (26, field) (row, field)
 row_last row field e h =
-    let above = none-up-to 25 row h (row-pos row field e) in
+    let above = h (row-pos row field e) in
     let le = row-le row field e in
     ap (λ (n : ℕ). (n, field)) (omega arith)
 

@@ -1,6 +1,7 @@
 -- `answers::refusal_of` meets its contract: each row without a field has field 0.
 use mathlib.Core.Path.{refl}
 use Rattle.answers.proofs.CodeLaws.{row_plain, row_last}
+use Rattle.std.proofs.Common.{arith}
 use Rattle.answers.proofs.refusal_of.Goals as goal
 
 pub returns-in-1 : goal.returns-in-1
@@ -79,4 +80,4 @@ pub returns-in-25 : goal.returns-in-25
 returns-in-25 c = row_plain _ _ c.requires 25 c.in-25.is refl refl
 
 pub returns-in_default : goal.returns-in_default
-returns-in_default c = row_last _ _ c.requires c.in_default.rest
+returns-in_default c = row_last _ _ c.requires (λ h. omega arith)
