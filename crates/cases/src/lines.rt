@@ -1,12 +1,20 @@
 // The first line of a text, and what follows it.
 ghost use Rattle.std.specs.Prelude.{◌-◌, ◌≤◌, ◌≡◌, length};
-ghost use Rattle.cases.specs.Lines.{first_line, after_line};
+ghost use Rattle.cases.specs.Lines.{first_line, after_line, feed_place};
+
+// The place of the first line feed, or the text's length.
+fn line_end(text: &[u8]) -> usize
+    ensures is { result ≡ feed_place text.now }
+    ensures within { result ≤ length text.now }
+{
+    text.iter().position(|b| *b == b'\n').unwrap_or(text.len())
+}
 
 // The first line, without its line feed.
 pub fn line(text: &[u8]) -> &[u8]
     ensures { result.now ≡ first_line text.now }
 {
-    let end = bytes::scan::find(text, 0, text.len(), b'\n');
+    let end = line_end(text);
     &text[..end]
 }
 
@@ -15,7 +23,7 @@ pub fn after_line(text: &[u8]) -> &[u8]
     ensures is { result.now ≡ after_line text.now }
     ensures shorter { length result.now ≤ length text.now - 1 }
 {
-    let end = bytes::scan::find(text, 0, text.len(), b'\n');
+    let end = line_end(text);
     if end < text.len() {
         return &text[end + 1..];
     }
