@@ -5,26 +5,20 @@ use lib.Dec.{eqb}
 use borrow.Author.Rules.{rules}
 use Rattle.records.specs.Numbers.{same_numbers}
 use Rattle.measured.specs.Parameters.{parameter_numbers}
-use Rattle.trial.proofs.same.same_season.Statement.{statement}
-use Rattle.trial.proofs.same.same_season.Tie as tie
+use Rattle.trial.proofs.same.same_season.Goals as goal
 
 -- six tests and those of three numbers, from the left and from the right
 nine-and :
     (a b c d e f g h i j : Bool) → (a && b && c && d && e && f && (g && (h && (i && true))) && j) ≡ (a && (b && (c && (d && (e && (f && (g && (h && (i && j)))))))))
 nine-and a b c d e f g h i j = simp (and_assoc, and-true)
 
-returns : tie.Need-returns
-returns c =
-    let start = c.before.before.before.before.before.before.before.before.before.before.before.before.before.before.before.before.before.before.before.before in
-    let s = start.args.a in
-    let t = start.args.b in
+pub returns : goal.returns
+returns c = let s = c.args.a in
+    let t = c.args.b in
     let x = s.header in
     let y = t.header in
     let w = s.warmth in
     let v = t.warmth in
-    rw (c.before.same-warmth.ensures, c.same-parameters.ensures)
+    rw (c.same_warmth.ensures, c.same_parameters.ensures)
     (nine-and (eqb x.tree y.tree) (eqb x.days y.days) (eqb x.first y.first) (eqb x.last y.last) (eqb x.level y.level)
     (eqb s.ceiling t.ceiling) (eqb w.rise v.rise) (eqb w.fall v.fall) (eqb w.end v.end) (same_numbers (parameter_numbers s.parameters) (parameter_numbers t.parameters)))
-
-pub same-season-spec : {M : Type 1} → statement M
-same-season-spec = tie.close (tie.spec (λ c κs. search rules) (λ c κs. search rules) returns)
