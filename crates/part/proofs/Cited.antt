@@ -2,6 +2,7 @@
 use Prim.Native.Nat.{ℕ}
 use mathlib.Core.Path.{◌≡◌}
 use mathlib.Core.List.{List, [], ◌∷◌}
+use denote.MutBor.{MutBor}
 use denote.Ref.{Bor}
 use Rattle.records.specs.Answers.{accepted}
 use Rattle.account_spec.specs.Account.{fresh_account}
@@ -36,10 +37,13 @@ tied-run (by_read c t) = reads c.holds (tied-run t)
 abbrev lent : List ℕ → Bor (List ℕ)
 lent l = record { ref_ptr = (0, 0); now = l }
 
+abbrev lent-mut : List ℕ → MutBor (List ℕ)
+lent-mut l = record { ref_ptr = (0, 0); ghost_name = 0; now = l }
+
 run-tied : {b : List ℕ} {ts : List Told} → BytesRun b ts → Tied b ts
 run-tied stop = done
 run-tied (feeds {b = b} {l = l} {after = after} {code = code} k run) =
-    by-feed (record { κs = ([], ([], tt)); args = (lent b, (lent l, tt)); result = code; exit = (lent after, (lent l, tt)); holds = k }) (run-tied run)
+    by-feed (record { κs = ([], ([], tt)); args = (lent-mut b, (lent l, tt)); result = code; exit = (lent-mut after, (lent l, tt)); holds = k }) (run-tied run)
 run-tied (reads {b = b} {r = r} k run) = by_read (record { κs = ([], tt); args = (lent b, tt); result = r; exit = (lent b, tt); holds = k }) (run-tied run)
 
 module _ (season : SeasonPromise) where

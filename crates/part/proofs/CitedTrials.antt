@@ -2,6 +2,7 @@
 use Prim.Native.Nat.{ℕ}
 use mathlib.Core.Path.{◌≡◌}
 use mathlib.Core.List.{List, []}
+use denote.MutBor.{MutBor}
 use denote.Ref.{Bor}
 use Rattle.stored.specs.Layout.{take_up_of}
 use Rattle.answers.specs.declared.Tried.{Tried}
@@ -13,12 +14,15 @@ use Rattle.part.proofs.trials.pod1_take.Reads as take-reads
 abbrev lent : List ℕ → Bor (List ℕ)
 lent l = record { ref_ptr = (0, 0); now = l }
 
+abbrev lent-mut : List ℕ → MutBor (List ℕ)
+lent-mut l = record { ref_ptr = (0, 0); ghost_name = 0; now = l }
+
 -- what a call of `pod1_trial` promises, and one of `pod1_take`
 abbrev Made : (account line before : List ℕ) → Tried → List ℕ → Type 0
-Made account line before made after = trial-reads.Post ([], ([], ([], tt))) (lent account, (lent line, (lent before, tt))) made (lent account, (lent line, (lent after, tt)))
+Made account line before made after = trial-reads.Post ([], ([], ([], tt))) (lent account, (lent line, (lent-mut before, tt))) made (lent account, (lent line, (lent-mut after, tt)))
 
 abbrev Taken : (account trial : List ℕ) → ℕ → List ℕ → Type 0
-Taken account trial answer after = take-reads.Post ([], ([], tt)) (lent account, (lent trial, tt)) answer (lent after, (lent trial, tt))
+Taken account trial answer after = take-reads.Post ([], ([], tt)) (lent-mut account, (lent trial, tt)) answer (lent-mut after, (lent trial, tt))
 
 made-taken : (tried line before trial : List ℕ) (made : Tried) → Made tried line before made trial → made.code ≡ 0
     → (account : List ℕ) → take_up_of account ≡ take_up_of tried → (answer : ℕ) (after : List ℕ) → Taken account trial answer after → TakenAsFed account line made answer after
