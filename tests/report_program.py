@@ -4,7 +4,7 @@
     python3 tests/report_program.py [VECTORS]
 
 VECTORS is the folder of season texts, else ../shared/vectors beside the repository; without it those texts are left out. The program is built by
-`rt check pod1` where it is missing. Printed: the number of cases, the peak memory over a leap year, and ok; or the first case that differs.
+command/build.py where it is missing or old. Printed: the number of cases, the peak memory over a leap year, and ok; or the first case that differs.
 """
 
 import os
@@ -233,8 +233,7 @@ def try_memory(year):
 
 
 def build():
-    if not PROGRAM.exists():
-        subprocess.run(["rt", "check", "pod1"], cwd=REPOSITORY, check=True, stdout=subprocess.DEVNULL)
+    subprocess.run([sys.executable, REPOSITORY / "command" / "build.py", PROGRAM.name], check=True, stdout=subprocess.DEVNULL)
 
 
 def try_vectors(folder):
