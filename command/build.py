@@ -24,6 +24,7 @@ PATIENCE = 10  # seconds until what rt has started must have ended
 CHECKED = re.compile(r"crate (\w+): ")  # rt names a crate when it has checked it, and then says whether it is proved
 PROVED = "logic=proved"
 RUNNING = "rt: running out/"  # only what is proved and built is run
+COUNTS = ("logic /", "statements ", "library ")  # lines on what rt has loaded
 
 FIRST = (
     "pod1: target/bin/{name} is proved and built first, {count} crates, once: about six minutes on two cores where nothing is proved yet."
@@ -107,10 +108,11 @@ def end_all(process):
 
 
 def follow(process):
-    """Each crate as it is proved, and what rt waits for, as they come; all of rt's lines are handed back."""
+    """Each crate as it is proved, and what rt waits for, as they come; what rt says is handed back."""
     kept, crate = [], None
     for line in process.stdout:
-        kept.append(line)
+        if not line.startswith(COUNTS):
+            kept.append(line)
         if found := CHECKED.match(line):
             crate = found[1]
         elif line.startswith(PROVED) and crate:
