@@ -27,7 +27,7 @@ RUNNING = "rt: running out/"  # only what is proved and built is run
 COUNTS = ("logic /", "statements ", "library ")  # lines on what rt has loaded
 
 FIRST = (
-    "pod1: target/bin/{name} is proved and built first, {count} crates, once: about six minutes on two cores where nothing is proved yet."
+    "pod1: target/bin/{name} is proved and built first, {count} crates, once: a quarter of an hour or more where nothing is proved yet."
     " Ctrl-C stops it, and the next run goes on from there."
 )
 AGAIN = "pod1: sources have changed since the program was built; what stands on them is proved again."
