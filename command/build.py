@@ -175,7 +175,7 @@ def program(name):
 
 
 def answer(name, words=(), text=None):
-    """What the program prints for these words, or for a text on standard input; None where it could read none."""
+    """What the program prints for these words, or for a text on standard input; None where it could read none, or ended with an error."""
     command = [str(program(name)), *words]
     try:
         # the files that a shell has opened for it, as <(..), stay open
@@ -184,6 +184,8 @@ def answer(name, words=(), text=None):
         raise Failure(f"{command[0]}: cannot be run: {error.strerror}") from None
     if done.returncode < 0:
         raise Failure(f"{name} was ended by signal {-done.returncode}, and its answer is not used")
+    if done.returncode > 0:
+        return None  # what it had printed by then may not be all of its answer
     return done.stdout.decode("ascii") or None
 
 

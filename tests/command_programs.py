@@ -153,6 +153,11 @@ class Calls(Copied):
         self.not_called("usage: ./pod1 stand FILE HEADER..", "stand")
         self.assertEqual(self.call("stand", "missing", ONE_DAY), (2, "", "pod1: missing: there is no such file\n"))
 
+    def test_program_that_ends_with_an_error(self):
+        self.write("a", SEASON)
+        self.program("pod1_stretch", "printf 13", "exit 1")
+        self.assertEqual(self.call("stretch", "92", "a"), (2, "", "pod1: a: cannot be read\n"))
+
     def test_program_that_is_ended(self):
         self.program("pod1_place", "kill -9 $$")
         self.assertEqual(self.call("place", "4", "365", "520", "500", "0"), (2, "", "pod1: pod1_place was ended by signal 9, and its answer is not used\n"))
