@@ -110,19 +110,18 @@ def proof(first: int) -> list[str]:
         "use Rattle.exact.proofs.SeriesCommon.{common_num, common_den}",
         "use Rattle.humidity_spec.specs.Vapour.{celsius, exponent}",
         "use Rattle.humidity.proofs.TableLaws.{entry_read}",
-        f"use Rattle.humidity.proofs.lookups.from_{first}.Statement.{{statement}}",
-        f"use Rattle.humidity.proofs.lookups.from_{first}.Tie as tie",
-        "",
-        f"pub from-{first}-spec : {{M : Type 1}} → statement M",
-        "unfolding celsius exponent common_num common_den",
-        f"from-{first}-spec =",
-        "    tie.close",
-        "    (tie.spec",
+        f"use Rattle.humidity.proofs.lookups.from_{first}.Goals as goal",
     ]
-    count = len(parts()[first])
-    lines += count * ["    (λ c. search rules)", "    (λ c κs. search rules)"]
-    lines += [f"    (λ c. entry_read c.{'entry_at' if n == 1 else f'entry-at{n}'}.ensures (omega arith) tt)" for n in range(1, count + 1)]
-    lines[-1] += ")"
+    arrays = parts()[first]
+    for n, (start, length) in enumerate(arrays):
+        arm = "in_default" if n + 1 == len(arrays) else f"in-0-to-{start + length - 1}"
+        call = "entry_at" if n == 0 else f"entry_at-{arm}"
+        lines += [
+            "",
+            f"pub returns-{arm} : goal.returns-{arm}",
+            "unfolding celsius exponent common_num common_den",
+            f"returns-{arm} c = entry_read c.{call}.ensures (omega arith) tt",
+        ]
     return lines
 
 
@@ -135,7 +134,7 @@ def main() -> None:
     write(CRATE / "src" / "values.rt", values())
     write(CRATE / "src" / "lookups.rt", lookups())
     for first in parts():
-        write(CRATE / "proofs" / "lookups" / f"from_{first}" / "Proof.antt", proof(first))
+        write(CRATE / "proofs" / "lookups" / f"from_{first}" / "Answers.antt", proof(first))
 
 
 if __name__ == "__main__":

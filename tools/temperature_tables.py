@@ -65,13 +65,9 @@ def parts(tree: str) -> dict[int, list[int]]:
     return {first: [found[x] for x in range(first, min(first + PART, max(found) + 1))] for first in range(min(found), max(found) + 1, PART)}
 
 
-def words(tree: str) -> list[str]:
-    """BorealSpruce: boreal, spruce."""
-    return "".join(" " + c.lower() if c.isupper() else c for c in tree).split()
-
-
 def snake(tree: str) -> str:
-    return "_".join(words(tree))
+    """BorealSpruce: boreal_spruce."""
+    return "".join("_" + c.lower() if c.isupper() else c for c in tree).lstrip("_")
 
 
 # ---- src
@@ -167,44 +163,34 @@ def trimmed_laws() -> list[str]:
     return lines + [f"  {snake(tree)}_table = {snake(tree)}-trimmed;" for tree in TREES] + ["}"]
 
 
-def nth(call: str, n: int) -> str:
-    return call if n == 1 else f"{call}{n}"
-
-
-def needs(tree: str) -> list[str]:
-    """What the function's proof must show, in order, with its proofs."""
-    name, count = snake(tree), len(parts(tree))
-    floors = 1 if max(table(tree)) == ZERO + HIGHEST else 2
-    out = []
-    for n in range(1, floors + 1):
-        out += ["(λ c κs. search rules)", f"(λ c. floor-pair {name}-trimmed (omega arith) (λ first. omega arith) c.{nth('floor-of', n)}.ensures)"]
-    out += count * ["(λ c. search rules)", "(λ c κs. readable tt (omega arith) (omega arith))"]
-    return out + [f"(λ c. read-pair {name}-sound c.{nth('table-entry', n)}.ensures tt)" for n in range(1, count + 1)]
+def answer(goal: str, proof: str) -> list[str]:
+    return ["", f"pub {goal} : goal.{goal}", "unfolding tried allowed", f"{goal} c = {proof}"]
 
 
 def proof(tree: str) -> list[str]:
-    name = figures = snake(tree)
-    spec = "-".join(words(tree)) + "-at-spec"
+    name, first, last = snake(tree), min(table(tree)), max(table(tree))
     lines = [
         f"-- `tables::lookups::{name}_at` meets its contract: each array passes one computed test. Made by tools/temperature_tables.py.",
         "use native.Mathlib.Omega.{arith}",
         "use borrow.Author.Rules.{rules}",
         "use Rattle.trees.specs.Temperature.{tried, allowed}",
-        f"use Rattle.trees.proofs.SoundLaws.{{{figures}-sound}}",
+        f"use Rattle.trees.proofs.SoundLaws.{{{name}-sound}}",
         "use Rattle.trees.proofs.TemperatureTrim.{floor-pair}",
-        f"use Rattle.tables.proofs.TrimmedLaws.{{{figures}-trimmed}}",
+        f"use Rattle.tables.proofs.TrimmedLaws.{{{name}-trimmed}}",
         "use Rattle.tables.proofs.TableEntryLaws.{readable, read-pair}",
-        f"use Rattle.tables.proofs.lookups.{name}_at.Statement.{{statement}}",
-        f"use Rattle.tables.proofs.lookups.{name}_at.Tie as tie",
-        "",
-        f"pub {spec} : {{M : Type 1}} → statement M",
-        "unfolding tried allowed",
-        f"{spec} =",
-        "    tie.close",
-        "    (tie.spec",
-        *(f"    {need}" for need in needs(tree)),
+        f"use Rattle.tables.proofs.lookups.{name}_at.Goals as goal",
     ]
-    lines[-1] += ")"
+    ends = [f"then-x-lt{first}", *([f"then-x-gt{last}"] if last < ZERO + HIGHEST else [])]
+    for n, end in enumerate(ends):
+        call = "floor_of" if n == 0 else f"floor_of-{end}"
+        lines += answer(f"returns-{end}", f"floor-pair {name}-trimmed (omega arith) (λ first. omega arith) c.{call}.ensures")
+    # a call in the first arm is named without it
+    arms = [*(f"-in-{k}" for k in range(len(parts(tree)) - 1)), "-in_default"]
+    calls = ["table_entry", *(f"table_entry{arm}" for arm in arms[1:])]
+    for n, arm in enumerate(arms):
+        lines += answer("table_entry-requires" + (arm if n else ""), "readable tt (omega arith) (omega arith)")
+    for arm, call in zip(arms, calls):
+        lines += answer(f"returns{arm}", f"read-pair {name}-sound c.{call}.ensures tt")
     return lines
 
 
@@ -219,7 +205,7 @@ def main() -> None:
     write(CRATE / "specs" / "Trimmed.antt", trimmed())
     write(CRATE / "proofs" / "TrimmedLaws.antt", trimmed_laws())
     for tree in TREES:
-        write(CRATE / "proofs" / "lookups" / f"{snake(tree)}_at" / "Proof.antt", proof(tree))
+        write(CRATE / "proofs" / "lookups" / f"{snake(tree)}_at" / "Answers.antt", proof(tree))
 
 
 if __name__ == "__main__":
