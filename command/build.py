@@ -1,23 +1,33 @@
-"""The proved programs target/bin/NAME: proved and built by rt where they are missing or older than their sources."""
+"""The proved programs target/bin/NAME: proved and built by rt where they are missing or older than their sources.
+
+    python3 command/build.py NAME..      builds these, and prints where each stands
+"""
 
 import fcntl
 import os
+import re
 import shutil
 import signal
 import subprocess
+import sys
 from contextlib import contextmanager
 from functools import cache
 from pathlib import Path
 
-from speak import Failure, say
+from speak import Failure, fail, say
 
 ROOT = Path(__file__).resolve().parent.parent
 TARGET = ROOT / "target"
 REPORT = "pod1"  # the report program
+SOURCES = ("src", "specs", "proofs")  # of a crate; beside them rt keeps its work, in out/
 PATIENCE = 10  # seconds until what rt has started must have ended
+CHECKED = re.compile(r"crate (\w+): ")  # rt names a crate when it has checked it, and then says whether it is proved
+PROVED = "logic=proved"
+RUNNING = "rt: running out/"  # only what is proved and built is run
+COUNTS = ("logic /", "statements ", "library ")  # lines on what rt has loaded
 
 FIRST = (
-    "pod1: target/bin/{name} is proved and built first, {count} crates, once: about six minutes on two cores where nothing is proved yet."
+    "pod1: target/bin/{name} is proved and built first, {count} crates, once: a quarter of an hour or more where nothing is proved yet."
     " Ctrl-C stops it, and the next run goes on from there."
 )
 AGAIN = "pod1: sources have changed since the program was built; what stands on them is proved again."
@@ -54,16 +64,14 @@ def times_in(folder):
 
 def last_change(name):
     """Of what the program is made of."""
-    times = [time for crate in crates_of(name) for time in times_in(ROOT / "crates" / crate)]
+    times = [time for crate in crates_of(name) for part in SOURCES for time in times_in(ROOT / "crates" / crate / part)]
     return max([(ROOT / "crates.txt").stat().st_mtime_ns, *times])
 
 
 def is_built(name):
-    """rt leaves a stamp once a program is proved, linked and tried; an interrupted build has none."""
+    """It comes there whole, once it is proved and has run."""
     program = TARGET / "bin" / name
-    if not os.access(program, os.X_OK) or not (TARGET / "stamp" / name).exists():
-        return False
-    return last_change(name) <= program.stat().st_mtime_ns
+    return os.access(program, os.X_OK) and last_change(name) <= program.stat().st_mtime_ns
 
 
 # ---- building
@@ -100,21 +108,25 @@ def end_all(process):
 
 
 def follow(process):
-    """rt's own lines as they come; the prover's are handed back."""
-    kept = []
+    """Each crate as it is proved, and what rt waits for, as they come; what rt says is handed back."""
+    kept, crate = [], None
     for line in process.stdout:
-        if line.startswith("rt:"):
-            say(line.rstrip("\n"))
-        else:
+        if not line.startswith(COUNTS):
             kept.append(line)
+        if found := CHECKED.match(line):
+            crate = found[1]
+        elif line.startswith(PROVED) and crate:
+            say(f"pod1: {crate} is proved")
+        elif line.startswith("rt:") and "waiting" in line:
+            say(line.rstrip("\n"))
     return kept
 
 
-def check(name):
-    """`rt check NAME`: its status, and what the prover printed."""
-    words, pipe = ["rt", "check", name], subprocess.PIPE
+def prove_and_run(name):
+    """`rt run` in the program's crate, on empty input: its status, and what was printed."""
+    folder, pipe = ROOT / "crates" / name, subprocess.PIPE
     process = subprocess.Popen(
-        words, cwd=ROOT, stdin=subprocess.DEVNULL, stdout=pipe, stderr=subprocess.STDOUT, start_new_session=True, text=True, errors="replace"
+        ["rt", "run"], cwd=folder, stdin=subprocess.DEVNULL, stdout=pipe, stderr=subprocess.STDOUT, start_new_session=True, text=True, errors="replace"
     )
     try:
         kept = follow(process)
@@ -134,12 +146,22 @@ def build(name):
     is_there = (TARGET / "bin" / name).exists()
     say((AGAIN if is_there else FIRST).format(name=name, count=len(crates_of(name))))
     changed = last_change(name)
-    status, kept = check(name)
-    if status != 0:
+    status, kept = prove_and_run(name)
+    if not any(line.startswith(RUNNING) for line in kept):
         for line in kept[-40:]:
             say(line.rstrip("\n"))
-        raise Failure(f"the program could not be built: rt check {name} ended with status {status}")
-    os.utime(TARGET / "bin" / name, ns=(changed, changed))  # as new as the sources that were there; one that has changed since is newer
+        raise Failure(f"the program could not be built: rt run in crates/{name} ended with status {status}")
+    put_there(name, changed)
+
+
+def put_there(name, changed):
+    """What rt built, as target/bin/NAME: as new as the sources that were there, so that one that has changed since is newer."""
+    program = TARGET / "bin" / name
+    program.parent.mkdir(exist_ok=True)
+    part = program.with_name(f"{name}.part")
+    shutil.copy2(ROOT / "crates" / name / "out" / name, part)
+    os.utime(part, ns=(changed, changed))
+    os.replace(part, program)
 
 
 @cache
@@ -153,7 +175,7 @@ def program(name):
 
 
 def answer(name, words=(), text=None):
-    """What the program prints for these words, or for a text on standard input; None where it could read none."""
+    """What the program prints for these words, or for a text on standard input; None where it could read none, or ended with an error."""
     command = [str(program(name)), *words]
     try:
         # the files that a shell has opened for it, as <(..), stay open
@@ -162,4 +184,18 @@ def answer(name, words=(), text=None):
         raise Failure(f"{command[0]}: cannot be run: {error.strerror}") from None
     if done.returncode < 0:
         raise Failure(f"{name} was ended by signal {-done.returncode}, and its answer is not used")
+    if done.returncode > 0:
+        return None  # what it had printed by then may not be all of its answer
     return done.stdout.decode("ascii") or None
+
+
+def main():
+    try:
+        for name in sys.argv[1:]:
+            print(program(name))
+    except Failure as failure:
+        sys.exit(fail(failure))
+
+
+if __name__ == "__main__":
+    main()

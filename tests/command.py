@@ -20,7 +20,7 @@ __all__ = ["Builds", "Calls", "Chart", "Encode", "Options", "RealCalls", "Refusa
 
 def main():
     if not PROGRAM.exists():
-        sys.exit(f"{PROGRAM} is not built: rt check pod1")
+        sys.exit(f"{PROGRAM} is not built: python3 command/build.py pod1")
     result = unittest.main(exit=False).result
     for test, why in result.skipped:
         print(f"command: {test._testMethodName} is left out: {why}")

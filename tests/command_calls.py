@@ -43,7 +43,7 @@ class RealCalls(Case):
         super().setUp()
         missing = [name for name in PROGRAMS if not (BIN / name).exists()]
         if missing:
-            self.skipTest(f"{', '.join(missing)} not built: rt check {' '.join(missing)}")
+            self.skipTest(f"{', '.join(missing)} not built: python3 command/build.py {' '.join(missing)}")
 
     def test_compare(self):
         for first, second, tolerance in compare_cases.cases():

@@ -153,6 +153,11 @@ class Calls(Copied):
         self.not_called("usage: ./pod1 stand FILE HEADER..", "stand")
         self.assertEqual(self.call("stand", "missing", ONE_DAY), (2, "", "pod1: missing: there is no such file\n"))
 
+    def test_program_that_ends_with_an_error(self):
+        self.write("a", SEASON)
+        self.program("pod1_stretch", "printf 13", "exit 1")
+        self.assertEqual(self.call("stretch", "92", "a"), (2, "", "pod1: a: cannot be read\n"))
+
     def test_program_that_is_ended(self):
         self.program("pod1_place", "kill -9 $$")
         self.assertEqual(self.call("place", "4", "365", "520", "500", "0"), (2, "", "pod1: pod1_place was ended by signal 9, and its answer is not used\n"))
@@ -168,15 +173,22 @@ class Builds(Copied):
             (self.bin / tool).symlink_to(shutil.which(tool) if tool != "python3" else sys.executable)
         self.write("made", f"#!/bin/sh\ncat >/dev/null\necho '{report(SEASON).splitlines()[0]}'\n".encode())
         self.env = {"PATH": str(self.bin), "HOME": str(self.folder)}
-        self.first = "pod1: target/bin/pod1 is proved and built first, 3 crates, once: about"
+        self.first = "pod1: target/bin/pod1 is proved and built first, 3 crates, once: a quarter"
 
     def rt(self, *lines):
-        """A stand-in for rt, which notes that it was called."""
-        self.script(self.bin / "rt", f'echo "$@" >>"{self.folder}/calls"', *lines)
+        """A stand-in for rt, which notes how it was called, and in which crate."""
+        self.script(self.bin / "rt", "name=${PWD##*/}", f'echo "$@ $name" >>"{self.folder}/calls"', *lines)
+
+    def proves(self, crate):
+        """A crate's lines."""
+        return f"printf 'rt: chose --jobs 2 for {crate}\\nfn {crate}::f: proved\\ncrate {crate}: modules loaded=0 checked=40\\nlogic=proved functions=1\\n'"
+
+    def links(self):
+        return 'mkdir -p out; cp ../../../made out/"$name"; chmod +x out/"$name"'
 
     def good_rt(self, *between):
-        made = 'mkdir -p target/bin target/stamp; cp ../made target/bin/"$2"; chmod +x target/bin/"$2"; touch target/stamp/"$2"'
-        self.rt("echo 'rt: exact proved (2 s)'", "echo 'fn exact::f: proved'", *between, "echo 'rt: trees proved (9 s)'", made)
+        runs = 'echo "rt: running out/$name; to give it other input, run that file yourself"; echo "refused 11 line 1"; exit 1'
+        self.rt(self.proves("exact"), *between, self.proves("trees"), self.links(), runs)
 
     def calls(self):
         path = self.folder / "calls"
@@ -200,8 +212,8 @@ class Builds(Copied):
         self.assertEqual((status, out), (0, report(SEASON).splitlines()[0] + "\n"))
         said = err.splitlines()
         self.assertTrue(said[0].startswith(self.first), said[0])
-        self.assertEqual(said[1:], ["rt: exact proved (2 s)", "rt: trees proved (9 s)"])
-        self.assertEqual((self.called()[2], self.calls()), ("", ["check pod1"]))
+        self.assertEqual(said[1:], ["pod1: exact is proved", "pod1: trees is proved"])
+        self.assertEqual((self.called()[2], self.calls()), ("", ["run pod1"]))
 
     def test_sources_that_change(self):
         self.good_rt()
@@ -215,25 +227,31 @@ class Builds(Copied):
         (self.root / "crates" / "trees" / "src" / "lib.rt").unlink()
         os.utime(self.root / "crates" / "trees" / "src", (later + 1, later + 1))
         self.called()
-        self.assertEqual(self.calls(), 3 * ["check pod1"])
+        self.assertEqual(self.calls(), 3 * ["run pod1"])
 
     def test_only_what_is_used(self):
         self.good_rt()
         self.write("a", SEASON)
         self.called("compare", "a", "a", "1")
-        self.assertEqual(self.calls(), ["check pod1_compare"])
+        self.assertEqual(self.calls(), ["run pod1_compare"])
         self.called("--help")
         self.called("explain", "1")
-        self.assertEqual(self.calls(), ["check pod1_compare"])
+        self.assertEqual(self.calls(), ["run pod1_compare"])
 
     def test_a_build_that_fails(self):
-        self.rt("echo 'rt: exact proved (2 s)'", "echo 'needs: a proof of f' >&2", "echo 'rt: FAILED: trees'", "exit 1")
+        lines = ["crate exact: modules loaded=0 checked=40", "logic=proved functions=1", "fn trees::f: no proof", "logic=not-proved"]
+        self.rt(*(f"echo '{line}'" for line in lines[:2]), *(f"echo '{line}' >&2" for line in lines[2:]), "exit 1")
         status, out, err = self.called()
         self.assertEqual((status, out), (2, ""))
         self.assertEqual(
             err.splitlines()[1:],
-            ["rt: exact proved (2 s)", "rt: FAILED: trees", "needs: a proof of f", "pod1: the program could not be built: rt check pod1 ended with status 1"],
+            ["pod1: exact is proved", *lines, "pod1: the program could not be built: rt run in crates/pod1 ended with status 1"],
         )
+
+    def test_another_copy_is_waited_for(self):
+        waits = "rt: exact: another copy of the repository is building this library; waiting for it"
+        self.good_rt(f"echo '{waits}'")
+        self.assertEqual(self.called()[2].splitlines()[1:], ["pod1: exact is proved", waits, "pod1: trees is proved"])
 
     def started(self):
         """The command, until rt has said that its first crate is proved."""
@@ -246,7 +264,7 @@ class Builds(Copied):
             preexec_fn=lambda: signal.signal(signal.SIGINT, signal.default_int_handler),
         )
         self.assertTrue(process.stderr.readline().startswith(self.first))
-        self.assertEqual(process.stderr.readline(), "rt: exact proved (2 s)\n")
+        self.assertEqual(process.stderr.readline(), "pod1: exact is proved\n")
         return process
 
     def test_an_interrupted_build(self):
@@ -276,9 +294,9 @@ class Builds(Copied):
             time.sleep(0.01)
 
     def test_a_program_that_was_not_finished(self):
-        """Linked, and then interrupted: rt has left no stamp."""
-        self.program("pod1", "echo '1 1 1 1 1 1 below'")
-        (self.root / "target" / "stamp" / "pod1").unlink()
+        """Linked, and then stopped before rt ran it."""
+        self.rt(self.links(), "exit 1")
+        self.assertEqual(self.called()[:2], (2, ""))
         self.good_rt()
         self.assertEqual(self.called()[1], report(SEASON).splitlines()[0] + "\n")
 
@@ -288,4 +306,4 @@ class Builds(Copied):
         status, out, err = self.called()
         self.assertEqual((status, out, err), (0, report(SEASON).splitlines()[0] + "\n", "pod1: another build is under way; waiting for it\n"))
         self.assertEqual(first.communicate(timeout=SECONDS)[0], out)
-        self.assertEqual(self.calls(), ["check pod1"])
+        self.assertEqual(self.calls(), ["run pod1"])

@@ -1,6 +1,6 @@
 #!/usr/bin/env bash
 # Hostile calls on the part, for half a minute, or N lists of them:  tests/hostile_calls.sh [--long N]
-# The archive is target/libpod1.a, built by ./part where it is older than the crates; POD1_ARCHIVE=FILE links another one, as it is.
+# The archive is target/libpod1.a, which ./part builds where it is older than the crates; POD1_ARCHIVE=FILE links another one, as it is.
 # One list's calls, printed:  target/hostile/calls --list K [--seed S]
 set -eu
 repository=$(cd "$(dirname "$0")/.." && pwd)
@@ -16,11 +16,9 @@ if ! rustc --version >/dev/null 2>&1; then
     echo 'calls: there is no rustc here, so the hostile calls are left out'
     exit 0
 fi
+if [ -z "${POD1_ARCHIVE-}" ]; then "$repository/part"; fi
 archive=$(realpath "${POD1_ARCHIVE:-$repository/target/libpod1.a}")
 cd "$repository"
-if [ -z "${POD1_ARCHIVE-}" ] && { [ ! -f "$archive" ] || [ -n "$(find crates crates.txt part -newer "$archive" -print -quit)" ]; }; then
-    ./part
-fi
 mkdir -p target/hostile
 rustc -O --edition 2021 -o target/hostile/calls -C link-arg="$archive" tests/hostile/calls/main.rs
 exec target/hostile/calls "${words[@]}"

@@ -4,7 +4,7 @@
 #
 #     tests/inlined.sh [--store]      --store writes the lists anew
 #
-# Builds the part where it is missing; ./test has built the program. Left out where nm is missing, and said so.
+# Builds the part and the program where they are missing or old. Left out where nm is missing, and said so.
 set -eu -o pipefail
 export LC_ALL=C # one order for sort and comm
 cd "$(dirname "$0")/.."
@@ -34,6 +34,7 @@ is_stored() {
 }
 
 ./part >"$room/log"
+python3 command/build.py pod1 >"$room/log"
 list libpod1.txt target/libpod1.a
 list pod1.txt target/bin/pod1
 if [ $# = 1 ]; then cp "$room/libpod1.txt" "$room/pod1.txt" tests/inlined; fi

@@ -4,7 +4,7 @@
     python3 tests/report_program.py [VECTORS]
 
 VECTORS is the folder of season texts, else ../shared/vectors beside the repository; without it those texts are left out. The program is built by
-`rt check pod1` where it is missing. Printed: the number of cases, the peak memory over a leap year, and ok; or the first case that differs.
+command/build.py where it is missing or old. Printed: the number of cases, the peak memory over a leap year, and ok; or the first case that differs.
 """
 
 import os
@@ -202,17 +202,23 @@ def try_pieces_of(day, year):
     try_pieces("leap year", year, 4096)
 
 
+def hold_unread(name, printed, messages, status):
+    """A read that fails may end the program with an error, which is told on standard error alone."""
+    same(name, printed, b"")
+    same(f"{name}: status {status}, {messages!r}", (status, bool(messages)) in ((0, False), (1, True)), True)
+
+
 def try_folder():
     """Nothing is printed where standard input is a directory."""
     folder = os.open(REPOSITORY, os.O_RDONLY)
-    same("a directory as standard input", run([PROGRAM], stdin=folder), (b"", b"", 0))
+    hold_unread("a directory as standard input", *run([PROGRAM], stdin=folder))
     os.close(folder)
 
 
 def try_closed():
     """Nothing is printed where standard input is closed."""
     closed = ["sh", "-c", 'exec "$0" <&-', PROGRAM]
-    same("standard input closed", run(closed), (b"", b"", 0))
+    hold_unread("standard input closed", *run(closed))
 
 
 # ---- memory
@@ -233,8 +239,7 @@ def try_memory(year):
 
 
 def build():
-    if not PROGRAM.exists():
-        subprocess.run(["rt", "check", "pod1"], cwd=REPOSITORY, check=True, stdout=subprocess.DEVNULL)
+    subprocess.run([sys.executable, REPOSITORY / "command" / "build.py", PROGRAM.name], check=True, stdout=subprocess.DEVNULL)
 
 
 def try_vectors(folder):

@@ -7,6 +7,8 @@ prove themselves in the crate: this script is trusted by nobody.
 from math import factorial
 from pathlib import Path
 
+from layout import array
+
 TERMS = 65
 SCALE = 10**9
 UNIT = 10000
@@ -32,7 +34,7 @@ def main() -> None:
     for name, place in PLACES.items():
         entries = table(place)
         lines += [] if lines[-1].startswith("//") else [""]
-        lines += [f"pub(crate) const {name}: [u32; {len(entries)}] = [", *(f"    {e}," for e in entries), "];"]
+        lines += array(f"pub(crate) const {name}: [u32; {len(entries)}]", entries)
     out = Path(__file__).resolve().parent.parent / "crates/flux/src/decay.rt"
     out.write_text("\n".join(lines) + "\n")
 

@@ -10,6 +10,8 @@ from fractions import Fraction
 from math import factorial
 from pathlib import Path
 
+from layout import array
+
 READINGS = 1101  # tenths of a degree above -50.0 °C
 UNITS = 2 * 10**8  # in a kPa
 TERMS = 60  # of the series of exp, for an exponent under 4
@@ -46,7 +48,7 @@ def values() -> list[str]:
     for arrays in parts().values():
         for start, length in arrays:
             lines += [] if lines[-1].startswith("//") else [""]
-            lines += [f"pub(crate) const FROM_{start}: [u32; {length}] = [", *(f"    {entry(x)}," for x in range(start, start + length)), "];"]
+            lines += array(f"pub(crate) const FROM_{start}: [u32; {length}]", [entry(x) for x in range(start, start + length)])
     return lines
 
 
@@ -59,9 +61,9 @@ def lookup(first: int, arrays: list[tuple[int, int]]) -> list[str]:
     lines = [
         "",
         f"fn from_{first}(x: u16) -> u32",
-        *([f"    requires first {{ ⌜ {first} ≤ x ⌝ }}"] if first else []),
-        f"    requires last {{ ⌜ x < {end} ⌝ }}",
-        "    ensures { λ r. ⌜ r ≡ entryOf x ⌝ }",
+        *([f"    requires first {{ {first} ≤ x }}"] if first else []),
+        f"    requires last {{ x < {end} }}",
+        "    ensures { result ≡ entry_of x }",
         "{",
         "    match x {",
     ]
@@ -78,19 +80,19 @@ def lookup(first: int, arrays: list[tuple[int, int]]) -> list[str]:
 def lookups() -> list[str]:
     lines = [
         "// The table's entry at a reading, tenths of a degree above -50.0 °C, out of the array where the reading lies. Made by tools/saturation_table.py.",
+        "ghost use Rattle.std.specs.Prelude.{◌≡◌, ◌≤◌, ◌<◌};",
+        "ghost use Rattle.humidity_spec.specs.Pair.{entry_of};",
+        "",
         "use crate::entries::entry_at;",
         "use crate::values;",
-        "ghost use mathlib.Core.Path.{_≡_};",
-        "ghost use Prim.Native.Nat.{_≤_, _<_};",
-        "ghost use Rattle·humidity_spec.specs.Pair.{entryOf};",
     ]
     for first, arrays in parts().items():
         lines += lookup(first, arrays)
     lines += [
         "",
         "pub(crate) fn saturation(x: u16) -> u32",
-        "    requires { ⌜ x ≤ 1100 ⌝ }",
-        "    ensures { λ r. ⌜ r ≡ entryOf x ⌝ }",
+        "    requires { x ≤ 1100 }",
+        "    ensures { result ≡ entry_of x }",
         "{",
         "    match x {",
     ]
@@ -100,31 +102,26 @@ def lookups() -> list[str]:
     return lines + ["    }", "}"]
 
 
-def nth(call: str, n: int) -> str:
-    return call if n == 1 else f"{call}{n}"
-
-
 def proof(first: int) -> list[str]:
     lines = [
         f"-- `humidity::lookups::from_{first}` meets its contract: each array passes one computed test. Made by tools/saturation_table.py.",
         "use native.Mathlib.Omega.{arith}",
-        "use borrow.Author.Needs.{needs}",
-        "use Rattle·exact.proofs.SeriesCommon.{commonNum, commonDen}",
-        "use Rattle·humidity_spec.specs.Vapour.{celsius, exponent}",
-        "use Rattle·humidity·proofs.proofs.TableLaws.{entry-read}",
-        f"use Rattle·humidity·proofs.proofs.lookups.from_{first}.Statement.{{statement}}",
-        f"use Rattle·humidity·proofs.proofs.lookups.from_{first}.Tie as tie",
-        "",
-        f"pub from-{first}-spec : {{M : Type 1}} → statement M",
-        "unfolding celsius exponent commonNum commonDen",
-        f"from-{first}-spec =",
-        "    tie.close",
-        "    (tie.spec",
+        "use borrow.Author.Rules.{rules}",
+        "use Rattle.exact.proofs.SeriesCommon.{common_num, common_den}",
+        "use Rattle.humidity_spec.specs.Vapour.{celsius, exponent}",
+        "use Rattle.humidity.proofs.TableLaws.{entry_read}",
+        f"use Rattle.humidity.proofs.lookups.from_{first}.Goals as goal",
     ]
-    count = len(parts()[first])
-    lines += count * ["    (λ c. search needs)", "    (λ c κs. search needs)"]
-    lines += [f"    (λ c. entry-read (c .{nth('entry-at', n)} .ensures) (omega arith) tt)" for n in range(1, count + 1)]
-    lines[-1] += ")"
+    arrays = parts()[first]
+    for n, (start, length) in enumerate(arrays):
+        arm = "in_default" if n + 1 == len(arrays) else f"in-0-to-{start + length - 1}"
+        call = "entry_at" if n == 0 else f"entry_at-{arm}"
+        lines += [
+            "",
+            f"pub returns-{arm} : goal.returns-{arm}",
+            "unfolding celsius exponent common_num common_den",
+            f"returns-{arm} c = entry_read c.{call}.ensures (omega arith) tt",
+        ]
     return lines
 
 
@@ -137,7 +134,7 @@ def main() -> None:
     write(CRATE / "src" / "values.rt", values())
     write(CRATE / "src" / "lookups.rt", lookups())
     for first in parts():
-        write(CRATE / "proofs" / "lookups" / f"from_{first}" / "Proof.antt", proof(first))
+        write(CRATE / "proofs" / "lookups" / f"from_{first}" / "Answers.antt", proof(first))
 
 
 if __name__ == "__main__":

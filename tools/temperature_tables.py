@@ -10,6 +10,8 @@ and every one that was cut, so nothing rests on this script.
 from math import gcd
 from pathlib import Path
 
+from layout import array
+
 # f_min in percent, Tmin, Topt, Tmax in °C
 TREES = {
     "BorealSpruce": (10, 0, 20, 200),
@@ -23,7 +25,6 @@ HIGHEST = 600  # tenths of °C
 ZERO = 500  # a reading of 0.0 °C: tenths of a degree above -50.0 °C
 DECIMALS = 9
 PART = 100  # entries of one constant array
-SHORT = 3  # so many entries stand on one line, as rt fmt puts them
 CRATE = Path(__file__).resolve().parent.parent / "crates" / "tables"
 
 
@@ -64,17 +65,9 @@ def parts(tree: str) -> dict[int, list[int]]:
     return {first: [found[x] for x in range(first, min(first + PART, max(found) + 1))] for first in range(min(found), max(found) + 1, PART)}
 
 
-def words(tree: str) -> list[str]:
-    """BorealSpruce: boreal, spruce."""
-    return "".join(" " + c.lower() if c.isupper() else c for c in tree).split()
-
-
 def snake(tree: str) -> str:
-    return "_".join(words(tree))
-
-
-def camel(tree: str) -> str:
-    return tree[0].lower() + tree[1:]
+    """BorealSpruce: boreal_spruce."""
+    return "".join("_" + c.lower() if c.isupper() else c for c in tree).lstrip("_")
 
 
 # ---- src
@@ -87,14 +80,10 @@ def values() -> list[str]:
         "// after it: a table is copied where it is read, so each is short.",
     ]
     for tree in TREES:
-        lines += ["", f"pub(crate) struct {tree};", "", f"impl {tree} {{"]
+        lines += ["", "#[derive(Clone, Copy)]", f"pub(crate) struct {tree};", "", f"impl {tree} {{"]
         for first, entries in parts(tree).items():
             lines += [] if lines[-1].endswith("{") else [""]
-            head = f"    pub const TEMPERATURE_{first}: [u32; {len(entries)}] = ["
-            if len(entries) <= SHORT:
-                lines += [f"{head}{', '.join(str(t) for t in entries)}];"]
-            else:
-                lines += [head, *(f"        {t}," for t in entries), "    ];"]
+            lines += array(f"pub const TEMPERATURE_{first}: [u32; {len(entries)}]", entries, "    ")
         lines += ["}"]
     return lines
 
@@ -104,8 +93,8 @@ def lookup(tree: str) -> list[str]:
     lines = [
         "",
         f"pub(crate) fn {snake(tree)}_at(x: u16) -> Bounds",
-        "    requires { ⌜ x ≤ 1100 ⌝ }",
-        f"    ensures {{ λ r. ⌜ r ≡ temperaturePair {camel(tree)} x ⌝ }}",
+        "    requires { x ≤ 1100 }",
+        f"    ensures {{ result ≡ temperature_pair {snake(tree)} x }}",
         "{",
         f"    let fmin = trees::{tree}::FMIN;",
         f"    if x < {first} {{",
@@ -129,14 +118,13 @@ def lookups() -> list[str]:
     lines = [
         "// Each tree's f_temp at a reading, tenths of a degree above -50.0 °C: f_min outside the tree's table, else out of the part where the reading lies.",
         "// Made by tools/temperature_tables.py.",
-        "use crate::entries::floor_of;",
-        "use crate::entries::table_entry;",
-        *(f"use crate::values::{tree};" for tree in sorted(TREES)),
+        "ghost use Rattle.std.specs.Prelude.{◌≡◌, ◌≤◌};",
+        f"ghost use Rattle.trees.specs.Figures.{{{', '.join(snake(tree) for tree in TREES)}}};",
+        "ghost use Rattle.trees.specs.Temperature.{temperature_pair};",
+        "",
+        "use crate::entries::{floor_of, table_entry};",
+        f"use crate::values::{{{', '.join(sorted(TREES))}}};",
         "use exact::Bounds;",
-        "ghost use mathlib.Core.Path.{_≡_};",
-        "ghost use Prim.Native.Nat.{_≤_};",
-        f"ghost use Rattle·trees.specs.Figures.{{{', '.join(camel(tree) for tree in TREES)}}};",
-        "ghost use Rattle·trees.specs.Temperature.{temperaturePair};",
     ]
     for tree in TREES:
         lines += lookup(tree)
@@ -150,69 +138,59 @@ def trimmed() -> list[str]:
     return [
         "-- Where each tree's table begins and ends (document 02, W-203): its first and its last reading, in tenths of a degree above -50.0 °C.",
         "-- Made by tools/temperature_tables.py.",
-        f"use Rattle·trees.specs.Figures.{{{', '.join(camel(tree) for tree in TREES)}}}",
-        "use Rattle·trees.specs.TemperatureTable.{IsTrimmed}",
+        f"use Rattle.trees.specs.Figures.{{{', '.join(snake(tree) for tree in TREES)}}}",
+        "use Rattle.trees.specs.TemperatureTable.{IsTrimmed}",
         "",
         "pub record Trimmed : Type 0 where",
-        *(f"  pub {camel(tree)}Table : IsTrimmed {camel(tree)} {min(table(tree))} {max(table(tree))}" for tree in TREES),
+        *(f"  pub {snake(tree)}_table : IsTrimmed {snake(tree)} {min(table(tree))} {max(table(tree))}" for tree in TREES),
     ]
 
 
 def trimmed_laws() -> list[str]:
     lines = [
         "-- What was cut from each tree's table is under f_min, and its two ends are not: one computed test a tree. Made by tools/temperature_tables.py.",
-        f"use Rattle·trees.specs.Figures.{{{', '.join(camel(tree) for tree in TREES)}}}",
-        "use Rattle·trees.specs.Temperature.{tried, allowed}",
-        "use Rattle·trees.specs.TemperatureTable.{IsTrimmed}",
-        f"use Rattle·trees.proofs.SoundLaws.{{{', '.join(camel(tree) + '-sound' for tree in TREES)}}}",
-        "use Rattle·trees.proofs.TemperatureTrim.{trimmed-tested}",
-        "use Rattle·tables·specs.specs.Trimmed.{Trimmed}",
+        f"use Rattle.trees.specs.Figures.{{{', '.join(snake(tree) for tree in TREES)}}}",
+        "use Rattle.trees.specs.Temperature.{tried, allowed}",
+        "use Rattle.trees.specs.TemperatureTable.{IsTrimmed}",
+        f"use Rattle.trees.proofs.SoundLaws.{{{', '.join(snake(tree) + '-sound' for tree in TREES)}}}",
+        "use Rattle.trees.proofs.TemperatureTrim.{trimmed-tested}",
+        "use Rattle.tables.specs.Trimmed.{Trimmed}",
     ]
     for tree in TREES:
-        name, ends = camel(tree), f"{min(table(tree))} {max(table(tree))}"
+        name, ends = snake(tree), f"{min(table(tree))} {max(table(tree))}"
         lines += ["", f"pub {name}-trimmed : IsTrimmed {name} {ends}", "unfolding tried allowed", f"{name}-trimmed = trimmed-tested {name} {ends} {name}-sound tt"]
     lines += ["", "pub trimmed : Trimmed", "trimmed = record {"]
-    return lines + [f"  {camel(tree)}Table = {camel(tree)}-trimmed;" for tree in TREES] + ["}"]
+    return lines + [f"  {snake(tree)}_table = {snake(tree)}-trimmed;" for tree in TREES] + ["}"]
 
 
-def nth(call: str, n: int) -> str:
-    return call if n == 1 else f"{call}{n}"
-
-
-def needs(tree: str) -> list[str]:
-    """What the function's proof must show, in order, with its proofs."""
-    name, count = camel(tree), len(parts(tree))
-    floors = 1 if max(table(tree)) == ZERO + HIGHEST else 2
-    out = []
-    for n in range(1, floors + 1):
-        out += ["(λ c κs. search needs)", f"(λ c. floor-pair {name}-trimmed (omega arith) (λ first. omega arith) (c .{nth('floor-of', n)} .ensures))"]
-    out += count * ["(λ c. search needs)", "(λ c κs. readable tt (omega arith) (omega arith))"]
-    return out + [f"(λ c. read-pair {name}-sound (c .{nth('table-entry', n)} .ensures) tt)" for n in range(1, count + 1)]
+def answer(goal: str, proof: str) -> list[str]:
+    return ["", f"pub {goal} : goal.{goal}", "unfolding tried allowed", f"{goal} c = {proof}"]
 
 
 def proof(tree: str) -> list[str]:
-    name, figures = snake(tree), camel(tree)
-    spec = "-".join(words(tree)) + "-at-spec"
+    name, first, last = snake(tree), min(table(tree)), max(table(tree))
     lines = [
         f"-- `tables::lookups::{name}_at` meets its contract: each array passes one computed test. Made by tools/temperature_tables.py.",
         "use native.Mathlib.Omega.{arith}",
-        "use borrow.Author.Needs.{needs}",
-        "use Rattle·trees.specs.Temperature.{tried, allowed}",
-        f"use Rattle·trees.proofs.SoundLaws.{{{figures}-sound}}",
-        "use Rattle·trees.proofs.TemperatureTrim.{floor-pair}",
-        f"use Rattle·tables·proofs.proofs.TrimmedLaws.{{{figures}-trimmed}}",
-        "use Rattle·tables·proofs.proofs.TableEntryLaws.{readable, read-pair}",
-        f"use Rattle·tables·proofs.proofs.lookups.{name}_at.Statement.{{statement}}",
-        f"use Rattle·tables·proofs.proofs.lookups.{name}_at.Tie as tie",
-        "",
-        f"pub {spec} : {{M : Type 1}} → statement M",
-        "unfolding tried allowed",
-        f"{spec} =",
-        "    tie.close",
-        "    (tie.spec",
-        *(f"    {need}" for need in needs(tree)),
+        "use borrow.Author.Rules.{rules}",
+        "use Rattle.trees.specs.Temperature.{tried, allowed}",
+        f"use Rattle.trees.proofs.SoundLaws.{{{name}-sound}}",
+        "use Rattle.trees.proofs.TemperatureTrim.{floor-pair}",
+        f"use Rattle.tables.proofs.TrimmedLaws.{{{name}-trimmed}}",
+        "use Rattle.tables.proofs.TableEntryLaws.{readable, read-pair}",
+        f"use Rattle.tables.proofs.lookups.{name}_at.Goals as goal",
     ]
-    lines[-1] += ")"
+    ends = [f"then-x-lt{first}", *([f"then-x-gt{last}"] if last < ZERO + HIGHEST else [])]
+    for n, end in enumerate(ends):
+        call = "floor_of" if n == 0 else f"floor_of-{end}"
+        lines += answer(f"returns-{end}", f"floor-pair {name}-trimmed (omega arith) (λ first. omega arith) c.{call}.ensures")
+    # a call in the first arm is named without it
+    arms = [*(f"-in-{k}" for k in range(len(parts(tree)) - 1)), "-in_default"]
+    calls = ["table_entry", *(f"table_entry{arm}" for arm in arms[1:])]
+    for n, arm in enumerate(arms):
+        lines += answer("table_entry-requires" + (arm if n else ""), "readable tt (omega arith) (omega arith)")
+    for arm, call in zip(arms, calls):
+        lines += answer(f"returns{arm}", f"read-pair {name}-sound c.{call}.ensures tt")
     return lines
 
 
@@ -227,7 +205,7 @@ def main() -> None:
     write(CRATE / "specs" / "Trimmed.antt", trimmed())
     write(CRATE / "proofs" / "TrimmedLaws.antt", trimmed_laws())
     for tree in TREES:
-        write(CRATE / "proofs" / "lookups" / f"{snake(tree)}_at" / "Proof.antt", proof(tree))
+        write(CRATE / "proofs" / "lookups" / f"{snake(tree)}_at" / "Answers.antt", proof(tree))
 
 
 if __name__ == "__main__":

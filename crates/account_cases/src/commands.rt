@@ -6,35 +6,35 @@ use account::Account;
 use cases::print;
 
 // The account's reading, and the account.
-fn shown(held: Account) -> Account {
-    print_reading(held);
+fn shown(rt: &impl Print, held: Account) -> Account {
+    print_reading(rt, held);
     held
 }
 
-fn fed(held: Account, line: &[u8]) -> Account {
-    let next = print_fed(account::feed(held, line));
-    print(b": ");
-    shown(next)
+fn fed(rt: &impl Print, held: Account, line: &[u8]) -> Account {
+    let next = print_fed(rt, account::feed(held, line));
+    print(rt, b": ");
+    shown(rt, next)
 }
 
 // The account that a command leaves.
-fn obeyed(held: Account, command: &[u8]) -> Account {
+fn obeyed(rt: &impl Print, held: Account, command: &[u8]) -> Account {
     if command.len() == 0 {
         return held;
     }
     match command[0] {
-        b'N' => shown(account::fresh()),
-        b'A' => shown(account_of(&command[1..])),
-        b'F' => fed(held, &command[1..]),
+        b'N' => shown(rt, account::fresh()),
+        b'A' => shown(rt, account_of(&command[1..])),
+        b'F' => fed(rt, held, &command[1..]),
         _ => held,
     }
 }
 
-fn run_lines(first: Account, text: &[u8]) -> Account {
+fn run_lines(rt: &impl Print, first: Account, text: &[u8]) -> Account {
     let mut held = first;
     let mut rest = text;
     while 0 < rest.len() {
-        held = obeyed(held, cases::line(rest));
+        held = obeyed(rt, held, cases::line(rest));
         let next = cases::after_line(rest);
         rest = next;
     }
@@ -45,13 +45,13 @@ fn run_lines(first: Account, text: &[u8]) -> Account {
 const MOST_PIECES: u64 = 1000000;
 
 // No command lies in two of the pieces that fill the buffer.
-pub(crate) fn run_pieces(piece: &mut [u8]) {
+pub(crate) fn run_pieces(rt: &(impl Input + Print), piece: &mut [u8]) {
     let mut held = account::fresh();
     for _ in 0..MOST_PIECES {
-        let n = cases::read(piece);
+        let n = cases::read(rt, piece);
         if n == 0 {
             return;
         }
-        held = run_lines(held, &piece[..n]);
+        held = run_lines(rt, held, &piece[..n]);
     }
 }

@@ -5,7 +5,7 @@ mod answers;
 mod commands;
 mod fields;
 
-fn main() {
+fn main(rt: HostRuntime) {
     let mut piece = [0; 65536];
-    commands::run_pieces(&mut piece);
+    commands::run_pieces(&rt, &mut piece);
 }

@@ -1,15 +1,15 @@
 -- The lines of a text: a line feed, the byte 10, ends a line; a last line may lack it.
-use Rattle.std.specs.Prelude.{ℕ, ◌+◌, ◌==◌, List, take, drop}
-use Rattle.std.specs.List.{position_or_len}
+use Rattle.std.specs.Prelude.{ℕ, ◌+◌, ◌==◌, List, [], ◌∷◌, take, drop, cond}
 
--- the place of the first line feed, or the text's length
-abbrev pub feed_place : List ℕ → ℕ
-feed_place text = position_or_len (λ b. b == 10) text
+-- the place of the first byte b; the text's length where there is none
+unfoldable pub index_of : ℕ → List ℕ → ℕ
+index_of b [] = 0
+index_of b (c ∷ cs) = cond (c == b) 0 (index_of b cs + 1)
 
 -- the first line, its line feed left out
-abbrev pub first_line : List ℕ → List ℕ
-first_line text = take (feed_place text) text
+unfoldable pub first_line : List ℕ → List ℕ
+first_line text = take (index_of 10 text) text
 
 -- what follows the first line's line feed
-abbrev pub after_line : List ℕ → List ℕ
-after_line text = drop (feed_place text + 1) text
+unfoldable pub after_line : List ℕ → List ℕ
+after_line text = drop (index_of 10 text + 1) text

@@ -90,30 +90,30 @@ pub fn with_field(a: Account, digits: &[u8]) -> Account {
 }
 
 // Every field, in the order of their numbers.
-pub fn print_account(a: Account) {
+pub fn print_account(rt: &impl Print, a: Account) {
     let phase = a.phase;
     let season = a.season;
     let header = season.header;
     let kind = a.kind;
     let sums = a.sums;
-    print_number(phase_number(phase));
-    print_next(header.tree as u64);
-    print_next(header.days as u64);
-    print_next(header.first as u64);
-    print_next(header.last as u64);
-    print_next(header.level as u64);
-    print_next(season.ceiling as u64);
-    print_next(kind_number(kind) as u64);
-    print_next(sums.hours as u64);
-    print_next(sums.counted as u64);
-    print_next(sums.missing as u64);
-    print_next(sums.lower);
-    print_next(sums.upper);
-    print_next(sums.least as u64);
-    print_next(sums.most as u64);
+    print_number(rt, phase_number(phase));
+    print_next(rt, header.tree as u64);
+    print_next(rt, header.days as u64);
+    print_next(rt, header.first as u64);
+    print_next(rt, header.last as u64);
+    print_next(rt, header.level as u64);
+    print_next(rt, season.ceiling as u64);
+    print_next(rt, kind_number(kind) as u64);
+    print_next(rt, sums.hours as u64);
+    print_next(rt, sums.counted as u64);
+    print_next(rt, sums.missing as u64);
+    print_next(rt, sums.lower);
+    print_next(rt, sums.upper);
+    print_next(rt, sums.least as u64);
+    print_next(rt, sums.most as u64);
     let parameters = season.parameters;
-    print_parameters(parameters);
+    print_parameters(rt, parameters);
     let warmth = season.warmth;
     let carried = a.carried;
-    print_warmth(warmth, carried);
+    print_warmth(rt, warmth, carried);
 }

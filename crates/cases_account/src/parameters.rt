@@ -27,30 +27,30 @@ pub(crate) fn with_parameter(old: Parameters, digits: &[u8]) -> Parameters {
     p
 }
 
-fn print_one(n: u16) {
-    print_next(n as u64);
+fn print_one(rt: &impl Print, n: u16) {
+    print_next(rt, n as u64);
 }
 
 // All sixteen, or a mark where each is 0.
-pub(crate) fn print_parameters(p: Parameters) {
+pub(crate) fn print_parameters(rt: &impl Print, p: Parameters) {
     if !measured::is_fed(p) {
-        print(b" -");
+        print(rt, b" -");
         return;
     }
-    print_one(p.gmax);
-    print_one(p.fmin);
-    print_one(p.lighta);
-    print_one(p.tmin);
-    print_one(p.topt);
-    print_one(p.tmax);
-    print_one(p.vpdmax);
-    print_one(p.vpdmin);
-    print_one(p.soilmax);
-    print_one(p.soilmin);
-    print_one(p.leaf);
-    print_one(p.a);
-    print_one(p.e);
-    print_one(p.f1);
-    print_one(p.f4);
-    print_one(p.y);
+    print_one(rt, p.gmax);
+    print_one(rt, p.fmin);
+    print_one(rt, p.lighta);
+    print_one(rt, p.tmin);
+    print_one(rt, p.topt);
+    print_one(rt, p.tmax);
+    print_one(rt, p.vpdmax);
+    print_one(rt, p.vpdmin);
+    print_one(rt, p.soilmax);
+    print_one(rt, p.soilmin);
+    print_one(rt, p.leaf);
+    print_one(rt, p.a);
+    print_one(rt, p.e);
+    print_one(rt, p.f1);
+    print_one(rt, p.f4);
+    print_one(rt, p.y);
 }

@@ -27,14 +27,14 @@ pub(crate) fn with_carried(old: Carried, digits: &[u8]) -> Carried {
 }
 
 // All five, or a mark where each is 0.
-pub(crate) fn print_warmth(w: Warmth, c: Carried) {
+pub(crate) fn print_warmth(rt: &impl Print, w: Warmth, c: Carried) {
     if !measured::has_warmth(w) & (c.sum == 0) & (c.total == 0) {
-        print(b" -");
+        print(rt, b" -");
         return;
     }
-    print_next(w.rise as u64);
-    print_next(w.fall as u64);
-    print_next(w.end as u64);
-    print_next(c.sum as u64);
-    print_signed(c.total);
+    print_next(rt, w.rise as u64);
+    print_next(rt, w.fall as u64);
+    print_next(rt, w.end as u64);
+    print_next(rt, c.sum as u64);
+    print_signed(rt, c.total);
 }

@@ -3,7 +3,7 @@
 
 mod pairs;
 
-fn main() {
+fn main(rt: HostRuntime) {
     let mut buf = cases::buffer();
-    pairs::print_cases(&mut buf);
+    pairs::print_cases(&rt, &mut buf);
 }

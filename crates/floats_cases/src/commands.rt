@@ -28,13 +28,13 @@ fn counted(a: Account, n: u16) -> Account {
 }
 
 // All fields of an account, on a line.
-fn show(a: Account) {
-    cases_account::print_account(a);
-    print(b"\n");
+fn show(rt: &impl Print, a: Account) {
+    cases_account::print_account(rt, a);
+    print(rt, b"\n");
 }
 
 // What a command leaves.
-fn obeyed(held: Held, command: &[u8]) -> Held {
+fn obeyed(rt: &impl Print, held: Held, command: &[u8]) -> Held {
     if command.len() == 0 {
         return held;
     }
@@ -51,19 +51,17 @@ fn obeyed(held: Held, command: &[u8]) -> Held {
             floats = counted(floats, u16_at(rest, 0));
         }
         b'F' => {
-            lines = print_fed(account::feed(lines, rest));
-            floats = print_fed(account::feed(floats, rest));
+            lines = print_fed(rt, account::feed(lines, rest));
+            floats = print_fed(rt, account::feed(floats, rest));
         }
-        b'L' => lines = print_fed(account::feed(lines, rest)),
-        b'G' => floats = print_fed(floats::feed_floats(
-            floats,
-            u16_at(rest, 0),
-            u8_at(rest, 4),
-            readings_at(rest),
-        )),
+        b'L' => lines = print_fed(rt, account::feed(lines, rest)),
+        b'G' => floats = print_fed(
+            rt,
+            floats::feed_floats(floats, u16_at(rest, 0), u8_at(rest, 4), readings_at(rest)),
+        ),
         b'A' => {
-            show(lines);
-            show(floats);
+            show(rt, lines);
+            show(rt, floats);
         }
         _ => {},
     }
@@ -73,14 +71,14 @@ fn obeyed(held: Held, command: &[u8]) -> Held {
     }
 }
 
-pub(crate) fn run_lines(text: &[u8]) {
+pub(crate) fn run_lines(rt: &impl Print, text: &[u8]) {
     let mut held = Held {
         lines: account::fresh(),
         floats: account::fresh(),
     };
     let mut rest = text;
     while 0 < rest.len() {
-        held = obeyed(held, cases::line(rest));
+        held = obeyed(rt, held, cases::line(rest));
         let next = cases::after_line(rest);
         rest = next;
     }

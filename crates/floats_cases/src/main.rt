@@ -5,8 +5,8 @@ mod answers;
 mod bits;
 mod commands;
 
-fn main() {
+fn main(rt: HostRuntime) {
     let mut text = cases::buffer();
-    let n = cases::read(&mut text);
-    commands::run_lines(&text[..n]);
+    let n = cases::read(&rt, &mut text);
+    commands::run_lines(&rt, &text[..n]);
 }

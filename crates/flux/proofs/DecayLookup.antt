@@ -1,5 +1,5 @@
 -- The three entries of a number make decay_low, and nothing on the way leaves 64 bits.
-use Rattle.std.proofs.Common.{◌≡◌, ℕ, ◌*◌, ◌/◌, ◌%◌, ◌^◌, ◌<◌, ◌≤◌, mul-le-mul, arith}
+use Rattle.std.proofs.Common.{◌≡◌, ℕ, ◌*◌, ◌/◌, ◌%◌, ◌^◌, ◌≤◌, mul-le-mul, arith}
 use Rattle.flux_spec.specs.Light.{decay_entry, decay_low}
 use Rattle.flux_spec.proofs.DecayLaws.{decay_entry-le}
 

@@ -5,8 +5,8 @@
 mod answers;
 mod rows;
 
-fn main() {
+fn main(rt: HostRuntime) {
     let mut text = cases::buffer();
-    let n = cases::read(&mut text);
-    rows::print_rows(&text[..n]);
+    let n = cases::read(&rt, &mut text);
+    rows::print_rows(&rt, &text[..n]);
 }

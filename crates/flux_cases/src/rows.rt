@@ -80,29 +80,32 @@ fn age_of(row: &[u8]) -> Age {
     }
 }
 
-fn print_row(row: &[u8]) {
+fn print_row(rt: &impl Print, row: &[u8]) {
     if row.len() < 56 {
         return;
     }
     let h = hour_of(row, row[18]);
     let parameters = parameters_of(row);
     let age = age_of(row);
-    print_dosed(flux::hour_dose(
-        u8_at(row, 0),
-        parameters,
-        age,
-        u16_at(row, 3),
-        u16_at(row, 8),
-        u16_at(row, 13),
-        h,
-    ));
-    print(b"\n");
+    print_dosed(
+        rt,
+        flux::hour_dose(
+            u8_at(row, 0),
+            parameters,
+            age,
+            u16_at(row, 3),
+            u16_at(row, 8),
+            u16_at(row, 13),
+            h,
+        ),
+    );
+    print(rt, b"\n");
 }
 
-pub(crate) fn print_rows(text: &[u8]) {
+pub(crate) fn print_rows(rt: &impl Print, text: &[u8]) {
     let mut rest = text;
     while 0 < rest.len() {
-        print_row(cases::line(rest));
+        print_row(rt, cases::line(rest));
         let next = cases::after_line(rest);
         rest = next;
     }

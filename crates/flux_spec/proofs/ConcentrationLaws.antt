@@ -1,6 +1,6 @@
 -- Ozone's concentration: in whole numbers for each kind of hour, at most 29644 nmol m⁻³ in range, growing with the reading; its two numbers enclose it
 -- and are at most 1 apart.
-use Prim.Native.Nat.{ℕ, ◌+◌, ◌*◌, ◌≤◌, ◌<◌, max}
+use Prim.Native.Nat.{ℕ, ◌+◌, ◌*◌, ◌≤◌, max}
 use mathlib.Core.Path.{◌≡◌, ap}
 use mathlib.Core.Bool.{Bool, true, false}
 use native.Mathlib.Omega.{arith}

@@ -25,7 +25,6 @@ use Rattle.frames.specs.Layout.{ozone_of, soil_of, hour_of}
 use Rattle.flux_spec.specs.declared.Age.{Age}
 use Rattle.flux_spec.specs.declared.Stand.{Stand}
 use Rattle.flux_spec.specs.Dose.{is_counted}
-use Rattle.flux_spec.specs.Pair.{hour_pair}
 use Rattle.flux_spec.specs.HourDose.{tree_of, stand_of, days_out, other_measure, soil_unfit, stand_for, hour_dose_of, added_pair}
 
 -- ---- the tree's figures

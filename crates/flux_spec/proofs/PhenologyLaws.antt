@@ -1,9 +1,9 @@
 -- f_phen, by the day or by warmth, for any sound figures and any leaf age: which of the two it is, from 0 to 1, with a denominator of at most 2·10⁹.
-use Prim.Native.Nat.{ℕ, ◌*◌, ◌^◌, ◌≤◌, ◌<◌}
+use Prim.Native.Nat.{◌*◌, ◌^◌, ◌≤◌, ◌<◌}
 use mathlib.Core.Path.{◌≡◌, refl}
 use mathlib.Core.Bool.{Bool, true, false}
 use native.Mathlib.Omega.{arith}
-use Rattle.exact.specs.Frac.{Frac, natural, Between}
+use Rattle.exact.specs.Frac.{natural, Between}
 use Rattle.trees.specs.declared.Warmth.{Warmth}
 use Rattle.trees.specs.Phenology.{phenology_of, by_warmth}
 use Rattle.trees.specs.Sound.{Sound}

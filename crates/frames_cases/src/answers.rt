@@ -3,130 +3,130 @@ use crate::text::print_next;
 use cases::{print, print_signed};
 use frames::{Air, Decoded, Hour, Ozone, Parameters, Record, Refusal, Soil};
 
-pub(crate) fn print_refusal(refusal: Refusal) {
-    print(b" row");
-    print_next(frames::row_of(refusal) as u16);
+pub(crate) fn print_refusal(rt: &impl Print, refusal: Refusal) {
+    print(rt, b" row");
+    print_next(rt, frames::row_of(refusal) as u16);
     if let Refusal::Range(field) = refusal {
-        print(b" field");
-        print_next(field as u16);
+        print(rt, b" field");
+        print_next(rt, field as u16);
     }
 }
 
-fn print_ozone(ozone: Ozone) {
+fn print_ozone(rt: &impl Print, ozone: Ozone) {
     match ozone {
-        Ozone::Tenths(n) => print_next(n),
-        Ozone::Missing => print(b" missing"),
+        Ozone::Tenths(n) => print_next(rt, n),
+        Ozone::Missing => print(rt, b" missing"),
     }
 }
 
-fn print_soil(soil: Soil) {
+fn print_soil(rt: &impl Print, soil: Soil) {
     match soil {
         Soil::Suction(n) => {
-            print(b" suction");
-            print_next(n);
+            print(rt, b" suction");
+            print_next(rt, n);
         },
         Soil::Water(n) => {
-            print(b" water");
-            print_next(n);
+            print(rt, b" water");
+            print_next(rt, n);
         },
     }
 }
 
 // The fields of kind 02, which an hour of every kind has.
-fn print_fields(h: Hour) {
-    print_next(h.day);
-    print_next(h.hour as u16);
+fn print_fields(rt: &impl Print, h: Hour) {
+    print_next(rt, h.day);
+    print_next(rt, h.hour as u16);
     let ozone = h.ozone;
-    print_ozone(ozone);
-    print_next(h.ppfd);
-    print_next(h.radiation);
-    print_signed(h.temperature);
+    print_ozone(rt, ozone);
+    print_next(rt, h.ppfd);
+    print_next(rt, h.radiation);
+    print_signed(rt, h.temperature);
     let air = h.air;
-    print_next(frames::vapour_number(air));
-    print_next(h.wind);
+    print_next(rt, frames::vapour_number(air));
+    print_next(rt, h.wind);
     let soil = h.soil;
-    print_soil(soil);
+    print_soil(rt, soil);
 }
 
 // The kind, the fields of kind 02, and those that the kind adds.
-fn print_hour(h: Hour) {
+fn print_hour(rt: &impl Print, h: Hour) {
     let air = h.air;
     match air {
         Air::Deficit(_) => {
-            print_next(2);
-            print_fields(h);
+            print_next(rt, 2);
+            print_fields(rt, h);
         },
         Air::Pressure {
             deficit: _,
             pressure: n,
         } => {
-            print_next(4);
-            print_fields(h);
-            print_next(n);
+            print_next(rt, 4);
+            print_fields(rt, h);
+            print_next(rt, n);
         },
         Air::Humidity(_) => {
-            print_next(5);
-            print_fields(h);
+            print_next(rt, 5);
+            print_fields(rt, h);
         },
     }
 }
 
-fn print_parameters(p: Parameters) {
-    print_next(7);
-    print_next(p.gmax);
-    print_next(p.fmin);
-    print_next(p.lighta);
-    print_next(p.tmin);
-    print_next(p.topt);
-    print_next(p.tmax);
-    print_next(p.vpdmax);
-    print_next(p.vpdmin);
-    print_next(p.soilmax);
-    print_next(p.soilmin);
-    print_next(p.leaf);
-    print_next(p.a);
-    print_next(p.e);
-    print_next(p.f1);
-    print_next(p.f4);
-    print_next(p.y);
+fn print_parameters(rt: &impl Print, p: Parameters) {
+    print_next(rt, 7);
+    print_next(rt, p.gmax);
+    print_next(rt, p.fmin);
+    print_next(rt, p.lighta);
+    print_next(rt, p.tmin);
+    print_next(rt, p.topt);
+    print_next(rt, p.tmax);
+    print_next(rt, p.vpdmax);
+    print_next(rt, p.vpdmin);
+    print_next(rt, p.soilmax);
+    print_next(rt, p.soilmin);
+    print_next(rt, p.leaf);
+    print_next(rt, p.a);
+    print_next(rt, p.e);
+    print_next(rt, p.f1);
+    print_next(rt, p.f4);
+    print_next(rt, p.y);
 }
 
 // A record's kind and its fields.
-pub(crate) fn print_record(record: Record) {
+pub(crate) fn print_record(rt: &impl Print, record: Record) {
     match record {
         Record::Header(h) => {
-            print_next(1);
-            print_next(h.tree as u16);
-            print_next(h.days);
-            print_next(h.first);
-            print_next(h.last);
-            print_next(h.level);
+            print_next(rt, 1);
+            print_next(rt, h.tree as u16);
+            print_next(rt, h.days);
+            print_next(rt, h.first);
+            print_next(rt, h.last);
+            print_next(rt, h.level);
         },
-        Record::Hour(h) => print_hour(h),
+        Record::Hour(h) => print_hour(rt, h),
         Record::End(e) => {
-            print_next(3);
-            print_next(e.hours);
+            print_next(rt, 3);
+            print_next(rt, e.hours);
         },
         Record::Ceiling(c) => {
-            print_next(6);
-            print_next(c.ozone);
+            print_next(rt, 6);
+            print_next(rt, c.ozone);
         },
-        Record::Parameters(p) => print_parameters(p),
+        Record::Parameters(p) => print_parameters(rt, p),
         Record::Warmth(w) => {
-            print_next(8);
-            print_next(w.rise);
-            print_next(w.fall);
-            print_next(w.end);
+            print_next(rt, 8);
+            print_next(rt, w.rise);
+            print_next(rt, w.fall);
+            print_next(rt, w.end);
         },
     }
 }
 
 // What reading a line for a tree answers.
-pub(crate) fn print_reading(tree: u8, line: &[u8]) {
+pub(crate) fn print_reading(rt: &impl Print, tree: u8, line: &[u8]) {
     let decoded = frames::read_frame(tree, line);
     match decoded {
-        Decoded::Read(record) => print_record(record),
-        Decoded::Refused(refusal) => print_refusal(refusal),
+        Decoded::Read(record) => print_record(rt, record),
+        Decoded::Refused(refusal) => print_refusal(rt, refusal),
     }
 }
 

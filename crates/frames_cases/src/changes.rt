@@ -11,24 +11,24 @@ fn mark_in(tree: u8, line: &[u8], place: usize, b: u8, buf: &mut [u8]) -> u8 {
     if line.len() <= place {
         return b'?';
     }
-    let n = bytes::copy(line, buf);
-    let copy = &mut buf[0..n];
+    let copy = &mut buf[0..line.len()];
+    copy.copy_from_slice(line);
     copy[place] = b;
     mark(frames::read_frame(tree, &copy[..]))
 }
 
-fn print_mark(tree: u8, line: &[u8], place: usize, b: u8) {
+fn print_mark(rt: &impl Print, tree: u8, line: &[u8], place: usize, b: u8) {
     let mut buf = [0; LONGEST];
     let one = [mark_in(tree, line, place, b, &mut buf)];
-    print(&one);
+    print(rt, &one);
 }
 
 const BYTES: usize = 256;
 
 // A mark for each byte from 0 to 255 at the place.
-pub(crate) fn print_marks(tree: u8, line: &[u8], place: usize) {
-    print(b" ");
+pub(crate) fn print_marks(rt: &impl Print, tree: u8, line: &[u8], place: usize) {
+    print(rt, b" ");
     for b in 0..BYTES {
-        print_mark(tree, line, place, b as u8);
+        print_mark(rt, tree, line, place, b as u8);
     }
 }

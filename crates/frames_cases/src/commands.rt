@@ -6,33 +6,34 @@ use crate::changes::print_marks;
 use crate::writing::print_writing;
 use cases::{print, u8_at};
 
-fn answer(letter: u8, tree: u8, n: u8, line: &[u8]) {
+fn answer(rt: &impl Print, letter: u8, tree: u8, n: u8, line: &[u8]) {
     match letter {
-        b'R' => print_reading(tree, line),
-        b'C' => print_marks(tree, line, n as usize),
-        b'T' => print_writing(tree, true, line, n as usize),
-        _ => print_writing(tree, false, line, n as usize),
+        b'R' => print_reading(rt, tree, line),
+        b'C' => print_marks(rt, tree, line, n as usize),
+        b'T' => print_writing(rt, tree, true, line, n as usize),
+        _ => print_writing(rt, tree, false, line, n as usize),
     }
 }
 
-fn obey(command: &[u8]) {
+fn obey(rt: &impl Print, command: &[u8]) {
     if command.len() < 5 {
         return;
     }
-    print(command);
+    print(rt, command);
     answer(
+        rt,
         command[0],
         u8_at(command, 1),
         u8_at(command, 3),
         &command[5..],
     );
-    print(b"\n");
+    print(rt, b"\n");
 }
 
-pub(crate) fn run_lines(text: &[u8]) {
+pub(crate) fn run_lines(rt: &impl Print, text: &[u8]) {
     let mut rest = text;
     while 0 < rest.len() {
-        obey(cases::line(rest));
+        obey(rt, cases::line(rest));
         let next = cases::after_line(rest);
         rest = next;
     }

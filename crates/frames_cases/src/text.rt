@@ -1,6 +1,6 @@
 // Numbers of a record to standard output.
 
 // A space and a number.
-pub(crate) fn print_next(n: u16) {
-    cases::print_next(n as u64);
+pub(crate) fn print_next(rt: &impl Print, n: u16) {
+    cases::print_next(rt, n as u64);
 }

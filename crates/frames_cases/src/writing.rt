@@ -8,51 +8,51 @@ use frames::{Checked, Parsed, Raw, Record, Written};
 // Room for any line and four bytes more.
 const ROOM: usize = LONGEST + 4;
 
-fn print_checked(record: Record) {
+fn print_checked(rt: &impl Print, record: Record) {
     let answer = frames::check(record);
     match answer {
-        Checked::Sound => print(b" sound"),
-        Checked::Refused(refusal) => print_refusal(refusal),
+        Checked::Sound => print(rt, b" sound"),
+        Checked::Refused(refusal) => print_refusal(rt, refusal),
     }
 }
 
 // The first n bytes, and what reading them answers.
-fn print_back(tree: u8, buf: &[u8], n: usize) {
+fn print_back(rt: &impl Print, tree: u8, buf: &[u8], n: usize) {
     if buf.len() < n {
         return;
     }
-    print(b" ");
-    print(&buf[0..n]);
-    print_reading(tree, &buf[0..n]);
+    print(rt, b" ");
+    print(rt, &buf[0..n]);
+    print_reading(rt, tree, &buf[0..n]);
 }
 
 // The record written into the first `room` bytes: the line and what it is read back as, or the row.
-fn print_written(tree: u8, record: Record, buf: &mut [u8], room: usize) {
+fn print_written(rt: &impl Print, tree: u8, record: Record, buf: &mut [u8], room: usize) {
     if buf.len() < room {
         return;
     }
     let written = writer::write_frame(record, &mut buf[0..room]);
     match written {
-        Written::Bytes(n) => print_back(tree, buf, n),
-        Written::Refused(refusal) => print_refusal(refusal),
+        Written::Bytes(n) => print_back(rt, tree, buf, n),
+        Written::Refused(refusal) => print_refusal(rt, refusal),
     }
 }
 
-fn print_frame(tree: u8, numeric: bool, raw: Raw, room: usize) {
+fn print_frame(rt: &impl Print, tree: u8, numeric: bool, raw: Raw, room: usize) {
     let record = record_of(tree, numeric, raw);
-    print_record(record);
-    print_checked(record);
+    print_record(rt, record);
+    print_checked(rt, record);
     let mut buf = [b'.'; ROOM];
-    print_written(tree, record, &mut buf, room);
-    print(b" ");
-    print(&buf);
+    print_written(rt, tree, record, &mut buf, room);
+    print(rt, b" ");
+    print(rt, &buf);
 }
 
 // Rows 1 to 3, else the frame.
-pub(crate) fn print_writing(tree: u8, numeric: bool, line: &[u8], room: usize) {
+pub(crate) fn print_writing(rt: &impl Print, tree: u8, numeric: bool, line: &[u8], room: usize) {
     let parsed = frames::parse(line);
     match parsed {
-        Parsed::Frame(raw) => print_frame(tree, numeric, raw, room),
-        Parsed::Refused(refusal) => print_refusal(refusal),
+        Parsed::Frame(raw) => print_frame(rt, tree, numeric, raw, room),
+        Parsed::Refused(refusal) => print_refusal(rt, refusal),
     }
 }

@@ -55,49 +55,49 @@ fn set(held: Held, digits: &[u8]) -> Held {
     with_account(held, place, with_field(account, after_place(digits)))
 }
 
-fn fed(held: Held, digits: &[u8]) -> Held {
+fn fed(rt: &impl Print, held: Held, digits: &[u8]) -> Held {
     let place = u8_at(digits, 0) as usize;
     let account = account_at(held, place);
-    let left = print_fed(account::feed(account, after_place(digits)));
-    print(b"\n");
+    let left = print_fed(rt, account::feed(account, after_place(digits)));
+    print(rt, b"\n");
     with_account(held, place, left)
 }
 
-fn print_answer(answer: FedAll) {
+fn print_answer(rt: &impl Print, answer: FedAll) {
     match answer {
-        FedAll::Accepted => print(b"accepted"),
-        FedAll::Refused(refusal) => print_refusal(refusal),
+        FedAll::Accepted => print(rt, b"accepted"),
+        FedAll::Refused(refusal) => print_refusal(rt, refusal),
     }
-    print(b"\n");
+    print(rt, b"\n");
 }
 
-fn listed(held: Held, line: &[u8]) -> Held {
+fn listed(rt: &impl Print, held: Held, line: &[u8]) -> Held {
     let before = held.accounts;
     let count = held.count;
     let six = list::feed_six(before, count, line);
     let answer = six.answer;
-    print_answer(answer);
+    print_answer(rt, answer);
     let accounts = six.accounts;
     Held { accounts, count }
 }
 
-fn print_at(held: Held, place: usize) {
-    print_account(account_at(held, place));
-    print(b"\n");
+fn print_at(rt: &impl Print, held: Held, place: usize) {
+    print_account(rt, account_at(held, place));
+    print(rt, b"\n");
 }
 
-fn shown(held: Held) -> Held {
-    print_at(held, 0);
-    print_at(held, 1);
-    print_at(held, 2);
-    print_at(held, 3);
-    print_at(held, 4);
-    print_at(held, 5);
+fn shown(rt: &impl Print, held: Held) -> Held {
+    print_at(rt, held, 0);
+    print_at(rt, held, 1);
+    print_at(rt, held, 2);
+    print_at(rt, held, 3);
+    print_at(rt, held, 4);
+    print_at(rt, held, 5);
     held
 }
 
 // What a command leaves.
-fn obeyed(held: Held, command: &[u8]) -> Held {
+fn obeyed(rt: &impl Print, held: Held, command: &[u8]) -> Held {
     if command.len() == 0 {
         return held;
     }
@@ -106,18 +106,18 @@ fn obeyed(held: Held, command: &[u8]) -> Held {
         b'N' => fresh(),
         b'C' => counted(held, rest),
         b'H' => set(held, rest),
-        b'F' => fed(held, rest),
-        b'L' => listed(held, rest),
-        b'P' => shown(held),
+        b'F' => fed(rt, held, rest),
+        b'L' => listed(rt, held, rest),
+        b'P' => shown(rt, held),
         _ => held,
     }
 }
 
-pub(crate) fn run_lines(text: &[u8]) {
+pub(crate) fn run_lines(rt: &impl Print, text: &[u8]) {
     let mut held = fresh();
     let mut rest = text;
     while 0 < rest.len() {
-        held = obeyed(held, cases::line(rest));
+        held = obeyed(rt, held, cases::line(rest));
         let next = cases::after_line(rest);
         rest = next;
     }

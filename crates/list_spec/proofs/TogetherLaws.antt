@@ -1,5 +1,5 @@
 -- A list takes a step together: each place takes it by itself, or the first that refuses answers.
-use Prim.Native.Nat.{ℕ, suc}
+use Prim.Native.Nat.{ℕ}
 use mathlib.Core.Path.{◌≡◌, refl, sym, ap, subst, ◌∙◌}
 use mathlib.Core.List.{List, [], ◌∷◌}
 use Rattle.records.specs.Answers.{Outcome, accepted, refused, onward}

@@ -18,11 +18,19 @@ ghost use Rattle.part_spec.specs.Promise.{PartPromise};
 
 use answers::{Printed, Readout};
 use frames::Written;
+pub use lines::{
+    pod1_write_ceiling, pod1_write_end, pod1_write_header, pod1_write_hour,
+    pod1_write_hour_humidity, pod1_write_hour_pressure, pod1_write_parameters, pod1_write_place,
+    pod1_write_warmth,
+};
+pub use logger::pod1_feed_floats;
+pub use stand::pod1_feed_all;
 use stored::Held;
+pub use texts::{pod1_compare, pod1_report, pod1_worst_stretch};
+pub use trials::{pod1_take, pod1_trial};
 
 // A fresh account into the first bytes of a buffer; refused only by row 12.
-#[unsafe(no_mangle)]
-pub extern "C" fn pod1_fresh(account: &mut [u8]) -> u32
+pub fn pod1_fresh(account: &mut [u8]) -> u32
     ensures stores { Stores fresh_account account.old result account.new }
     ensures season { PartPromise }
 {
@@ -32,8 +40,7 @@ pub extern "C" fn pod1_fresh(account: &mut [u8]) -> u32
 }
 
 // A line to the account in a buffer: row 13 where there is none, then those of feeding. The buffer is unchanged where a row refuses.
-#[unsafe(no_mangle)]
-pub extern "C" fn pod1_feed(account: &mut [u8], line: &[u8]) -> u32
+pub fn pod1_feed(account: &mut [u8], line: &[u8]) -> u32
     ensures { FeedsBytes account.old line.now result account.new }
 {
     let held = stored::take_up(account);
@@ -47,8 +54,7 @@ pub extern "C" fn pod1_feed(account: &mut [u8], line: &[u8]) -> u32
 }
 
 // The sums and the verdict of the account in a buffer; refused only by row 13.
-#[unsafe(no_mangle)]
-pub extern "C" fn pod1_read(account: &[u8]) -> Readout
+pub fn pod1_read(account: &[u8]) -> Readout
     ensures { result ≡ readout_of (read_in account.now) }
 {
     let held = stored::take_up(account);
@@ -62,8 +68,7 @@ pub extern "C" fn pod1_read(account: &[u8]) -> Readout
 }
 
 // The report line of the account in a buffer, line feed included: row 13, then 12.
-#[unsafe(no_mangle)]
-pub extern "C" fn pod1_line(account: &[u8], buffer: &mut [u8]) -> Printed
+pub fn pod1_line(account: &[u8], buffer: &mut [u8]) -> Printed
     ensures { PrintsBytes (line_in account.now) buffer.old result buffer.new }
 {
     let held = stored::take_up(account);

@@ -31,8 +31,7 @@ fn write_hour(hour: HourReadings, air: Air, buffer: &mut [u8]) -> Printed
 }
 
 // Kind 01: rows 5 to 8.
-#[unsafe(no_mangle)]
-pub extern "C" fn pod1_write_header(
+pub fn pod1_write_header(
     tree: u8,
     days: u16,
     first: u16,
@@ -54,8 +53,7 @@ pub extern "C" fn pod1_write_header(
 }
 
 // Kind 01 from a place: rows 5, 6, 14, 7, 8.
-#[unsafe(no_mangle)]
-pub extern "C" fn pod1_write_place(
+pub fn pod1_write_place(
     tree: u8,
     days: u16,
     level: u16,
@@ -77,8 +75,7 @@ pub extern "C" fn pod1_write_place(
 }
 
 // Kind 02: an hour with the vapour pressure deficit. Row 10.
-#[unsafe(no_mangle)]
-pub extern "C" fn pod1_write_hour(hour: HourReadings, buffer: &mut [u8]) -> Printed
+pub fn pod1_write_hour(hour: HourReadings, buffer: &mut [u8]) -> Printed
     ensures prints_bytes { PrintsBytes (text_of (Record.Hour (hour_from hour (Air.Deficit hour.vapour)))) buffer.old result buffer.new }
     ensures round_trip { RoundTrip }
 {
@@ -87,12 +84,7 @@ pub extern "C" fn pod1_write_hour(hour: HourReadings, buffer: &mut [u8]) -> Prin
 }
 
 // Kind 04: an hour with the deficit and the pressure. Row 10.
-#[unsafe(no_mangle)]
-pub extern "C" fn pod1_write_hour_pressure(
-    hour: HourReadings,
-    pressure: u16,
-    buffer: &mut [u8],
-) -> Printed
+pub fn pod1_write_hour_pressure(hour: HourReadings, pressure: u16, buffer: &mut [u8]) -> Printed
     ensures prints_bytes { PrintsBytes (text_of (Record.Hour (hour_from hour (Air.Pressure hour.vapour pressure)))) buffer.old result buffer.new }
     ensures round_trip { RoundTrip }
 {
@@ -104,8 +96,7 @@ pub extern "C" fn pod1_write_hour_pressure(
 }
 
 // Kind 05: an hour with the relative humidity. Row 10.
-#[unsafe(no_mangle)]
-pub extern "C" fn pod1_write_hour_humidity(hour: HourReadings, buffer: &mut [u8]) -> Printed
+pub fn pod1_write_hour_humidity(hour: HourReadings, buffer: &mut [u8]) -> Printed
     ensures prints_bytes { PrintsBytes (text_of (Record.Hour (hour_from hour (Air.Humidity hour.vapour)))) buffer.old result buffer.new }
     ensures round_trip { RoundTrip }
 {
@@ -114,8 +105,7 @@ pub extern "C" fn pod1_write_hour_humidity(hour: HourReadings, buffer: &mut [u8]
 }
 
 // Kind 03: the season's end.
-#[unsafe(no_mangle)]
-pub extern "C" fn pod1_write_end(hours: u16, buffer: &mut [u8]) -> Printed
+pub fn pod1_write_end(hours: u16, buffer: &mut [u8]) -> Printed
     ensures prints_bytes { PrintsBytes (text_of (Record.End (record { hours = hours }))) buffer.old result buffer.new }
     ensures round_trip { RoundTrip }
 {
@@ -123,8 +113,7 @@ pub extern "C" fn pod1_write_end(hours: u16, buffer: &mut [u8]) -> Printed
 }
 
 // Kind 06: the most that a missing ozone can have been. Row 17.
-#[unsafe(no_mangle)]
-pub extern "C" fn pod1_write_ceiling(ozone: u16, buffer: &mut [u8]) -> Printed
+pub fn pod1_write_ceiling(ozone: u16, buffer: &mut [u8]) -> Printed
     ensures prints_bytes { PrintsBytes (text_of (Record.Ceiling (record { ozone = ozone }))) buffer.old result buffer.new }
     ensures round_trip { RoundTrip }
 {
@@ -132,8 +121,7 @@ pub extern "C" fn pod1_write_ceiling(ozone: u16, buffer: &mut [u8]) -> Printed
 }
 
 // Kind 07: a measured tree. Row 24.
-#[unsafe(no_mangle)]
-pub extern "C" fn pod1_write_parameters(parameters: TreeParameters, buffer: &mut [u8]) -> Printed
+pub fn pod1_write_parameters(parameters: TreeParameters, buffer: &mut [u8]) -> Printed
     ensures prints_bytes { PrintsBytes (text_of (Record.Parameters (parameters_from parameters))) buffer.old result buffer.new }
     ensures round_trip { RoundTrip }
 {
@@ -141,8 +129,7 @@ pub extern "C" fn pod1_write_parameters(parameters: TreeParameters, buffer: &mut
 }
 
 // Kind 08: leaf age by warmth. Row 25.
-#[unsafe(no_mangle)]
-pub extern "C" fn pod1_write_warmth(rise: u16, fall: u16, end: u16, buffer: &mut [u8]) -> Printed
+pub fn pod1_write_warmth(rise: u16, fall: u16, end: u16, buffer: &mut [u8]) -> Printed
     ensures prints_bytes { PrintsBytes (text_of (Record.Warmth (record { rise = rise; fall = fall; end = end }))) buffer.old result buffer.new }
     ensures round_trip { RoundTrip }
 {

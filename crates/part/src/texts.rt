@@ -14,8 +14,7 @@ ghost use Rattle.part_spec.specs.Stretch.{TellsWorst};
 use answers::{ComparisonNumbers, Printed, StretchNumbers};
 
 // The report of a season text into a lent buffer; refused only by row 12.
-#[unsafe(no_mangle)]
-pub extern "C" fn pod1_report(text: &[u8], buffer: &mut [u8]) -> Printed
+pub fn pod1_report(text: &[u8], buffer: &mut [u8]) -> Printed
     ensures prints_bytes { PrintsBytes (accepted (report_of text.now)) buffer.old result buffer.new }
     ensures promise { ReportPromise }
 {
@@ -24,8 +23,7 @@ pub extern "C" fn pod1_report(text: &[u8], buffer: &mut [u8]) -> Printed
 }
 
 // Two texts that are alike but for ozone: the row and line of the first, then of the second, then row 19.
-#[unsafe(no_mangle)]
-pub extern "C" fn pod1_compare(first: &[u8], second: &[u8], tolerance: u16) -> ComparisonNumbers
+pub fn pod1_compare(first: &[u8], second: &[u8], tolerance: u16) -> ComparisonNumbers
     ensures value { result ≡ compared_of (compare_of first.now second.now tolerance) }
     ensures promise { ComparePromise }
 {
@@ -34,8 +32,7 @@ pub extern "C" fn pod1_compare(first: &[u8], second: &[u8], tolerance: u16) -> C
 }
 
 // The highest lower AOT40 of so many days in a row: rows 20 and 21, then the text's row and line. The scratch bytes are zero after any other answer than rows 20 and 21.
-#[unsafe(no_mangle)]
-pub extern "C" fn pod1_worst_stretch(text: &[u8], days: u16, scratch: &mut [u8]) -> StretchNumbers
+pub fn pod1_worst_stretch(text: &[u8], days: u16, scratch: &mut [u8]) -> StretchNumbers
     ensures tells_worst { TellsWorst text.now days scratch.old result scratch.new }
     ensures promise { StretchPromise }
     ensures day { DayPromise }

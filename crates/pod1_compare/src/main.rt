@@ -9,6 +9,8 @@ ghost use Rattle.pod1_compare.specs.Answer.{comparison_line};
 
 use compare::Comparison;
 use frames::{Refusal, Written};
+use std::env::Env;
+use std::rt::Files;
 use words::{Got, Said};
 
 // The first line of an answer.
@@ -25,40 +27,45 @@ fn put_comparison(answer: Comparison, buf: &mut [u8]) -> Written
 }
 
 // The second line: an hour's line out of the second text, where there is one.
-fn print_difference(line: &[u8]) {
+fn print_difference(rt: &impl Print, line: &[u8]) {
     if 0 < line.len() {
-        words::print(line);
-        words::print(b"\n");
+        words::print(rt, line);
+        words::print(rt, b"\n");
     }
 }
 
-fn print_comparison(first: &[u8], second: &[u8], tolerance: u16) {
+fn print_comparison(rt: &impl Print, first: &[u8], second: &[u8], tolerance: u16) {
     let mut line = [0; 160];
     let written = put_comparison(compare::compare(first, second, tolerance), &mut line);
-    words::print_written(&line, written);
-    print_difference(compare::first_difference(first, second, tolerance));
+    words::print_written(rt, &line, written);
+    print_difference(rt, compare::first_difference(first, second, tolerance));
 }
 
 // A word that is no number and a file that cannot be read print nothing.
-fn print_answer(first: &mut [u8], second: &mut [u8]) {
-    let Said::Number(tolerance) = words::number_at(3) else {
+fn print_answer(rt: &(impl Env + Files + Print), first: &mut [u8], second: &mut [u8]) {
+    let Said::Number(tolerance) = words::number_at(rt, 3) else {
         return;
     };
-    let Got::Bytes(n) = words::read_named(1, first) else {
+    let Got::Bytes(n) = words::read_named(rt, 1, first) else {
         return;
     };
-    let Got::Bytes(m) = words::read_named(2, second) else {
+    let Got::Bytes(m) = words::read_named(rt, 2, second) else {
         return;
     };
-    print_comparison(words::front(first, n), words::front(second, m), tolerance);
+    print_comparison(
+        rt,
+        words::front(first, n),
+        words::front(second, m),
+        tolerance,
+    );
 }
 
 // A text longer than what is read of it is refused by the same row at the same line (`text_buffer`), so it has no line to hand back.
-fn main() {
-    if os::arg_count() != 4 {
+fn main(rt: HostRuntime) {
+    if words::word_count(&rt) != 4 {
         return;
     }
     let mut first = words::text_buffer();
     let mut second = words::text_buffer();
-    print_answer(&mut first, &mut second);
+    print_answer(&rt, &mut first, &mut second);
 }

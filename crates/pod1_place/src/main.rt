@@ -5,23 +5,23 @@ use dates::Placed;
 use frames::{Header, Record, Refusal};
 use words::Said;
 
-fn print_header(header: Header) {
+fn print_header(rt: &impl Print, header: Header) {
     let mut line = [0; 160];
     let written = writer::write_frame(Record::Header(header), &mut line);
-    words::print_written(&line, written);
-    words::print(b"\n");
+    words::print_written(rt, &line, written);
+    words::print(rt, b"\n");
 }
 
-fn print_refused(refusal: Refusal) {
+fn print_refused(rt: &impl Print, refusal: Refusal) {
     let mut line = [0; 160];
     let written = lines::put_refused(frames::row_of(refusal), &mut line);
-    words::print_written(&line, written);
+    words::print_written(rt, &line, written);
 }
 
-fn print_placed(answer: Placed) {
+fn print_placed(rt: &impl Print, answer: Placed) {
     match answer {
-        Placed::Header(header) => print_header(header),
-        Placed::Refused(refusal) => print_refused(refusal),
+        Placed::Header(header) => print_header(rt, header),
+        Placed::Refused(refusal) => print_refused(rt, refusal),
     }
 }
 
@@ -31,24 +31,27 @@ fn tree_of(n: u16) -> u8 {
 }
 
 // A word that is no number prints nothing.
-fn main() {
-    if os::arg_count() != 6 {
+fn main(rt: HostRuntime) {
+    if words::word_count(&rt) != 6 {
         return;
     }
-    let Said::Number(tree) = words::number_at(1) else {
+    let Said::Number(tree) = words::number_at(&rt, 1) else {
         return;
     };
-    let Said::Number(year) = words::number_at(2) else {
+    let Said::Number(year) = words::number_at(&rt, 2) else {
         return;
     };
-    let Said::Number(level) = words::number_at(3) else {
+    let Said::Number(level) = words::number_at(&rt, 3) else {
         return;
     };
-    let Said::Number(latitude) = words::number_at(4) else {
+    let Said::Number(latitude) = words::number_at(&rt, 4) else {
         return;
     };
-    let Said::Number(height) = words::number_at(5) else {
+    let Said::Number(height) = words::number_at(&rt, 5) else {
         return;
     };
-    print_placed(dates::header_at(tree_of(tree), year, level, latitude, height));
+    print_placed(
+        &rt,
+        dates::header_at(tree_of(tree), year, level, latitude, height),
+    );
 }

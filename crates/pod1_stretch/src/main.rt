@@ -7,6 +7,8 @@ ghost use Rattle.stretch_spec.specs.Worst.{stretch_as};
 ghost use Rattle.pod1_stretch.specs.Answer.{stretch_line};
 
 use frames::Written;
+use std::env::Env;
+use std::rt::Files;
 use stretch::Stretch;
 use words::{Got, Said};
 
@@ -22,30 +24,30 @@ fn put_stretch(answer: Stretch, buf: &mut [u8]) -> Written
 }
 
 // The scratch has room for the most days, so row 21 does not come up.
-fn print_stretch(text: &[u8], days: u16) {
+fn print_stretch(rt: &impl Print, text: &[u8], days: u16) {
     let mut scratch = [0; 1098];
     let mut line = [0; 160];
     let answer = stretch::worst_stretch(text, days, &mut scratch);
     let written = put_stretch(answer, &mut line);
-    words::print_written(&line, written);
+    words::print_written(rt, &line, written);
 }
 
 // A word that is no number and a file that cannot be read print nothing.
-fn print_answer(text: &mut [u8]) {
-    let Said::Number(days) = words::number_at(1) else {
+fn print_answer(rt: &(impl Env + Files + Print), text: &mut [u8]) {
+    let Said::Number(days) = words::number_at(rt, 1) else {
         return;
     };
-    let Got::Bytes(n) = words::read_named(2, text) else {
+    let Got::Bytes(n) = words::read_named(rt, 2, text) else {
         return;
     };
-    print_stretch(words::front(text, n), days);
+    print_stretch(rt, words::front(text, n), days);
 }
 
 // A text longer than what is read of it is refused by the same row at the same line (`text_buffer`).
-fn main() {
-    if os::arg_count() != 3 {
+fn main(rt: HostRuntime) {
+    if words::word_count(&rt) != 3 {
         return;
     }
     let mut text = words::text_buffer();
-    print_answer(&mut text);
+    print_answer(&rt, &mut text);
 }

@@ -2,24 +2,24 @@
 use cases::{print, print_number};
 use power::{Factor, Reduced};
 
-pub(crate) fn print_powers(powers: Reduced) {
+pub(crate) fn print_powers(rt: &impl Print, powers: Reduced) {
     match powers {
         Reduced::Of { p, q } => {
-            print_number(p as u64);
-            print(b" ");
-            print_number(q as u64);
+            print_number(rt, p as u64);
+            print(rt, b" ");
+            print_number(rt, q as u64);
         }
-        Reduced::None => print(b"none"),
+        Reduced::None => print(rt, b"none"),
     }
 }
 
-pub(crate) fn print_factor(factor: Factor) {
+pub(crate) fn print_factor(rt: &impl Print, factor: Factor) {
     match factor {
         Factor::Pair(pair) => {
-            print_number(pair.lower);
-            print(b" ");
-            print_number(pair.upper);
+            print_number(rt, pair.lower);
+            print(rt, b" ");
+            print_number(rt, pair.upper);
         }
-        Factor::Unfit => print(b"unfit"),
+        Factor::Unfit => print(rt, b"unfit"),
     }
 }

@@ -31,18 +31,18 @@ fn figures_of(row: &[u8]) -> Figures {
     }
 }
 
-fn print_row(row: &[u8]) {
+fn print_row(rt: &impl Print, row: &[u8]) {
     let f = figures_of(row);
-    print_powers(power::powers(f.tmin, f.topt, f.tmax));
-    print(b" ");
-    print_factor(power::f_temp(f, u16_at(row, 30)));
-    print(b"\n");
+    print_powers(rt, power::powers(f.tmin, f.topt, f.tmax));
+    print(rt, b" ");
+    print_factor(rt, power::f_temp(f, u16_at(row, 30)));
+    print(rt, b"\n");
 }
 
-pub(crate) fn print_rows(text: &[u8]) {
+pub(crate) fn print_rows(rt: &impl Print, text: &[u8]) {
     let mut rest = text;
     while 0 < rest.len() {
-        print_row(cases::line(rest));
+        print_row(rt, cases::line(rest));
         let next = cases::after_line(rest);
         rest = next;
     }

@@ -3,7 +3,7 @@
 
 mod reports;
 
-fn main() {
+fn main(rt: HostRuntime) {
     let mut buf = cases::buffer();
-    reports::print_cases(&mut buf);
+    reports::print_cases(&rt, &mut buf);
 }

@@ -3,7 +3,7 @@
 
 mod stretches;
 
-fn main() {
+fn main(rt: HostRuntime) {
     let mut buf = cases::buffer();
-    stretches::print_cases(&mut buf);
+    stretches::print_cases(&rt, &mut buf);
 }

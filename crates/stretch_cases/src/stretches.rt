@@ -3,23 +3,23 @@
 use cases::{print, print_next, u8_at, u16_at, u32_at};
 use stretch::Stretch;
 
-fn print_stretch(found: Stretch) {
+fn print_stretch(rt: &impl Print, found: Stretch) {
     match found {
         Stretch::Found { sum, day } => {
-            print(b"found");
-            print_next(sum as u64);
-            print_next(day as u64);
+            print(rt, b"found");
+            print_next(rt, sum as u64);
+            print_next(rt, day as u64);
         },
-        Stretch::NoneYet => print(b"none yet"),
+        Stretch::NoneYet => print(rt, b"none yet"),
         Stretch::Stopped { row, line } => {
-            print(b"refused");
-            print_next(row as u64);
-            print(b" line");
-            print_next(line);
+            print(rt, b"refused");
+            print_next(rt, row as u64);
+            print(rt, b" line");
+            print_next(rt, line);
         },
         Stretch::Refused(refusal) => {
-            print(b"row");
-            print_next(frames::row_of(refusal) as u64);
+            print(rt, b"row");
+            print_next(rt, frames::row_of(refusal) as u64);
         },
     }
 }
@@ -40,22 +40,23 @@ fn run_of(buf: &[u8], from: usize, byte: u8) -> usize {
 }
 
 // The stretch by the front of a buffer: the answer, the zeros that the buffer starts with, and the bytes after them that are as before.
-fn print_by(text: &[u8], days: u16, room: usize, mark: u8, buf: &mut [u8]) {
+fn print_by(rt: &impl Print, text: &[u8], days: u16, room: usize, mark: u8, buf: &mut [u8]) {
     if buf.len() < room {
         return;
     }
     let found = stretch::worst_stretch(text, days, &mut buf[0..room]);
-    print_stretch(found);
+    print_stretch(rt, found);
     let zeros = run_of(buf, 0, 0);
-    print_next(zeros as u64);
-    print_next(run_of(buf, zeros, mark) as u64);
-    print(b"\n");
+    print_next(rt, zeros as u64);
+    print_next(rt, run_of(buf, zeros, mark) as u64);
+    print(rt, b"\n");
 }
 
-fn print_case(text: &[u8], head: &[u8]) {
+fn print_case(rt: &impl Print, text: &[u8], head: &[u8]) {
     let mark = u8_at(head, 16);
     let mut buf = [mark; 4096];
     print_by(
+        rt,
         text,
         u16_at(head, 8),
         u16_at(head, 12) as usize,
@@ -65,7 +66,7 @@ fn print_case(text: &[u8], head: &[u8]) {
 }
 
 // The text's length, the text being in the buffer.
-fn text_in(buf: &mut [u8], said: u32, held: usize) -> usize {
+fn text_in(rt: &impl Input, buf: &mut [u8], said: u32, held: usize) -> usize {
     if said == 4294967295 {
         return held;
     }
@@ -73,7 +74,7 @@ fn text_in(buf: &mut [u8], said: u32, held: usize) -> usize {
     if buf.len() < n {
         return 0;
     }
-    cases::read(&mut buf[0..n]);
+    cases::read(rt, &mut buf[0..n]);
     n
 }
 
@@ -84,27 +85,27 @@ enum Next {
 }
 
 // The next case, the text before being so long.
-fn print_one(buf: &mut [u8], held: usize) -> Next {
+fn print_one(rt: &(impl Input + Print), buf: &mut [u8], held: usize) -> Next {
     let mut head = [0; 19];
-    let got = cases::read(&mut head);
+    let got = cases::read(rt, &mut head);
     if got < 19 {
         return Next::End;
     }
-    let n = text_in(buf, u32_at(&head, 0), held);
+    let n = text_in(rt, buf, u32_at(&head, 0), held);
     if buf.len() < n {
         return Next::End;
     }
-    print_case(&buf[0..n], &head);
+    print_case(rt, &buf[0..n], &head);
     Next::Text(n)
 }
 
 // A proved loop has to end, and nothing says that the input does.
 const MOST_CASES: u64 = 1000000;
 
-pub(crate) fn print_cases(buf: &mut [u8]) {
+pub(crate) fn print_cases(rt: &(impl Input + Print), buf: &mut [u8]) {
     let mut held = 0;
     for _ in 0..MOST_CASES {
-        let next = print_one(buf, held);
+        let next = print_one(rt, buf, held);
         match next {
             Next::Text(n) => held = n,
             Next::End => return,

@@ -6,7 +6,6 @@ use Rattle.trees.specs.declared.Phenology.{Phenology}
 use Rattle.trees.specs.declared.Phenology.TheVariants.{Ramps, Dip, Temperature}
 use Rattle.trees.specs.declared.Curve.{Curve}
 use Rattle.trees.specs.declared.Curve.TheVariants.{BorealSpruce, Birch, ContinentalSpruce, Beech, Oak, Evergreen}
-use Rattle.trees.specs.declared.Source.{Source}
 use Rattle.trees.specs.declared.Source.TheVariants.{Tabled}
 use Rattle.trees.specs.declared.Figures.{Figures}
 use Rattle.trees.specs.declared.Choice.{Choice}

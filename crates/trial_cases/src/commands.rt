@@ -14,24 +14,24 @@ struct Held {
     made: Trial,
 }
 
-fn tried(held: Held, line: &[u8]) -> Held {
+fn tried(rt: &impl Print, held: Held, line: &[u8]) -> Held {
     let account = held.account;
     let made = trial::trial(account, line);
-    print_trial(made);
+    print_trial(rt, made);
     Held { account, made }
 }
 
-fn fed(held: Held, line: &[u8]) -> Held {
+fn fed(rt: &impl Print, held: Held, line: &[u8]) -> Held {
     let made = held.made;
-    let account = print_fed(account::feed(held.account, line));
-    print(b"\n");
+    let account = print_fed(rt, account::feed(held.account, line));
+    print(rt, b"\n");
     Held { account, made }
 }
 
-fn taken(held: Held) -> Held {
+fn taken(rt: &impl Print, held: Held) -> Held {
     let made = held.made;
-    let account = print_fed(trial::take(held.account, made));
-    print(b"\n");
+    let account = print_fed(rt, trial::take(held.account, made));
+    print(rt, b"\n");
     Held { account, made }
 }
 
@@ -46,7 +46,7 @@ fn with_trial(held: Held, made: Trial) -> Held {
 }
 
 // What a command leaves.
-fn obeyed(held: Held, command: &[u8]) -> Held {
+fn obeyed(rt: &impl Print, held: Held, command: &[u8]) -> Held {
     if command.len() == 0 {
         return held;
     }
@@ -55,9 +55,9 @@ fn obeyed(held: Held, command: &[u8]) -> Held {
     let made = held.made;
     match command[0] {
         b'H' => with_account(held, with_field(account, rest)),
-        b'F' => fed(held, rest),
-        b'T' => tried(held, rest),
-        b'K' => taken(held),
+        b'F' => fed(rt, held, rest),
+        b'T' => tried(rt, held, rest),
+        b'K' => taken(rt, held),
         b'P' => with_trial(held, forged::with_tried(made, rest)),
         b'Q' => with_trial(held, forged::with_acceptance(made, rest)),
         b'R' => with_trial(held, forged::with_refusal(made, rest)),
@@ -66,7 +66,7 @@ fn obeyed(held: Held, command: &[u8]) -> Held {
     }
 }
 
-pub(crate) fn run_lines(text: &[u8]) {
+pub(crate) fn run_lines(rt: &impl Print, text: &[u8]) {
     let fresh = account::fresh();
     let mut held = Held {
         account: fresh,
@@ -74,7 +74,7 @@ pub(crate) fn run_lines(text: &[u8]) {
     };
     let mut rest = text;
     while 0 < rest.len() {
-        held = obeyed(held, cases::line(rest));
+        held = obeyed(rt, held, cases::line(rest));
         let next = cases::after_line(rest);
         rest = next;
     }

@@ -2,7 +2,8 @@
 ghost use Rattle.std.specs.Prelude.{◌≤◌, min, ◌≡◌};
 ghost use Rattle.words.specs.Number.{greatest, number_of, said_as};
 
-use crate::input::word_buffer;
+use crate::input::{word_at, word_buffer};
+use std::env::Env;
 
 // A number, the greatest of its type for any that is greater; or the word is no number.
 #[derive(Clone, Copy)]
@@ -42,8 +43,8 @@ pub fn number(word: &[u8]) -> Said
 }
 
 // What the program's word at a place says, its own name being at place 0.
-pub fn number_at(place: usize) -> Said {
+pub fn number_at(rt: &impl Env, place: usize) -> Said {
     let mut word = word_buffer();
-    let n = os::arg(place, &mut word);
+    let n = word_at(rt, place, &mut word);
     number(&word[..n])
 }

@@ -2,6 +2,11 @@
 ghost use Rattle.std.specs.Prelude.{◌+◌, ◌≤◌, ◌≡◌, length};
 ghost use Rattle.words.specs.Input.{bytes_in};
 
+use std::env::{Env, FillError};
+use std::fs::File;
+use std::io::Read;
+use std::rt::Files;
+
 // How many bytes were read, or that a read failed.
 #[derive(Clone, Copy)]
 pub enum Got {
@@ -23,26 +28,55 @@ pub fn text_buffer() -> [u8; 364544]
     [0; 364544]
 }
 
+// Whether there is a word at a place, even one that is longer than the buffer.
+fn is_word(rt: &impl Env, place: usize) -> bool {
+    let mut start = [0; 1];
+    match rt.arg(place, &mut start) {
+        Ok(_) => true,
+        Err(FillError::TooLong) => true,
+        Err(FillError::NotPresent) => false,
+    }
+}
+
+// How many words the program was started with, its own name among them.
+pub fn word_count(rt: &impl Env) -> usize {
+    for place in 0..usize::MAX {
+        if !is_word(rt, place) {
+            return place;
+        }
+    }
+    usize::MAX
+}
+
+// The bytes of the program's word at a place, its own name being at place 0, at the buffer's start: how many there are, 0 for a word that is missing or longer
+// than the buffer.
+pub fn word_at(rt: &impl Env, place: usize, buf: &mut [u8]) -> usize
+    ensures { result ≤ length buf.new }
+{
+    match rt.arg(place, buf) {
+        Ok(n) => n,
+        Err(_) => 0,
+    }
+}
+
 // One read, to the buffer's place `from` on.
-fn read_at(fd: i32, buf: &mut [u8], from: usize) -> Got
+fn read_at<R: Read>(input: &mut R, buf: &mut [u8], from: usize) -> Got
     requires { from ≤ length buf.old }
     ensures { from + bytes_in result ≤ length buf.old }
 {
-    let part = &mut buf[from..];
-    let got = libc::read(fd, part);
-    if got < 0 {
-        return Got::Failed;
+    match input.read(&mut buf[from..]) {
+        Ok(n) => Got::Bytes(n),
+        Err(_) => Got::Failed,
     }
-    Got::Bytes(io::count(got, part))
 }
 
 // Until the buffer is full or the input ends.
-pub fn fill(fd: i32, buf: &mut [u8]) -> Got
+pub fn fill<R: Read>(input: &mut R, buf: &mut [u8]) -> Got
     ensures { bytes_in result ≤ length buf.new }
 {
     let mut n = 0;
     while n < buf.len() {
-        let got = read_at(fd, buf, n);
+        let got = read_at(input, buf, n);
         let Got::Bytes(more) = got else {
             return Got::Failed;
         };
@@ -54,17 +88,24 @@ pub fn fill(fd: i32, buf: &mut [u8]) -> Got
     Got::Bytes(n)
 }
 
-// The file that the program's word at a place names, its own name being at place 0. A name that is missing or too long names no file.
-pub fn read_named(place: usize, buf: &mut [u8]) -> Got
+// The file that a word of the program names.
+fn read_file(rt: &impl Files, name: &[u8], buf: &mut [u8]) -> Got
+    ensures { bytes_in result ≤ length buf.new }
+{
+    let Ok(path) = str::from_utf8(name) else {
+        return Got::Failed;
+    };
+    let Ok(mut file) = File::open(rt, path) else {
+        return Got::Failed;
+    };
+    fill(&mut file, buf)
+}
+
+// The file that the program's word at a place names, its own name being at place 0. A name that is missing, too long or not UTF-8 names no file.
+pub fn read_named(rt: &(impl Env + Files), place: usize, buf: &mut [u8]) -> Got
     ensures { bytes_in result ≤ length buf.new }
 {
     let mut name = word_buffer();
-    let n = os::arg(place, &mut name);
-    let fd = os::open_read(&name[..n]);
-    if fd < 0 {
-        return Got::Failed;
-    }
-    let got = fill(fd, buf);
-    libc::close(fd);
-    got
+    let n = word_at(rt, place, &mut name);
+    read_file(rt, &name[..n], buf)
 }

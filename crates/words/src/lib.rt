@@ -6,5 +6,5 @@ mod input;
 mod output;
 
 pub use digits::{Said, number, number_at};
-pub use input::{Got, fill, read_named, text_buffer, word_buffer};
+pub use input::{Got, fill, read_named, text_buffer, word_at, word_buffer, word_count};
 pub use output::{front, print, print_written};

@@ -1,7 +1,6 @@
 -- The round trip: a record that the writer accepts is read back as itself, a line that is read is written back, and the writer answers no other rows.
 use Prim.Native.Nat.{ℕ, ◌≤◌}
 use mathlib.Core.Path.{◌≡◌, refl, sym, ap, subst, ◌∙◌}
-use mathlib.Core.Bool.{false}
 use mathlib.Core.List.{List, ◌++◌}
 use borrow.Author.Tests.{le-ltb}
 use lib.Dec.{ltb}

@@ -1,6 +1,5 @@
 -- `account_read::read` meets its contract.
 use mathlib.Core.Path.{sym, ◌∙◌}
-use borrow.Author.Rules.{rules}
 use Rattle.account_spec.proofs.RuleLaws.{reads-impossible, reads-given}
 use Rattle.account_read.proofs.read.Goals as goal
 

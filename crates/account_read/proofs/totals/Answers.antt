@@ -1,5 +1,4 @@
 -- `account_read::totals` meets its contract.
-use borrow.Author.Rules.{rules}
 use Rattle.account_read.proofs.totals.Goals as goal
 
 pub returns : goal.returns

@@ -1,11 +1,9 @@
 -- `account_read::verdict` meets its contract.
-use Prim.Native.Nat.{ℕ, ◌*◌}
+use Prim.Native.Nat.{◌*◌}
 use mathlib.Core.Path.{◌≡◌}
 use mathlib.Core.Bool.{false}
 use native.Mathlib.Omega.{arith}
-use borrow.Author.Rules.{rules}
 use borrow.Author.Tests.{lt-ltb, le-ltb, lt-leb, le-leb}
-use Rattle.account_spec.specs.declared.Sums.{Sums}
 use Rattle.account_spec.specs.Account.{is_fresh}
 use Rattle.account_spec.specs.Reading.{verdict_of}
 use Rattle.account_spec.proofs.RuleLaws.{fresh-false}

@@ -1,12 +1,9 @@
 -- `dates::header_at` meets its contract: rows 5, 6 and 14, then those of the header made.
 use mathlib.Core.Path.{◌≡◌, sym, ap, ◌∙◌}
 use mathlib.Core.Bool.{false}
-use borrow.Author.Rules.{rules}
-use Rattle.trees.specs.declared.Figures.{Figures}
 use Rattle.trees.specs.declared.Choice.{Choice}
 use Rattle.measured.specs.Parameters.{no_parameters}
 use Rattle.measured.specs.Figures.{figures_in}
-use Rattle.records.specs.declared.Header.{Header}
 use Rattle.records.specs.declared.Checked.{Checked}
 use Rattle.records.specs.Answers.{accepted, onward, checked_as}
 use Rattle.records.specs.Numbers.{is_outside}

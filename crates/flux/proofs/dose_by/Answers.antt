@@ -1,6 +1,5 @@
 -- `flux::dose_by` meets its contract.
-use Rattle.std.proofs.Common.{◌≡◌, false, sym, refl, ap, ◌∙◌, rules}
-use Rattle.trees.specs.declared.Figures.{Figures}
+use Rattle.std.proofs.Common.{◌≡◌, false, sym, refl, ap, ◌∙◌}
 use Rattle.records.specs.declared.Record.{Record}
 use Rattle.records.specs.Ranges.{hour_checked, checked, ceiling_out, warmth_broken, lacks_ceiling}
 use Rattle.records.specs.Answers.{accepted, checked_as}
@@ -35,7 +34,6 @@ returns-then-lacks_ceiling c = let warm : warmth_broken c.args.age.warmth ≡ fa
     let within : ceiling_out c.args.ceiling ≡ false = sym c.ceiling_out.ensures ∙ c.if-ceiling_out.false in
     lacks-ceiling-is _ _ _ _ _ _ _ refl (warm) (days) (within) (sym c.lacks_ceiling.ensures ∙ c.if-lacks_ceiling.true)
 
-
 pub returns-in-Refused : goal.returns-in-Refused
 returns-in-Refused c = let warm : warmth_broken c.args.age.warmth ≡ false = sym c.warmth_broken.ensures ∙ c.if-warmth_broken.false in
     let days : days_out (c.args.figures) c.args.first c.args.last ≡ false = sym c.days_out.ensures ∙ c.if-days_out.false in
@@ -44,14 +42,14 @@ returns-in-Refused c = let warm : warmth_broken c.args.age.warmth ≡ false = sy
     let range : let h = c.args.h in checked_as c.check_hour-answer.result ≡ hour_checked (soil_unfit (c.args.figures).measure h.soil) h = rw c.soil_unfit.ensures at c.check_hour-answer.ensures in
     reading-out-is _ _ _ _ _ _ _ refl (warm) (days) (within) (has) _ (sym (range) ∙ ap checked_as c.in-Refused.is)
 
-
 pub pair_alone-requires : goal.pair_alone-requires
-pair_alone-requires c = record { stand = let within : ceiling_out c.args.ceiling ≡ false = sym c.ceiling_out.ensures ∙ c.if-ceiling_out.false in
-    let range : let h = c.args.h in checked_as c.check_hour-answer.result ≡ hour_checked (soil_unfit (c.args.figures).measure h.soil) h = rw c.soil_unfit.ensures at c.check_hour-answer.ensures in
-    let passed : let h = c.args.h in hour_checked (soil_unfit (c.args.figures).measure h.soil) h ≡ accepted tt = sym (range) ∙ ap checked_as c.in_default.is in
-    let fit : checked (Record.Hour c.args.h) ≡ accepted tt = fit-checked (c.args.figures).measure c.args.h passed in
-    record { sound = c.requires.sound; tabled = c.requires.tabled; few = ceiling-le _ (within); own-kind = refl; passes = fit } }
-
+pair_alone-requires c = record {
+  stand = let within : ceiling_out c.args.ceiling ≡ false = sym c.ceiling_out.ensures ∙ c.if-ceiling_out.false in
+      let range : let h = c.args.h in checked_as c.check_hour-answer.result ≡ hour_checked (soil_unfit (c.args.figures).measure h.soil) h = rw c.soil_unfit.ensures at c.check_hour-answer.ensures in
+      let passed : let h = c.args.h in hour_checked (soil_unfit (c.args.figures).measure h.soil) h ≡ accepted tt = sym (range) ∙ ap checked_as c.in_default.is in
+      let fit : checked (Record.Hour c.args.h) ≡ accepted tt = fit-checked (c.args.figures).measure c.args.h passed in
+      record { sound = c.requires.sound; tabled = c.requires.tabled; few = ceiling-le _ (within); own-kind = refl; passes = fit };
+}
 
 pub returns : goal.returns
 returns c = let warm : warmth_broken c.args.age.warmth ≡ false = sym c.warmth_broken.ensures ∙ c.if-warmth_broken.false in

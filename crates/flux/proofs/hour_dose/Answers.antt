@@ -1,9 +1,6 @@
 -- `flux::hour_dose` meets its contract.
-use Rattle.std.proofs.Common.{sym, ap, ◌∙◌, rules}
+use Rattle.std.proofs.Common.{sym, ap, ◌∙◌}
 use Rattle.records.proofs.ParameterLaws.{figures-in-tabled}
-use Rattle.flux_spec.specs.BenchCases.{BenchCases}
-use Rattle.flux_spec.specs.Enclosure.{Enclosure}
-use Rattle.flux_spec.specs.Facts.{HourFacts}
 use Rattle.flux_spec.specs.HourDose.{named_as}
 use Rattle.flux_spec.proofs.BenchCases.{bench-cases}
 use Rattle.flux_spec.proofs.EnclosureLaws.{tree-named, enclosure}

@@ -1,5 +1,5 @@
 -- `flux::tree_of` meets its contract: row 24, then the tree's figures or row 5.
-use Rattle.std.proofs.Common.{◌≡◌, false, ◌&&◌, eqb, sym, ◌∙◌, rules}
+use Rattle.std.proofs.Common.{◌≡◌, false, ◌&&◌, eqb, sym, ◌∙◌}
 use Rattle.records.specs.Parameters.{parameter_out}
 use Rattle.flux_spec.proofs.HourDoseLaws.{parameters-out-is, tree_is, no-figures-is}
 use Rattle.flux.proofs.tree_of.Goals as goal

@@ -1,5 +1,4 @@
 -- `frames::answered` meets its contract.
-use borrow.Author.Rules.{rules}
 use Rattle.frames.proofs.answered.Goals as goal
 
 pub returns-in-Sound : goal.returns-in-Sound

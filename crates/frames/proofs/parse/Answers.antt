@@ -1,10 +1,7 @@
 -- `frames::parse` meets its contract: rows 1 to 3 in order, then the frame.
-use Prim.Native.Nat.{ℕ}
 use mathlib.Core.Path.{◌≡◌, sym, ap, ◌∙◌}
 use mathlib.Core.Bool.{true}
-use mathlib.Core.List.{List}
 use borrow.Author.Tests.{eq-eqb, ne_eqb, not-true, not-false}
-use borrow.Author.Rules.{rules}
 use lib.ListN.{length}
 use Rattle.records.specs.Answers.{accepted}
 use Rattle.frames.specs.Digits.{all_digits, byte_at}

@@ -1,6 +1,5 @@
 -- `frames::read_frame` meets its contract.
 use mathlib.Core.Path.{sym, ap, ◌∙◌}
-use borrow.Author.Rules.{rules}
 use Rattle.frames.specs.Frames.{read_frame_of}
 use Rattle.records.specs.Answers.{parsed_as}
 use Rattle.frames.proofs.RowLaws.{reader-rows}

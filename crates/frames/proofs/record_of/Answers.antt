@@ -1,5 +1,4 @@
 -- `frames::record_of` meets its contract.
-use borrow.Author.Rules.{rules}
 use Rattle.records.specs.Ranges.{checked}
 use Rattle.frames.specs.Frames.{sound_of, record_of}
 use Rattle.frames.proofs.record_of.Goals as goal

@@ -1,6 +1,5 @@
 -- `hour_lines::by_parse` meets its contract.
 use mathlib.Core.Path.{sym, ap, ◌∙◌}
-use borrow.Author.Rules.{rules}
 use Rattle.records.specs.Answers.{accepted, parsed_as}
 use Rattle.hour_lines.proofs.ReadLaws.{read-refused, read_is, read-other, read-no-hour}
 use Rattle.hour_lines.proofs.by_parse.Goals as goal

@@ -1,10 +1,6 @@
 -- `hour_lines::chunk` meets its contract: so many of its characters are read.
-use Prim.Native.Nat.{ℕ, ◌+◌, ◌-◌, ◌*◌, ◌≤◌}
-use mathlib.Core.Path.{◌≡◌, ap₂}
-use borrow.Author.Rules.{rules}
-use native.Mathlib.Omega.{arith}
+use Prim.Native.Nat.{◌-◌, ◌≤◌}
 use Rattle.hour_lines.specs.Steps.{ReadTo}
-use Rattle.hour_lines.proofs.ChunkLaws.{read_none, read_more}
 use Rattle.hour_lines.proofs.chunk.Given as goal
 
 abbrev pub invariant-loop-i : goal.invariant-loop-i

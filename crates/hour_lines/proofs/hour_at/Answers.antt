@@ -2,9 +2,7 @@
 use Prim.Native.Nat.{ℕ}
 use mathlib.Core.Path.{◌≡◌, ap, ap₂, ◌∙◌}
 use mathlib.Core.List.{List}
-use mathlib.Core.Logic.{⊎_elim}
 use native.Mathlib.Omega.{arith}
-use borrow.Author.Rules.{rules}
 use lib.ListN.{get_or}
 use Rattle.records.specs.declared.Air.TheVariants.{Deficit, Pressure, Humidity}
 use Rattle.frames.specs.Digits.{number_at}
@@ -20,11 +18,11 @@ use Rattle.hour_lines.proofs.hour_at.Goals.{in-4, in-5, in_default}
 pub returns-then-kind-eq4 : goal.returns-then-kind-eq4
 returns-then-kind-eq4 c = let air-is : (l : List ℕ) → HourIn c.args.kind l c.args.a.now c.args.b.now c.args.c.now → c.match-kind.air ≡ air_of c.args.kind (fields_at c.args.kind l) = λ l h. let vapour = c.number-vapour.ensures ∙ number-says l 16 _ h.second 8 24 (omega arith) (omega arith) in
     elim c.match-kind.branch [
-      in-4 w ↦ w.air-is ∙ ap₂ Pressure vapour (c.number-last.ensures ∙ pressure-says _ l _ _ _ h w.in-4.is) ∙ air-pressure _ l w.in-4.is
-    | in-5 w ↦ w.air-is ∙ ap Humidity vapour ∙ air-humidity _ l w.in-5.is
-    | in_default w ↦ w.air-is ∙ ap Deficit vapour ∙ air-deficit _ l (deficit-left _ h.sized.hour (λ e. omega arith) (λ e. omega arith))
+      | in-4 w ↦ w.air-is ∙ ap₂ Pressure vapour (c.number-last.ensures ∙ pressure-says _ l _ _ _ h w.in-4.is) ∙ air-pressure _ l w.in-4.is
+      | in-5 w ↦ w.air-is ∙ ap Humidity vapour ∙ air-humidity _ l w.in-5.is
+      | in_default w ↦ w.air-is ∙ ap Deficit vapour ∙ air-deficit _ l (deficit-left _ h.sized.hour (λ e. omega arith) (λ e. omega arith))
     ] in
-    let but-soil : (l : List ℕ) → HourIn c.args.kind l c.args.a.now c.args.b.now c.args.c.now → (soil : ℕ) → soil ≡ number_at 32 l → record { day = c.number.result; hour = get_or c.args.a.now 6 0; ozone = c.number-2.result; ppfd = c.number-3.result; radiation = c.number-4.result; temperature = c.number-5.result; air = c.match-kind.air; wind = c.number-6.result; soil = soil; } ≡ hour_in (c.args.kind) l = λ l h soil said. hour-is l h.sized.hour
+    let but-soil : (l : List ℕ) → HourIn c.args.kind l c.args.a.now c.args.b.now c.args.c.now → (soil : ℕ) → soil ≡ number_at 32 l → record { day = c.number.result; hour = get_or c.args.a.now 6 0; ozone = c.number-2.result; ppfd = c.number-3.result; radiation = c.number-4.result; temperature = c.number-5.result; air = c.match-kind.air; wind = c.number-6.result; soil = soil } ≡ hour_in (c.args.kind) l = λ l h soil said. hour-is l h.sized.hour
     (c.number.ensures ∙ number-says l 0 _ h.first 2 2 (omega arith) (omega arith))
     (h.first.byte 6 (omega arith))
     (c.number-2.ensures ∙ number-says l 0 _ h.first 8 8 (omega arith) (omega arith))
@@ -39,11 +37,11 @@ returns-then-kind-eq4 c = let air-is : (l : List ℕ) → HourIn c.args.kind l c
 pub returns-else-kind-eq4 : goal.returns-else-kind-eq4
 returns-else-kind-eq4 c = let air-is : (l : List ℕ) → HourIn c.args.kind l c.args.a.now c.args.b.now c.args.c.now → c.match-kind.air ≡ air_of c.args.kind (fields_at c.args.kind l) = λ l h. let vapour = c.number-vapour.ensures ∙ number-says l 16 _ h.second 8 24 (omega arith) (omega arith) in
     elim c.match-kind.branch [
-      in-4 w ↦ w.air-is ∙ ap₂ Pressure vapour (c.number-last.ensures ∙ pressure-says _ l _ _ _ h w.in-4.is) ∙ air-pressure _ l w.in-4.is
-    | in-5 w ↦ w.air-is ∙ ap Humidity vapour ∙ air-humidity _ l w.in-5.is
-    | in_default w ↦ w.air-is ∙ ap Deficit vapour ∙ air-deficit _ l (deficit-left _ h.sized.hour (λ e. omega arith) (λ e. omega arith))
+      | in-4 w ↦ w.air-is ∙ ap₂ Pressure vapour (c.number-last.ensures ∙ pressure-says _ l _ _ _ h w.in-4.is) ∙ air-pressure _ l w.in-4.is
+      | in-5 w ↦ w.air-is ∙ ap Humidity vapour ∙ air-humidity _ l w.in-5.is
+      | in_default w ↦ w.air-is ∙ ap Deficit vapour ∙ air-deficit _ l (deficit-left _ h.sized.hour (λ e. omega arith) (λ e. omega arith))
     ] in
-    let but-soil : (l : List ℕ) → HourIn c.args.kind l c.args.a.now c.args.b.now c.args.c.now → (soil : ℕ) → soil ≡ number_at 32 l → record { day = c.number.result; hour = get_or c.args.a.now 6 0; ozone = c.number-2.result; ppfd = c.number-3.result; radiation = c.number-4.result; temperature = c.number-5.result; air = c.match-kind.air; wind = c.number-6.result; soil = soil; } ≡ hour_in (c.args.kind) l = λ l h soil said. hour-is l h.sized.hour
+    let but-soil : (l : List ℕ) → HourIn c.args.kind l c.args.a.now c.args.b.now c.args.c.now → (soil : ℕ) → soil ≡ number_at 32 l → record { day = c.number.result; hour = get_or c.args.a.now 6 0; ozone = c.number-2.result; ppfd = c.number-3.result; radiation = c.number-4.result; temperature = c.number-5.result; air = c.match-kind.air; wind = c.number-6.result; soil = soil } ≡ hour_in (c.args.kind) l = λ l h soil said. hour-is l h.sized.hour
     (c.number.ensures ∙ number-says l 0 _ h.first 2 2 (omega arith) (omega arith))
     (h.first.byte 6 (omega arith))
     (c.number-2.ensures ∙ number-says l 0 _ h.first 8 8 (omega arith) (omega arith))

@@ -1,9 +1,7 @@
 -- `hour_lines::read` meets its contract: a line that goes the way of the chunks is read as `frames::parse` reads it.
-use Prim.Native.Nat.{ℕ, ◌≤◌}
+use Prim.Native.Nat.{◌≤◌}
 use mathlib.Core.Path.{◌≡◌}
-use mathlib.Core.List.{List}
 use native.Mathlib.Omega.{arith}
-use borrow.Author.Rules.{rules}
 use borrow.Author.Tests.{eqb-true}
 use lib.ListN.{length}
 use Rattle.hour_lines.specs.Steps.{LengthOf}

@@ -1,5 +1,4 @@
 -- `humidity::saturation` meets its contract.
-use mathlib.Core.Path.{sym, ◌∙◌}
 use borrow.Author.Rules.{rules}
 use borrow.Author.Tests.{lt-ltb, le-ltb}
 use Rattle.humidity.specs.Saturation.{saturation_of}

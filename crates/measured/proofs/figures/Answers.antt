@@ -1,5 +1,4 @@
 -- `measured::figures` meets its contract.
-use borrow.Author.Rules.{rules}
 use Rattle.measured.proofs.MeasuredLaws.{measured-facts}
 use Rattle.measured.proofs.figures.Goals as goal
 

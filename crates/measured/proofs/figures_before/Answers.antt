@@ -1,6 +1,5 @@
 -- `measured::figures_before` meets its contract.
 use mathlib.Core.Path.{refl, ap, ◌∙◌}
-use borrow.Author.Rules.{rules}
 use borrow.Author.Tests.{ne_eqb}
 use Rattle.trees.specs.declared.Choice.TheVariants.{Tree}
 use Rattle.power.specs.Powers.{powers_of}

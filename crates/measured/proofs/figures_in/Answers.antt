@@ -1,6 +1,5 @@
 -- `measured::figures_in` meets its contract: 7 is the measured tree, every other number is left to the six.
 use mathlib.Core.Path.{ap, ◌∙◌}
-use borrow.Author.Rules.{rules}
 use borrow.Author.Tests.{ne_eqb}
 use Rattle.trees.specs.declared.Choice.TheVariants.{Tree}
 use Rattle.measured.specs.Figures.{figures_in}

@@ -1,5 +1,4 @@
 -- `measured::powers` meets its contract.
-use borrow.Author.Rules.{rules}
 use Rattle.measured.proofs.powers.Goals as goal
 
 pub returns : goal.returns

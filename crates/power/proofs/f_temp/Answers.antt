@@ -1,5 +1,4 @@
 -- `power::f_temp` meets its contract.
-use Rattle.std.proofs.Common.{rules}
 use Rattle.power.proofs.FitLaws.{fit-fits}
 use Rattle.power.proofs.AnswerLaws.{holds, factor-pair, factor-unfit}
 use Rattle.power.proofs.f_temp.Goals as goal

@@ -1,5 +1,4 @@
 -- `power::is_fit` meets its contract.
-use Rattle.std.proofs.Common.{rules}
 use Rattle.power.proofs.FitLaws.{rising-lt}
 use Rattle.power.proofs.AnswerLaws.{holds, fit-rising, fit-not-rising}
 use Rattle.power.proofs.is_fit.Goals as goal

@@ -1,5 +1,5 @@
 -- `power::is_in_ratio` meets its contract.
-use Rattle.std.proofs.Common.{◌-◌, arith, rules}
+use Rattle.std.proofs.Common.{◌-◌, arith}
 use Rattle.power.proofs.FitLaws.{product-u32}
 use Rattle.power.proofs.is_in_ratio.Goals as goal
 

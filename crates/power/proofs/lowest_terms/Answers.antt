@@ -1,6 +1,6 @@
 -- `power::lowest_terms` meets its contract: p·rise and r are q·fall, and no smaller q leaves 0.
-use Rattle.std.proofs.Common.{◌≡◌, ◌+◌, ◌-◌, ◌*◌, ◌<◌, ◌≤◌, mod-lt, div-add-mod', div-le_self, arith}
-use Rattle.power.proofs.LowestLaws.{NoneBelow, rest-next, rest-carried, none-next, lowest-small, lowest-large-p, lowest-large-q}
+use Rattle.std.proofs.Common.{◌≡◌, mod-lt, div-add-mod', div-le_self, arith}
+use Rattle.power.proofs.LowestLaws.{rest-next, rest-carried, none-next, lowest-small, lowest-large-p, lowest-large-q}
 use Rattle.power.proofs.lowest_terms.Goals as goal
 
 pub loop-r-init : goal.loop-r-init

@@ -1,5 +1,5 @@
 -- `power::pair_at` meets its contract.
-use Rattle.std.proofs.Common.{arith, rules}
+use Rattle.std.proofs.Common.{arith}
 use Rattle.trees.proofs.TemperatureLookup.{pair-floor}
 use Rattle.power.proofs.AnswerLaws.{pair_inside}
 use Rattle.power.proofs.pair_at.Goals as goal

@@ -1,5 +1,5 @@
 -- `power::powers` meets its contract.
-use Rattle.std.proofs.Common.{arith, rules}
+use Rattle.std.proofs.Common.{arith}
 use Rattle.power.proofs.LowestLaws.{powers-rising, powers-none-low, powers-none-high}
 use Rattle.power.proofs.powers.Goals as goal
 

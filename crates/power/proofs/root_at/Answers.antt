@@ -1,5 +1,5 @@
 -- `power::root_at` meets its contract.
-use Rattle.std.proofs.Common.{arith, rules}
+use Rattle.std.proofs.Common.{arith}
 use Rattle.power.proofs.TermLaws.{terms-asked, root_is}
 use Rattle.power.proofs.root_at.Goals as goal
 

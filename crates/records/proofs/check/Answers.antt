@@ -1,5 +1,4 @@
 -- `records::check` meets its contract.
-use borrow.Author.Rules.{rules}
 use Rattle.records.specs.Ranges.{checked}
 use Rattle.records.proofs.check.Goals as goal
 

@@ -1,5 +1,4 @@
 -- `records::row_of` meets its contract.
-use borrow.Author.Rules.{rules}
 use Rattle.records.proofs.row_of.Goals as goal
 
 pub returns-in-Length : goal.returns-in-Length

@@ -1,9 +1,5 @@
 use mathlib.Core.Path.{refl}
 use native.Mathlib.Omega.{arith}
-use borrow.Author.Rules.{rules}
-use Rattle.sums.proofs.ozone_sums.Reads as reads
-use Rattle.sums.proofs.ozone_sums.Lts as lts
-use Rattle.sums.proofs.excess.Reads as excess-reads
 use Rattle.sums.proofs.ozone_sums.Goals as goal
 
 pub returns-in-Tenths : goal.returns-in-Tenths

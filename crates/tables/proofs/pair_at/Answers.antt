@@ -1,5 +1,4 @@
 -- `tables::pair_at` meets its contract: each curve has its own tree's pair.
-use borrow.Author.Rules.{rules}
 use Rattle.tables.proofs.pair_at.Goals as goal
 
 pub returns-in-BorealSpruce : goal.returns-in-BorealSpruce

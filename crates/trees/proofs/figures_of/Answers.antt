@@ -2,7 +2,6 @@
 use mathlib.Core.Path.{ap}
 use mathlib.Core.Logic.{⊎_elim}
 use native.Mathlib.Omega.{arith}
-use borrow.Author.Rules.{rules}
 use borrow.Author.Tests.{lt-ltb, le-ltb, ne_eqb}
 use Rattle.trees.specs.declared.Choice.TheVariants.{Tree}
 use Rattle.trees.specs.Figures.{figures_of}
@@ -35,11 +34,14 @@ returns-in-6 c = record { value = rw c.in-6.is (ap Tree c.figures-in-6.ensures);
 
 pub returns-in_default : goal.returns-in_default
 unfolding figures_of
-returns-in_default c = let t = c.args.tree in record { value = simp (
-        ne_eqb t 1 (omega arith),
-        ne_eqb t 2 (omega arith),
-        ne_eqb t 3 (omega arith),
-        ne_eqb t 4 (omega arith),
-        ne_eqb t 5 (omega arith),
-        ne_eqb t 6 (omega arith),
-      ); row = ⊎_elim (λ h. simp (le-ltb t 1 h, lt-ltb 6 t (omega arith))) (λ h. rw (lt-ltb t 1 h)) (le-or-lt 1 t) }
+returns-in_default c = let t = c.args.tree in record {
+  value = simp (
+    ne_eqb t 1 (omega arith),
+    ne_eqb t 2 (omega arith),
+    ne_eqb t 3 (omega arith),
+    ne_eqb t 4 (omega arith),
+    ne_eqb t 5 (omega arith),
+    ne_eqb t 6 (omega arith),
+  );
+  row = ⊎_elim (λ h. simp (le-ltb t 1 h, lt-ltb 6 t (omega arith))) (λ h. rw (lt-ltb t 1 h)) (le-or-lt 1 t);
+}

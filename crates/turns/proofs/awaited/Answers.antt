@@ -1,7 +1,6 @@
 -- `turns::awaited` meets its contract.
 use mathlib.Core.Path.{refl, ap}
 use mathlib.Core.Bool.{not}
-use borrow.Author.Rules.{rules}
 use borrow.Author.Tests.{eq-eqb, ne_eqb}
 use Rattle.turns.proofs.awaited.Goals as goal
 

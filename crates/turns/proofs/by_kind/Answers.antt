@@ -1,8 +1,6 @@
 -- `turns::by_kind` meets its contract.
 use Prim.Native.Nat.{ℕ}
 use mathlib.Core.Path.{◌≡◌, sym, ap, ◌∙◌}
-use mathlib.Core.Logic.{⊎_elim}
-use borrow.Author.Rules.{rules}
 use borrow.Author.Tests.{not-true, not-false}
 use Rattle.records.specs.declared.Ozone.{Ozone}
 use Rattle.records.specs.Ranges.{lacks_ceiling}
@@ -42,13 +40,13 @@ pub returns : goal.returns
 returns c =
     let ceiling = c.args.s.season.ceiling in
     elim c.match-frame.branch [
-      in-Header w ↦ c.record_of.ensures ∙ rw (w.frame-is, w.in-Header.is) (header-in _ _)
-    | in-Hour+else-mixed+else-not-due+else-lacks_ceiling v ↦ c.record_of.ensures
-      ∙ rw (v.frame-is, v.in-Hour.is) (due_in _ _ (sym v.mixed.ensures ∙ v.if-mixed.false) (sym v.due.ensures ∙ not-false _ v.if-not-due.false-raw)
-      (lacks-is ceiling v.in-Hour.raw.ozone _ v.ozone_of.ensures ∙ sym v.lacks_ceiling.ensures ∙ v.if-lacks_ceiling.false))
-    | in-End+else-count_wrong u ↦ c.record_of.ensures ∙ rw (u.frame-is, u.in-End.is) (count-in _ _ (sym u.count_wrong.ensures ∙ u.if-count_wrong.false))
-    | in-Ceiling t ↦ c.record_of.ensures ∙ rw (t.frame-is, t.in-Ceiling.is) (ceiling-in _ _)
-    | in-Parameters+else-parameters_out+else-ramps_out s ↦ c.record_of.ensures
-      ∙ rw (s.frame-is, s.in-Parameters.is) (ramps-in _ _ (sym s.parameters_out.ensures ∙ s.if-parameters_out.false) (sym s.ramps_out.ensures ∙ s.if-ramps_out.false))
-    | in-Warmth s ↦ c.record_of.ensures ∙ rw (s.frame-is, s.in-Warmth.is) (warmth-in _ _)
+      | in-Header w ↦ c.record_of.ensures ∙ rw (w.frame-is, w.in-Header.is) (header-in _ _)
+      | in-Hour+else-mixed+else-not-due+else-lacks_ceiling v ↦ c.record_of.ensures
+          ∙ rw (v.frame-is, v.in-Hour.is) (due_in _ _ (sym v.mixed.ensures ∙ v.if-mixed.false) (sym v.due.ensures ∙ not-false _ v.if-not-due.false-raw)
+          (lacks-is ceiling v.in-Hour.raw.ozone _ v.ozone_of.ensures ∙ sym v.lacks_ceiling.ensures ∙ v.if-lacks_ceiling.false))
+      | in-End+else-count_wrong u ↦ c.record_of.ensures ∙ rw (u.frame-is, u.in-End.is) (count-in _ _ (sym u.count_wrong.ensures ∙ u.if-count_wrong.false))
+      | in-Ceiling t ↦ c.record_of.ensures ∙ rw (t.frame-is, t.in-Ceiling.is) (ceiling-in _ _)
+      | in-Parameters+else-parameters_out+else-ramps_out s ↦ c.record_of.ensures
+          ∙ rw (s.frame-is, s.in-Parameters.is) (ramps-in _ _ (sym s.parameters_out.ensures ∙ s.if-parameters_out.false) (sym s.ramps_out.ensures ∙ s.if-ramps_out.false))
+      | in-Warmth s ↦ c.record_of.ensures ∙ rw (s.frame-is, s.in-Warmth.is) (warmth-in _ _)
     ]

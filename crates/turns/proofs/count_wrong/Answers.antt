@@ -1,7 +1,6 @@
 -- `turns::count_wrong` meets its contract.
 use mathlib.Core.Path.{ap}
 use mathlib.Core.Bool.{not}
-use borrow.Author.Rules.{rules}
 use borrow.Author.Tests.{eq-eqb, ne_eqb}
 use Rattle.turns.proofs.count_wrong.Goals as goal
 

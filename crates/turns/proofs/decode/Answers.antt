@@ -1,6 +1,5 @@
 -- `turns::decode` meets its contract.
 use mathlib.Core.Path.{sym, ◌∙◌}
-use borrow.Author.Rules.{rules}
 use Rattle.account_spec.specs.Rules.{turn_of}
 use Rattle.turns.proofs.decode.Goals as goal
 

@@ -1,7 +1,6 @@
 -- `turns::due` meets its contract.
 use mathlib.Core.Path.{◌≡◌, sym, ◌∙◌}
 use mathlib.Core.Bool.{false}
-use borrow.Author.Rules.{rules}
 use borrow.Author.Tests.{eq-eqb, ne_eqb}
 use Rattle.records.specs.Period.{all_given}
 use Rattle.turns.proofs.due.Goals as goal

@@ -1,6 +1,5 @@
 -- `turns::mixed` meets its contract.
 use mathlib.Core.Path.{sym, ◌∙◌}
-use borrow.Author.Rules.{rules}
 use borrow.Author.Tests.{eq-eqb, ne_eqb}
 use Rattle.account_spec.specs.HourKinds.{kind_number}
 use Rattle.turns.proofs.mixed.Goals as goal

@@ -1,7 +1,6 @@
 -- `turns::open_turn` meets its contract.
 use mathlib.Core.Path.{refl, ap}
 use mathlib.Core.Bool.{not}
-use borrow.Author.Rules.{rules}
 use Rattle.turns.proofs.open_turn.Goals as goal
 
 pub returns-in-Header : goal.returns-in-Header

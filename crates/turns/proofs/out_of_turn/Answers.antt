@@ -1,6 +1,5 @@
 -- `turns::out_of_turn` meets its contract.
 use mathlib.Core.Path.{refl, sym, ap, ◌∙◌}
-use borrow.Author.Rules.{rules}
 use Rattle.account_spec.specs.declared.Phase.{Phase}
 use Rattle.account_spec.specs.Rules.{turn_in}
 use Rattle.turns.proofs.out_of_turn.Goals as goal

@@ -1,6 +1,5 @@
 -- `turns::timely` meets its contract.
 use mathlib.Core.Path.{sym, ◌∙◌}
-use borrow.Author.Rules.{rules}
 use borrow.Author.Tests.{not-true, not-false}
 use Rattle.account_spec.specs.Timely.{timely_in}
 use Rattle.turns.proofs.timely.Goals as goal

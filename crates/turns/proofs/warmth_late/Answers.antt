@@ -1,6 +1,5 @@
 -- `turns::warmth_late` meets its contract.
 use mathlib.Core.Path.{refl, sym, ◌∙◌}
-use borrow.Author.Rules.{rules}
 use borrow.Author.Tests.{not-true, not-false}
 use Rattle.turns.proofs.warmth_late.Goals as goal
 

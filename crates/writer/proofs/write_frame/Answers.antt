@@ -1,5 +1,4 @@
 -- `writer::write_frame` meets its contract.
-use borrow.Author.Rules.{rules}
 use Rattle.writer.proofs.WriterLaws.{write-refused, write-put}
 use Rattle.writer.proofs.RoundTrip.{round_trip}
 use Rattle.writer.proofs.write_frame.Goals as goal

@@ -1,7 +1,6 @@
 -- `account_read::limits::most_hour` meets its contract.
 use mathlib.Core.Path.{refl, sym, ◌∙◌}
 use native.Mathlib.Omega.{arith}
-use borrow.Author.Rules.{rules}
 use Rattle.account_read.proofs.limits.most_hour.Goals as goal
 
 pub returns-then-is_measured : goal.returns-then-is_measured

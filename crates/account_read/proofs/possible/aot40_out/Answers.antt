@@ -3,9 +3,7 @@ use Prim.Native.Nat.{ℕ, ◌*◌}
 use mathlib.Core.Path.{◌≡◌, ap}
 use mathlib.Core.Bool.{or-false}
 use native.Mathlib.Omega.{arith}
-use borrow.Author.Rules.{rules}
 use borrow.Author.Tests.{lt-ltb, le-ltb}
-use Rattle.account_spec.specs.declared.Sums.{Sums}
 use Rattle.account_spec.specs.Limits.{most_aot40}
 use Rattle.account_read.proofs.possible.aot40_out.Goals as goal
 

@@ -1,6 +1,5 @@
 -- `account_read::possible::begun_broken` meets its contract.
 use mathlib.Core.Path.{refl}
-use borrow.Author.Rules.{rules}
 use Rattle.account_spec.proofs.RuleLaws.{fresh-false}
 use Rattle.account_read.proofs.possible.begun_broken.Goals as goal
 

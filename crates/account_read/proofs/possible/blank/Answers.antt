@@ -1,6 +1,5 @@
 -- `account_read::possible::blank` meets its contract.
 use mathlib.Core.Path.{sym, ◌∙◌}
-use borrow.Author.Rules.{rules}
 use Rattle.account_read.proofs.possible.blank.Goals as goal
 
 pub returns-then-blank_season : goal.returns-then-blank_season

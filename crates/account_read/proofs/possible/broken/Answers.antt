@@ -1,7 +1,6 @@
 -- `account_read::possible::broken` meets its contract.
 use mathlib.Core.Path.{◌≡◌, refl, sym, ap, ◌∙◌}
 use mathlib.Core.Bool.{false}
-use borrow.Author.Rules.{rules}
 use Rattle.records.specs.declared.Record.{Record}
 use Rattle.records.specs.Answers.{checked_as}
 use Rattle.records.specs.Ranges.{checked}

@@ -3,10 +3,7 @@ use Prim.Native.Nat.{ℕ, ◌-◌, ◌*◌, ◌≤◌}
 use native.Mathlib.Nat.{mul-le-mul_right}
 use mathlib.Core.Bool.{or-false}
 use native.Mathlib.Omega.{arith}
-use borrow.Author.Rules.{rules}
 use borrow.Author.Tests.{lt-ltb, le-ltb}
-use Rattle.account_spec.specs.declared.Season.{Season}
-use Rattle.account_spec.specs.declared.Sums.{Sums}
 use Rattle.account_read.proofs.possible.doses_out.Goals as goal
 
 pub returns-then-s : goal.returns-then-s

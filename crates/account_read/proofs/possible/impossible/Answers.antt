@@ -2,11 +2,9 @@
 use mathlib.Core.Path.{◌≡◌, sym, ap, ◌∙◌}
 use mathlib.Core.Bool.{not, ◌&&◌, ◌||◌}
 use native.Mathlib.Omega.{arith}
-use borrow.Author.Rules.{rules}
 use borrow.Author.Tests.{lt-ltb, le-ltb}
 use lib.Dec.{ltb}
 use Rattle.records.specs.Period.{period_hours}
-use Rattle.account_spec.specs.declared.Account.{Account}
 use Rattle.account_spec.specs.HourKinds.{kind_out}
 use Rattle.account_spec.specs.Account.{is_begun, is_broken, unmeasured_in, warmth_alone, carried_out, impossible}
 use Rattle.account_spec.proofs.PossibleLaws.{by_phase, fresh-is, open_is, closed_is, sums_first}

@@ -1,5 +1,4 @@
 -- `account_read::possible::kind_out` meets its contract.
-use borrow.Author.Rules.{rules}
 use Rattle.account_read.proofs.possible.kind_out.Goals as goal
 
 pub returns-in-None : goal.returns-in-None

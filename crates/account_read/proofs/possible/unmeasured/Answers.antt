@@ -1,7 +1,6 @@
 -- `account_read::possible::unmeasured` meets its contract.
 use mathlib.Core.Path.{◌≡◌, refl, sym, ◌∙◌}
 use mathlib.Core.Bool.{true}
-use borrow.Author.Rules.{rules}
 use borrow.Author.Tests.{not-true, not-false}
 use Rattle.account_spec.specs.Account.{awaits}
 use Rattle.account_read.proofs.possible.unmeasured.Goals as goal

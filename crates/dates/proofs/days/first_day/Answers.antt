@@ -1,6 +1,5 @@
 -- `dates::days::first_day` meets its contract.
 use native.Mathlib.Omega.{arith}
-use borrow.Author.Rules.{rules}
 use Rattle.dates_spec.proofs.ModelLaws.{first_day-is}
 use Rattle.dates.proofs.days.first_day.Goals as goal
 

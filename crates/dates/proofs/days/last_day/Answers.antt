@@ -1,6 +1,5 @@
 -- `dates::days::last_day` meets its contract.
 use native.Mathlib.Omega.{arith}
-use borrow.Author.Rules.{rules}
 use Rattle.dates_spec.proofs.ModelLaws.{last_day-is}
 use Rattle.dates.proofs.days.last_day.Goals as goal
 

@@ -1,5 +1,5 @@
 -- `flux::boundary::guess` meets its contract: nothing leaves 64 bits.
-use Rattle.std.proofs.Common.{◌-◌, ◌/◌, ◌^◌, div-le_self, arith, rules}
+use Rattle.std.proofs.Common.{◌-◌, ◌/◌, ◌^◌, div-le_self, arith}
 use lib.Count.{count_leading_zeros, leading_le}
 use Rattle.flux.proofs.boundary.guess.Goals as goal
 

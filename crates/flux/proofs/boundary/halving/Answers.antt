@@ -1,5 +1,5 @@
 -- `flux::boundary::halving` meets its contract: r² ≤ n < (r + gap)² at each turn.
-use Rattle.std.proofs.Common.{◌≡◌, ℕ, ◌+◌, ◌-◌, ◌*◌, ◌/◌, ◌<◌, ◌≤◌, ⊎_elim, mul-le-mul, arith, rules}
+use Rattle.std.proofs.Common.{◌≡◌, ℕ, ◌+◌, ◌-◌, ◌*◌, ◌/◌, ◌<◌, ◌≤◌, mul-le-mul, arith}
 use Rattle.exact.proofs.SquareLaws.{square_root-is}
 use Rattle.flux_spec.proofs.BoundaryLaws.{square-small}
 use Rattle.flux.proofs.boundary.halving.Invariants.{Between}
@@ -21,10 +21,10 @@ module _ (n r gap : ℕ) (b : Between n r gap) (more : 1 < gap) where
       record { under = b.under; over = omega (arith, mul-le-mul up up); room = omega arith; size = omega arith }
 
 pub loop-gap-init : goal.loop-gap-init
-loop-gap-init c = 
+loop-gap-init c =
     elim c.if-n-lt1099511627776.branch [
-      then-n-lt1099511627776 w ↦ start _ 1048576 _ (omega arith) (omega arith) (omega arith) (omega arith)
-    | else-n-lt1099511627776 w ↦ start _ 33554432 _ (omega arith) (omega arith) (omega arith) (omega arith)
+      | then-n-lt1099511627776 w ↦ start _ 1048576 _ (omega arith) (omega arith) (omega arith) (omega arith)
+      | else-n-lt1099511627776 w ↦ start _ 33554432 _ (omega arith) (omega arith) (omega arith) (omega arith)
     ]
 
 pub overflow_mul-middle : goal.overflow_mul-middle
@@ -33,8 +33,8 @@ overflow_mul-middle c = omega (arith, square-small (c.loop-gap.r + c.loop-gap.ga
 pub loop-gap-preserved : goal.loop-gap-preserved
 loop-gap-preserved c = let n : ℕ = c.args.n in
     elim c.if-middle-n.branch [
-      then-middle-n w ↦ rw w.r-is (upper-half n c.loop-gap.r c.loop-gap.gap c.loop-gap.invariant (omega arith) (omega arith))
-    | else-middle-n w ↦ rw w.r-is (lower-half n c.loop-gap.r c.loop-gap.gap c.loop-gap.invariant (omega arith) (omega arith))
+      | then-middle-n w ↦ rw w.r-is (upper-half n c.loop-gap.r c.loop-gap.gap c.loop-gap.invariant (omega arith) (omega arith))
+      | else-middle-n w ↦ rw w.r-is (lower-half n c.loop-gap.r c.loop-gap.gap c.loop-gap.invariant (omega arith) (omega arith))
     ]
 
 pub returns : goal.returns

@@ -1,7 +1,5 @@
 -- `flux::boundary::halving` meets its contract: r² ≤ n < (r + gap)² at each turn.
-use Rattle.std.proofs.Common.{◌≡◌, ℕ, ◌+◌, ◌-◌, ◌*◌, ◌/◌, ◌<◌, ◌≤◌, ⊎_elim, mul-le-mul, arith, rules}
-use Rattle.exact.proofs.SquareLaws.{square_root-is}
-use Rattle.flux_spec.proofs.BoundaryLaws.{square-small}
+use Rattle.std.proofs.Common.{ℕ, ◌+◌, ◌*◌, ◌<◌, ◌≤◌}
 use Rattle.flux.proofs.boundary.halving.Given as goal
 
 pub record Between (n r gap : ℕ) : Type 0 where

@@ -1,6 +1,6 @@
 -- `flux::boundary::is_root` meets its contract: r² ≤ n < (r + 1)² where it says so.
 use mathlib.Core.Bool.{false≢true}
-use Rattle.std.proofs.Common.{ℕ, ◌+◌, ◌*◌, arith, rules, ltb-true}
+use Rattle.std.proofs.Common.{ℕ, ◌+◌, ◌*◌, arith, ltb-true}
 use Rattle.flux_spec.proofs.BoundaryLaws.{square-small}
 use Rattle.exact.proofs.SquareLaws.{square_root-is}
 use Rattle.flux.proofs.boundary.is_root.Goals as goal

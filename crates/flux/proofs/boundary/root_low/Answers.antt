@@ -1,5 +1,5 @@
 -- `flux::boundary::root_low` meets its contract.
-use Rattle.std.proofs.Common.{ℕ, ◌/◌, ◌<◌, ◌≤◌, mul-le-mul_left, div-mul-le_self, arith, rules}
+use Rattle.std.proofs.Common.{ℕ, ◌/◌, ◌<◌, ◌≤◌, mul-le-mul_left, div-mul-le_self, arith}
 use Rattle.flux_spec.specs.Pair.{root_low}
 use Rattle.flux.proofs.boundary.root_low.Goals as goal
 

@@ -1,5 +1,4 @@
 -- `flux::boundary::tested` meets its contract.
-use Rattle.std.proofs.Common.{rules}
 use Rattle.flux.proofs.boundary.tested.Goals as goal
 
 pub returns-then-is_root : goal.returns-then-is_root

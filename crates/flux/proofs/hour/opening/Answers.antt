@@ -1,5 +1,5 @@
 -- `flux::hour::opening` meets its contract.
-use Rattle.std.proofs.Common.{ap, ◌∙◌, arith, rules}
+use Rattle.std.proofs.Common.{ap, ◌∙◌, arith}
 use Rattle.trees.specs.Deficit.{IsDeficitPair}
 use Rattle.trees.specs.SoilWater.{soil_water_of}
 use Rattle.trees.proofs.TemperatureLaws.{temperature_pair-gap, temperature_pair-le}

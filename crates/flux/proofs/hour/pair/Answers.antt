@@ -1,5 +1,5 @@
 -- `flux::hour::pair` meets its contract.
-use Rattle.std.proofs.Common.{◌+◌, ◌-◌, ◌*◌, ap, ◌∙◌, arith, rules}
+use Rattle.std.proofs.Common.{◌+◌, ◌-◌, ◌*◌, ap, ◌∙◌, arith}
 use Rattle.flux_spec.specs.Pair.{quotient}
 use Rattle.flux_spec.proofs.BoundaryLaws.{root_low-200}
 use Rattle.flux_spec.proofs.QuotientSizes.{quotient-most}
@@ -20,6 +20,9 @@ overflow_add-quotient c = let a = c.args in
 
 pub returns : goal.returns
 returns c = let a = c.args in
-    record { lower = c.less.ensures
-          ∙ ap (λ q. q - 3600 * a.y) (c.quotient.ensures ∙ ap (λ r. quotient a.gmax a.c.lower a.s.lower (r + 1) 1) c.root_low-r.ensures); upper = c.less-2.ensures
-          ∙ ap (λ q. (q + 1) - 3600 * a.y) (c.quotient-2.ensures ∙ ap (λ r. quotient a.gmax a.c.upper a.s.upper r 0) c.root_low-r.ensures) }
+    record {
+      lower = c.less.ensures
+          ∙ ap (λ q. q - 3600 * a.y) (c.quotient.ensures ∙ ap (λ r. quotient a.gmax a.c.lower a.s.lower (r + 1) 1) c.root_low-r.ensures);
+      upper = c.less-2.ensures
+          ∙ ap (λ q. (q + 1) - 3600 * a.y) (c.quotient-2.ensures ∙ ap (λ r. quotient a.gmax a.c.upper a.s.upper r 0) c.root_low-r.ensures);
+    }

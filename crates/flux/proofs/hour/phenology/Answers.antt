@@ -1,5 +1,5 @@
 -- `flux::hour::phenology` meets its contract: by warmth where its frame stands, else by the day.
-use Rattle.std.proofs.Common.{◌≡◌, true, false, rules}
+use Rattle.std.proofs.Common.{◌≡◌, true, false}
 use Rattle.measured.specs.Warmth.{has_warmth}
 use Rattle.flux_spec.proofs.PhenologyLaws.{by-warmth-is, by-day-is}
 use Rattle.flux.proofs.hour.phenology.Goals as goal

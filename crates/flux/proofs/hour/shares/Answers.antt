@@ -1,5 +1,5 @@
 -- `flux::hour::shares` meets its contract.
-use Rattle.std.proofs.Common.{◌*◌, ◌^◌, ◌∙◌, arith, rules}
+use Rattle.std.proofs.Common.{◌*◌, ◌^◌, ◌∙◌, arith}
 use Rattle.flux_spec.proofs.LightLaws.{light-order, light_up-le}
 use Rattle.flux_spec.proofs.OpeningLaws.{opening_low-le, opening_up-le}
 use Rattle.flux.specs.Steps.{Factor}

@@ -1,5 +1,5 @@
 -- `flux::hour::tabled` meets its contract: no refusal comes up.
-use Rattle.std.proofs.Common.{◌≡◌, ℕ, sym, refl, ap, ◌∙◌, arith, rules}
+use Rattle.std.proofs.Common.{◌≡◌, ℕ, sym, refl, ap, ◌∙◌, arith}
 use Rattle.trees.specs.Figures.{owner_of}
 use Rattle.trees.specs.Temperature.{temperature_pair}
 use Rattle.records.specs.Answers.{accepted}

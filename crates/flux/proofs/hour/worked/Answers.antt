@@ -1,5 +1,5 @@
 -- `flux::hour::worked` meets its contract: sound figures have a pair.
-use Rattle.std.proofs.Common.{◌≡◌, ℕ, sym, ap, ◌∙◌, arith, rules}
+use Rattle.std.proofs.Common.{◌≡◌, ℕ, sym, ap, ◌∙◌, arith}
 use Rattle.exact.specs.declared.Bounds.{Bounds}
 use Rattle.trees.specs.Temperature.{temperature_pair}
 use Rattle.power.specs.declared.Factor.{Factor}

@@ -1,21 +1,21 @@
 -- `flux::light::decay` meets its contract: the three entries make decay_low.
-use Rattle.std.proofs.Common.{arith, rules}
+use Rattle.std.proofs.Common.{arith}
 use Rattle.flux.proofs.DecayLookup.{found-is, two-le, three-le}
 use Rattle.flux.proofs.light.decay.Goals as goal
 
 pub overflow_mul-result : goal.overflow_mul-result
 overflow_mul-result c = omega (
-      arith,
-      two-le c.args.n c.decay_entry-a.result c.decay_entry-b.result c.decay_entry-c.result c.decay_entry-a.ensures
-          c.decay_entry-b.ensures c.decay_entry-c.ensures,
-    )
+  arith,
+  two-le c.args.n c.decay_entry-a.result c.decay_entry-b.result c.decay_entry-c.result c.decay_entry-a.ensures
+      c.decay_entry-b.ensures c.decay_entry-c.ensures,
+)
 
 pub overflow_mul-result-2 : goal.overflow_mul-result-2
 overflow_mul-result-2 c = omega (
-      arith,
-      three-le c.args.n c.decay_entry-a.result c.decay_entry-b.result c.decay_entry-c.result c.decay_entry-a.ensures
-          c.decay_entry-b.ensures c.decay_entry-c.ensures,
-    )
+  arith,
+  three-le c.args.n c.decay_entry-a.result c.decay_entry-b.result c.decay_entry-c.result c.decay_entry-a.ensures
+      c.decay_entry-b.ensures c.decay_entry-c.ensures,
+)
 
 pub returns : goal.returns
 returns c = found-is c.args.n c.decay_entry-a.result c.decay_entry-b.result c.decay_entry-c.result c.decay_entry-a.ensures

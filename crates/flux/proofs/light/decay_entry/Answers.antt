@@ -1,5 +1,5 @@
 -- `flux::light::decay_entry` meets its contract, from what a table is.
-use Rattle.std.proofs.Common.{sym, ◌∙◌, arith, rules}
+use Rattle.std.proofs.Common.{sym, ◌∙◌, arith}
 use lib.ListN.{get_or-eq_default}
 use Rattle.flux.proofs.light.decay_entry.Goals as goal
 

@@ -1,5 +1,5 @@
 -- `flux::light::factor` meets its contract: the exponential is at most 1, so its rest is a number, and the lower one is held at 0.
-use Rattle.std.proofs.Common.{◌*◌, mul-le-mul, arith, rules}
+use Rattle.std.proofs.Common.{◌*◌, mul-le-mul, arith}
 use Rattle.flux_spec.specs.Light.{light_low_of, light_up_of}
 use Rattle.flux_spec.proofs.DecayLaws.{decay_low-le}
 use Rattle.flux.proofs.light.factor.Goals as goal

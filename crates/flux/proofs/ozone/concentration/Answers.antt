@@ -1,7 +1,6 @@
 -- `flux::ozone::concentration` meets its contract.
-use Rattle.std.proofs.Common.{◌≡◌, ℕ, sym, refl, ap, ◌∙◌, rules}
+use Rattle.std.proofs.Common.{◌≡◌, ℕ, sym, refl, ap, ◌∙◌}
 use Rattle.records.specs.declared.Ozone.{Ozone}
-use Rattle.records.specs.declared.Hour.{Hour}
 use Rattle.records.specs.Ozone.{tenths_or, with_ozone, read_as}
 use Rattle.flux_spec.specs.Pair.{concentration_low, concentration_up}
 use Rattle.flux_spec.proofs.ConcentrationLaws.{concentration_low-none}

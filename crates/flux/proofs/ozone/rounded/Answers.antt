@@ -1,5 +1,5 @@
 -- `flux::ozone::rounded` meets its contract.
-use Rattle.std.proofs.Common.{◌/◌, sym, mul-le-mul_left, div-mul-le_self, arith, rules}
+use Rattle.std.proofs.Common.{◌/◌, sym, mul-le-mul_left, div-mul-le_self, arith}
 use Rattle.flux.proofs.NumberLaws.{over-down, over-rest, over-whole}
 use Rattle.flux.proofs.ozone.rounded.Goals as goal
 

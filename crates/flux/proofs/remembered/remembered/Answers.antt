@@ -1,5 +1,5 @@
 -- `flux::remembered::remembered` meets its contract.
-use Rattle.std.proofs.Common.{arith, rules}
+use Rattle.std.proofs.Common.{arith}
 use Rattle.flux.proofs.RememberedLaws.{found-is, more-remembered}
 use Rattle.flux.proofs.remembered.remembered.Goals as goal
 

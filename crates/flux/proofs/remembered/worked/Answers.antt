@@ -1,5 +1,5 @@
 -- `flux::remembered::worked` meets its contract: f_temp's numbers take less than a word.
-use Rattle.std.proofs.Common.{◌+◌, ◌<◌, arith, rules}
+use Rattle.std.proofs.Common.{◌+◌, ◌<◌, arith}
 use Rattle.trees.proofs.TemperatureLaws.{temperature_pair-gap, temperature_pair-le}
 use Rattle.flux.specs.Remembered.{remembered_of}
 use Rattle.flux.proofs.remembered.worked.Goals as goal

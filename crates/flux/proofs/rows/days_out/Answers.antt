@@ -1,5 +1,5 @@
 -- `flux::rows::days_out` meets its contract: each test is one of row 7's.
-use Rattle.std.proofs.Common.{arith, rules, le-ltb, lt-ltb}
+use Rattle.std.proofs.Common.{arith, le-ltb, lt-ltb}
 use Rattle.flux.proofs.rows.days_out.Goals as goal
 
 pub returns-then-first-lt1 : goal.returns-then-first-lt1

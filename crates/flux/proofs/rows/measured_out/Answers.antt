@@ -1,5 +1,5 @@
 -- `flux::rows::measured_out` meets its contract.
-use Rattle.std.proofs.Common.{refl, rules, eq-eqb, ne_eqb}
+use Rattle.std.proofs.Common.{refl, eq-eqb, ne_eqb}
 use Rattle.flux.proofs.rows.measured_out.Goals as goal
 
 pub returns-then-tree-eq7 : goal.returns-then-tree-eq7

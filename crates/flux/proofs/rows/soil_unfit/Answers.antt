@@ -1,5 +1,5 @@
 -- `flux::rows::soil_unfit` meets its contract.
-use Rattle.std.proofs.Common.{sym, ◌∙◌, rules}
+use Rattle.std.proofs.Common.{sym, ◌∙◌}
 use Rattle.flux.proofs.rows.soil_unfit.Goals as goal
 
 pub returns-then-soil_out : goal.returns-then-soil_out

@@ -1,5 +1,4 @@
 -- `flux::share::by_digits` meets its contract.
-use Rattle.std.proofs.Common.{rules}
 use Rattle.exact.proofs.TimesLaws.{digits-is}
 use Rattle.flux.proofs.NumberLaws.{high_fits, whole-fits, rest-fits, low_fits, sum_fits, more-fits, digits-fit}
 use Rattle.flux.proofs.share.by_digits.Goals as goal

@@ -1,5 +1,5 @@
 -- `flux::share::deficit_down` meets its contract.
-use Rattle.std.proofs.Common.{◌≡◌, ℕ, ◌*◌, ◌/◌, ap, ◌∙◌, arith, rules}
+use Rattle.std.proofs.Common.{◌≡◌, ℕ, ◌*◌, ◌/◌, ap, ◌∙◌, arith}
 use Rattle.flux.proofs.NumberLaws.{down_le, one_down}
 use Rattle.flux.proofs.share.deficit_down.Goals as goal
 

@@ -1,5 +1,5 @@
 -- `flux::share::deficit_up` meets its contract.
-use Rattle.std.proofs.Common.{arith, rules}
+use Rattle.std.proofs.Common.{arith}
 use Rattle.flux.proofs.NumberLaws.{up_le, one_up}
 use Rattle.flux.proofs.share.deficit_up.Goals as goal
 

@@ -1,5 +1,4 @@
 -- `flux::share::opening_low` meets its contract.
-use Rattle.std.proofs.Common.{rules}
 use Rattle.flux.proofs.share.opening_low.Goals as goal
 
 pub returns : goal.returns

@@ -1,5 +1,4 @@
 -- `flux::share::opening_up` meets its contract.
-use Rattle.std.proofs.Common.{rules}
 use Rattle.flux.proofs.share.opening_up.Goals as goal
 
 pub returns : goal.returns

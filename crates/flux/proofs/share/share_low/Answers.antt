@@ -1,5 +1,5 @@
 -- `flux::share::share_low` meets its contract.
-use Rattle.std.proofs.Common.{arith, rules}
+use Rattle.std.proofs.Common.{arith}
 use Rattle.flux.proofs.NumberLaws.{product_lt}
 use Rattle.flux.proofs.share.share_low.Goals as goal
 

@@ -1,5 +1,5 @@
 -- `flux::share::share_up` meets its contract.
-use Rattle.std.proofs.Common.{arith, rules}
+use Rattle.std.proofs.Common.{arith}
 use Rattle.flux.proofs.NumberLaws.{product_lt}
 use Rattle.flux.proofs.share.share_up.Goals as goal
 

@@ -1,5 +1,5 @@
 -- `flux::share::times_down` meets its contract.
-use Rattle.std.proofs.Common.{refl, arith, rules}
+use Rattle.std.proofs.Common.{refl, arith}
 use Rattle.flux.proofs.NumberLaws.{down_le, mul-fits, one_down}
 use Rattle.flux.proofs.share.times_down.Goals as goal
 

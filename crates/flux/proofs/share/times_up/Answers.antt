@@ -1,5 +1,5 @@
 -- `flux::share::times_up` meets its contract.
-use Rattle.std.proofs.Common.{refl, arith, rules}
+use Rattle.std.proofs.Common.{refl, arith}
 use Rattle.flux.proofs.NumberLaws.{up_le, mul-fits, up_fits, one_up}
 use Rattle.flux.proofs.share.times_up.Goals as goal
 

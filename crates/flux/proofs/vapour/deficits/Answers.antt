@@ -1,7 +1,6 @@
 -- `flux::vapour::deficits` meets its contract: in kind 05 the saturation pressure is the temperature's.
-use Rattle.std.proofs.Common.{◌≡◌, ℕ, ◌+◌, ◌-◌, ◌*◌, sym, ap, ◌∙◌, rules, ltb-false}
+use Rattle.std.proofs.Common.{ℕ, ◌+◌, ◌-◌, ◌*◌, sym, ap, ◌∙◌, ltb-false}
 use Rattle.trees.specs.declared.Deficits.{Deficits}
-use Rattle.frames.specs.Layout.{air_kind}
 use Rattle.flux_spec.specs.Deficit.{air_deficits}
 use Rattle.flux.specs.Remembered.{saturation_for}
 use Rattle.flux.proofs.vapour.deficits.Goals as goal

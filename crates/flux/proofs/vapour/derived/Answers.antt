@@ -1,5 +1,5 @@
 -- `flux::vapour::derived` meets its contract.
-use Rattle.std.proofs.Common.{ℕ, ◌+◌, ◌-◌, ◌*◌, ◌≤◌, mul-le-mul, arith, rules}
+use Rattle.std.proofs.Common.{ℕ, ◌+◌, ◌-◌, ◌*◌, ◌≤◌, mul-le-mul, arith}
 use Rattle.flux.proofs.vapour.derived.Goals as goal
 
 product_le : {dry s : ℕ} → dry ≤ 1000 → s ≤ 4294967296 → dry * s ≤ 1000 * 4294967296

@@ -1,7 +1,6 @@
 -- `frames::digits::number_at` meets its contract.
 use mathlib.Core.Path.{refl}
 use native.Mathlib.Omega.{arith}
-use borrow.Author.Rules.{rules}
 use Rattle.frames.specs.Digits.{number_at}
 use Rattle.frames.proofs.digits.number_at.Goals as goal
 

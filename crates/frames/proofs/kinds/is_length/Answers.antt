@@ -1,11 +1,10 @@
 -- `frames::kinds::is_length` meets its contract: the kinds that are left have the answer of all.
-use Prim.Native.Nat.{◌≤◌, ◌-◌}
-use mathlib.Core.Path.{◌≡◌, sym, ◌∙◌}
+use mathlib.Core.Path.{sym, ◌∙◌}
 use mathlib.Core.List.{◌∷◌}
 use native.Mathlib.Omega.{arith}
 use borrow.Author.Rules.{rules}
-use lib.ListN.{length, drop, drop_of_length-le}
-use Rattle.frames.specs.Kinds.{lengths, among, is_length, length_of}
+use lib.ListN.{drop_of_length-le}
+use Rattle.frames.specs.Kinds.{lengths, length_of}
 use Rattle.frames.proofs.KindLaws.{among-found, among-passed, among_none}
 use Rattle.frames.proofs.kinds.is_length.Goals as goal
 

@@ -1,6 +1,5 @@
 -- `frames::layout::air_at` meets its contract.
 use native.Mathlib.Omega.{arith}
-use borrow.Author.Rules.{rules}
 use Rattle.frames.specs.Kinds.{length_of}
 use Rattle.frames.proofs.KindLaws.{deficit-left}
 use Rattle.frames.proofs.layout.air_at.Goals as goal

@@ -1,7 +1,6 @@
 -- `frames::layout::frame_at` meets its contract: a line's kind tells the length that its fields need.
 use mathlib.Core.Path.{refl, sym, ap, ◌∙◌}
 use native.Mathlib.Omega.{arith}
-use borrow.Author.Rules.{rules}
 use Rattle.frames.specs.Digits.{byte_at}
 use Rattle.frames.specs.Layout.{frame_of}
 use Rattle.records.specs.declared.Raw.{Raw}

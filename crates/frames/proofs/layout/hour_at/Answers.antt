@@ -1,7 +1,5 @@
 -- `frames::layout::hour_at` meets its contract.
 use native.Mathlib.Omega.{arith}
-use mathlib.Core.Path.{◌∙◌}
-use borrow.Author.Rules.{rules}
 use Rattle.frames.specs.Kinds.{length_of}
 use Rattle.frames.proofs.KindLaws.{hour-ge}
 use Rattle.frames.proofs.FrameLaws.{hour-same}

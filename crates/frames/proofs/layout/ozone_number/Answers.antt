@@ -1,5 +1,4 @@
 -- `frames::layout::ozone_number` meets its contract.
-use borrow.Author.Rules.{rules}
 use Rattle.frames.proofs.layout.ozone_number.Goals as goal
 
 pub returns-in-Tenths : goal.returns-in-Tenths

@@ -1,5 +1,4 @@
 -- `frames::layout::soil_of` meets its contract.
-use borrow.Author.Rules.{rules}
 use Rattle.frames.proofs.layout.soil_of.Goals as goal
 
 pub returns-in-Suction : goal.returns-in-Suction

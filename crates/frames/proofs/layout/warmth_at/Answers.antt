@@ -1,6 +1,5 @@
 -- `frames::layout::warmth_at` meets its contract.
 use native.Mathlib.Omega.{arith}
-use borrow.Author.Rules.{rules}
 use Rattle.frames.specs.Kinds.{length_of}
 use Rattle.frames.proofs.layout.warmth_at.Goals as goal
 

@@ -1,5 +1,5 @@
 -- `power::guess::truncated` is safe: what it truncates is tested.
-use Rattle.std.proofs.Common.{T, sym, subst, rules}
+use Rattle.std.proofs.Common.{T, sym, subst}
 use lib.Ieee.{of_bits, neg}
 use Rattle.power.proofs.guess.truncated.Goals as goal
 

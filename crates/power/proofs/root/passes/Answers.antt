@@ -1,5 +1,5 @@
 -- `power::root::passes` meets its contract.
-use Rattle.std.proofs.Common.{leb, ◌∙◌, ap₂, rules}
+use Rattle.std.proofs.Common.{leb, ◌∙◌, ap₂}
 use Rattle.power.specs.Steps.{left, right}
 use Rattle.power.proofs.root.passes.Goals as goal
 

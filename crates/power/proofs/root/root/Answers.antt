@@ -1,5 +1,4 @@
 -- `power::root::root` meets its contract.
-use Rattle.std.proofs.Common.{rules}
 use Rattle.power.proofs.root.root.Goals as goal
 
 pub returns-then-is_certain : goal.returns-then-is_certain

@@ -1,6 +1,6 @@
 -- `power::root::search` meets its contract: what passes stays at or below the root, what does not above it.
-use Rattle.std.proofs.Common.{◌≡◌, ℕ, ◌+◌, ◌-◌, ◌<◌, ◌≤◌, sym, ◌∙◌, subst, arith, rules, leb-false, leb-true}
-use Rattle.power.specs.Steps.{left, right, Between}
+use Rattle.std.proofs.Common.{◌≡◌, ℕ, ◌+◌, ◌<◌, sym, ◌∙◌, subst, arith, leb-false, leb-true}
+use Rattle.power.specs.Steps.{left, right}
 use Rattle.power.proofs.RootLaws.{zero-under}
 use Rattle.power.proofs.root.search.Goals as goal
 
@@ -22,13 +22,13 @@ loop-high-smaller-then-passes c = omega (arith, c.loop-high.invariant.3.above (o
 
 pub loop-high-preserved-then-passes : goal.loop-high-preserved-then-passes
 loop-high-preserved-then-passes c = (
-      c.loop-high.invariant.3.below (omega arith),
-      c.loop-high.invariant.1,
-      c.doubled-step.ensures,
-      c.next-probe.ensures,
-      leb-true _ _ (sym c.passes.ensures ∙ c.if-passes.true),
-      c.loop-high.invariant.5,
-    )
+  c.loop-high.invariant.3.below (omega arith),
+  c.loop-high.invariant.1,
+  c.doubled-step.ensures,
+  c.next-probe.ensures,
+  leb-true _ _ (sym c.passes.ensures ∙ c.if-passes.true),
+  c.loop-high.invariant.5,
+)
 
 pub next-probe-requires-else-passes : goal.next-probe-requires-else-passes
 next-probe-requires-else-passes c = let below : c.loop-high.probe < c.loop-high.high = c.loop-high.invariant.3.below (omega arith) in
@@ -39,13 +39,13 @@ loop-high-smaller c = omega (arith, c.loop-high.invariant.3.above (omega arith),
 
 pub loop-high-preserved : goal.loop-high-preserved
 loop-high-preserved c = let below : c.loop-high.probe < c.loop-high.high = c.loop-high.invariant.3.below (omega arith) in (
-      c.loop-high.invariant.3.above (omega arith),
-      omega arith,
-      c.doubled-step.ensures,
-      c.next-probe-else-passes.ensures,
-      c.loop-high.invariant.4,
-      leb-false _ _ (sym c.passes.ensures ∙ c.if-passes.false),
-    )
+  c.loop-high.invariant.3.above (omega arith),
+  omega arith,
+  c.doubled-step.ensures,
+  c.next-probe-else-passes.ensures,
+  c.loop-high.invariant.4,
+  leb-false _ _ (sym c.passes.ensures ∙ c.if-passes.false),
+)
 
 pub returns : goal.returns
 returns c = let s = c.args.s in

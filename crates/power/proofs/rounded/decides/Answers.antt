@@ -1,5 +1,5 @@
 -- `power::rounded::decides` meets its contract.
-use Rattle.std.proofs.Common.{arith, rules, ltb-false}
+use Rattle.std.proofs.Common.{arith, ltb-false}
 use Rattle.power.proofs.CertainLaws.{room-le, undecided, near-decides}
 use Rattle.power.proofs.rounded.decides.Goals as goal
 

@@ -1,5 +1,5 @@
 -- `power::rounded::is_certain` meets its contract.
-use Rattle.std.proofs.Common.{mul-le-mul, mul-pos, arith, rules}
+use Rattle.std.proofs.Common.{mul-le-mul, mul-pos, arith}
 use Rattle.power.proofs.CertainLaws.{uncertain, decided-certain}
 use Rattle.power.proofs.rounded.is_certain.Goals as goal
 

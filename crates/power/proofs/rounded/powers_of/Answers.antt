@@ -1,5 +1,5 @@
 -- `power::rounded::powers_of` meets its contract.
-use Rattle.std.proofs.Common.{arith, rules}
+use Rattle.std.proofs.Common.{arith}
 use Rattle.power.proofs.PowerLaws.{near-powers}
 use Rattle.power.proofs.rounded.powers_of.Goals as goal
 

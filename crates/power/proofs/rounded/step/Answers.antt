@@ -1,5 +1,5 @@
 -- `power::rounded::step` meets its contract.
-use Rattle.std.proofs.Common.{arith, rules}
+use Rattle.std.proofs.Common.{arith}
 use Rattle.power.proofs.PowerLaws.{near_step}
 use Rattle.power.proofs.rounded.step.Goals as goal
 

@@ -1,5 +1,5 @@
 -- `power::rounded::times` meets its contract.
-use Rattle.std.proofs.Common.{arith, rules}
+use Rattle.std.proofs.Common.{arith}
 use Rattle.power.proofs.RoundedLaws.{fits-full, near_times, near-doubled}
 use Rattle.power.proofs.rounded.times.Goals as goal
 

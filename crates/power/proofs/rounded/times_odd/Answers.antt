@@ -1,5 +1,5 @@
 -- `power::rounded::times_odd` meets its contract.
-use Rattle.std.proofs.Common.{arith, rules}
+use Rattle.std.proofs.Common.{arith}
 use Rattle.power.proofs.PowerLaws.{near-odd, near_even}
 use Rattle.power.proofs.rounded.times_odd.Goals as goal
 

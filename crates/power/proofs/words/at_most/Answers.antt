@@ -1,5 +1,5 @@
 -- `power::words::at_most` meets its contract.
-use Rattle.std.proofs.Common.{◌≡◌, ℕ, ◌-◌, ◌^◌, ◌<◌, ◌≤◌, leb, refl, ap, ◌∙◌, arith, rules}
+use Rattle.std.proofs.Common.{◌≡◌, ℕ, leb, refl, ap, ◌∙◌, arith}
 use Rattle.power.specs.Steps.{worth}
 use Rattle.power.proofs.WordLaws.{order-next, worth-lt}
 use Rattle.power.proofs.words.at_most.Goals as goal

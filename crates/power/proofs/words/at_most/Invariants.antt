@@ -1,7 +1,6 @@
 -- `power::words::at_most` meets its contract.
-use Rattle.std.proofs.Common.{◌≡◌, ℕ, ◌-◌, ◌^◌, ◌<◌, ◌≤◌, leb, refl, ap, ◌∙◌, arith, rules}
+use Rattle.std.proofs.Common.{◌≡◌, ◌-◌, ◌^◌, ◌<◌, ◌≤◌, leb}
 use Rattle.power.specs.Steps.{worth}
-use Rattle.power.proofs.WordLaws.{order-next, worth-lt}
 use Rattle.power.proofs.words.at_most.Given as goal
 
 abbrev pub invariant-loop-i : goal.invariant-loop-i

@@ -1,5 +1,5 @@
 -- `power::words::pad` meets its contract.
-use Rattle.std.proofs.Common.{◌≡◌, ℕ, ◌-◌, ◌≤◌, length, refl, ap, ◌∙◌, arith, length-set}
+use Rattle.std.proofs.Common.{◌≡◌, ℕ, refl, ap, ◌∙◌, arith, length-set}
 use Rattle.power.specs.Steps.{worth}
 use Rattle.power.proofs.WordLaws.{set-zero}
 use Rattle.power.proofs.words.pad.Goals as goal

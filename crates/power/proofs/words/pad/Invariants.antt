@@ -1,7 +1,6 @@
 -- `power::words::pad` meets its contract.
-use Rattle.std.proofs.Common.{◌≡◌, ℕ, ◌-◌, ◌≤◌, length, refl, ap, ◌∙◌, arith, length-set}
+use Rattle.std.proofs.Common.{◌≡◌, ◌-◌, ◌≤◌, length}
 use Rattle.power.specs.Steps.{worth}
-use Rattle.power.proofs.WordLaws.{set-zero}
 use Rattle.power.proofs.words.pad.Given as goal
 
 abbrev pub invariant-loop-i : goal.invariant-loop-i

@@ -1,5 +1,4 @@
 -- `power::words::product` meets its contract.
-use Rattle.std.proofs.Common.{rules}
 use Rattle.power.proofs.WordLaws.{first_word, product_is}
 use Rattle.power.proofs.words.product.Goals as goal
 

@@ -1,5 +1,5 @@
 -- `power::words::times` meets its contract.
-use Rattle.std.proofs.Common.{◌≡◌, ℕ, ◌+◌, ◌-◌, ◌*◌, ◌^◌, ◌<◌, ◌≤◌, length, get_or, refl, ◌∙◌, ap₂, arith, length-set, get_or-set_other, rules}
+use Rattle.std.proofs.Common.{ℕ, ◌+◌, ◌*◌, refl, ◌∙◌, ap₂, arith, length-set, get_or-set_other}
 use Rattle.power.specs.Steps.{worth}
 use Rattle.power.proofs.WordLaws.{product-fits, times-step, times-ends, times-carries}
 use Rattle.power.proofs.words.times.Goals as goal
@@ -13,10 +13,10 @@ overflow_mul-v c = record { fits = omega (arith, product-fits c.wide.result c.wi
 
 pub overflow_add-v : goal.overflow_add-v
 overflow_add-v c = record {
-      fits =
-          product-fits c.wide.result c.wide-k.result c.loop-i.carry (omega arith) (omega arith)
-          (omega arith);
-    }
+  fits =
+      product-fits c.wide.result c.wide-k.result c.loop-i.carry (omega arith) (omega arith)
+      (omega arith);
+}
 
 pub loop-i-preserved : goal.loop-i-preserved
 loop-i-preserved c = let args = c.args in
@@ -36,10 +36,10 @@ returns-then-carry-eq0 c = (times-ends _ _ c.loop-i.a c.loop-i.i c.args.n c.loop
 
 pub returns : goal.returns
 returns c = (
-      times-carries _ _ c.loop-i.a c.loop-i.i c.args.n c.loop-i.carry (omega arith) (omega arith) c.loop-i.invariant.1,
-      omega arith,
-      length-set c.loop-i.a _ _ ∙ c.loop-i.invariant.3,
-    )
+  times-carries _ _ c.loop-i.a c.loop-i.i c.args.n c.loop-i.carry (omega arith) (omega arith) c.loop-i.invariant.1,
+  omega arith,
+  length-set c.loop-i.a _ _ ∙ c.loop-i.invariant.3,
+)
 
 pub offset_bounds-a-i : goal.offset_bounds-a-i
 offset_bounds-a-i c = omega arith

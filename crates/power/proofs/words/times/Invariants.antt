@@ -1,7 +1,6 @@
 -- `power::words::times` meets its contract.
-use Rattle.std.proofs.Common.{◌≡◌, ℕ, ◌+◌, ◌-◌, ◌*◌, ◌^◌, ◌<◌, ◌≤◌, length, get_or, refl, ◌∙◌, ap₂, arith, length-set, get_or-set_other, rules}
+use Rattle.std.proofs.Common.{◌≡◌, ℕ, ◌+◌, ◌-◌, ◌*◌, ◌^◌, ◌<◌, ◌≤◌, length, get_or}
 use Rattle.power.specs.Steps.{worth}
-use Rattle.power.proofs.WordLaws.{product-fits, times-step, times-ends, times-carries}
 use Rattle.power.proofs.words.times.Given as goal
 
 abbrev pub invariant-loop-i : goal.invariant-loop-i

@@ -1,7 +1,6 @@
 -- `power::words::times_power` meets its contract.
-use Rattle.std.proofs.Common.{◌≡◌, ℕ, ◌+◌, ◌-◌, ◌*◌, ◌^◌, ◌≤◌, length, ap, ◌∙◌, arith, rules}
+use Rattle.std.proofs.Common.{◌≡◌, ◌+◌, ◌-◌, ◌*◌, ◌^◌, ◌≤◌, length}
 use Rattle.power.specs.Steps.{worth}
-use Rattle.power.proofs.WordLaws.{power-none, power-next}
 use Rattle.power.proofs.words.times_power.Given as goal
 
 abbrev pub invariant-loop-j : goal.invariant-loop-j

@@ -1,5 +1,4 @@
 -- `records::period::all_given` meets its contract.
-use borrow.Author.Rules.{rules}
 use Rattle.records.proofs.period.all_given.Goals as goal
 
 pub returns : goal.returns

@@ -1,7 +1,6 @@
 -- `records::ranges::ceiling_out` meets its contract.
 use native.Mathlib.Omega.{arith}
 use borrow.Author.Tests.{eq-eqb, ne_eqb}
-use borrow.Author.Rules.{rules}
 use Rattle.records.proofs.ranges.ceiling_out.Goals as goal
 
 pub returns-then-ceiling-eq0 : goal.returns-then-ceiling-eq0

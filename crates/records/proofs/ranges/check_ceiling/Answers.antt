@@ -1,6 +1,5 @@
 -- `records::ranges::check_ceiling` meets its contract.
 use mathlib.Core.Path.{sym, ◌∙◌}
-use borrow.Author.Rules.{rules}
 use Rattle.records.proofs.CheckLaws.{ceiling-out, ceiling-in}
 use Rattle.records.proofs.ranges.check_ceiling.Goals as goal
 

@@ -1,15 +1,12 @@
 -- `records::ranges::check_header` meets its contract: the first row whose test holds answers.
 use mathlib.Core.Path.{◌≡◌, sym, ◌∙◌}
 use mathlib.Core.Bool.{false}
-use borrow.Author.Rules.{rules}
-use Rattle.trees.specs.declared.Figures.{Figures}
 use Rattle.trees.specs.declared.Choice.{Choice}
 use Rattle.trees.specs.Figures.{ramp_days}
 use Rattle.measured.specs.Parameters.{no_parameters}
 use Rattle.measured.specs.Figures.{figures_in}
 use Rattle.records.specs.Numbers.{is_outside}
 use Rattle.records.specs.Ranges.{period_out}
-use Rattle.records.specs.declared.Header.{Header}
 use Rattle.records.proofs.CheckLaws.{tree-out, year-out, period-out, level_out, level_in}
 use Rattle.records.proofs.ranges.check_header.Goals as goal
 

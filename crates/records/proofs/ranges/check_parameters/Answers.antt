@@ -1,6 +1,5 @@
 -- `records::ranges::check_parameters` meets its contract.
 use mathlib.Core.Path.{sym, ◌∙◌}
-use borrow.Author.Rules.{rules}
 use Rattle.records.proofs.CheckLaws.{parameters-out, parameters-in}
 use Rattle.records.proofs.ranges.check_parameters.Goals as goal
 

@@ -1,6 +1,5 @@
 -- `records::ranges::check_warmth` meets its contract.
 use mathlib.Core.Path.{sym, ◌∙◌}
-use borrow.Author.Rules.{rules}
 use Rattle.records.proofs.CheckLaws.{warmth-out, warmth-in}
 use Rattle.records.proofs.ranges.check_warmth.Goals as goal
 

@@ -1,5 +1,4 @@
 -- `records::ranges::lacks_ceiling` meets its contract.
-use borrow.Author.Rules.{rules}
 use Rattle.records.proofs.ranges.lacks_ceiling.Goals as goal
 
 pub returns-in-Tenths : goal.returns-in-Tenths

@@ -1,5 +1,4 @@
 -- `records::ranges::ozone_out` meets its contract.
-use borrow.Author.Rules.{rules}
 use Rattle.records.proofs.ranges.ozone_out.Goals as goal
 
 pub returns-in-Tenths : goal.returns-in-Tenths

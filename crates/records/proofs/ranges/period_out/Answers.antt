@@ -1,7 +1,6 @@
 -- `records::ranges::period_out` meets its contract.
 use native.Mathlib.Omega.{arith}
 use borrow.Author.Tests.{lt-ltb, le-ltb}
-use borrow.Author.Rules.{rules}
 use Rattle.records.proofs.ranges.period_out.Goals as goal
 
 pub returns-then-h-lt1 : goal.returns-then-h-lt1

@@ -1,5 +1,4 @@
 -- `records::ranges::pressure_out` meets its contract.
-use borrow.Author.Rules.{rules}
 use Rattle.records.proofs.ranges.pressure_out.Goals as goal
 
 pub returns-in-Pressure : goal.returns-in-Pressure

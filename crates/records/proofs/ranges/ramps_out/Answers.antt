@@ -1,5 +1,4 @@
 -- `records::ranges::ramps_out` meets its contract.
-use borrow.Author.Rules.{rules}
 use Rattle.records.proofs.ranges.ramps_out.Goals as goal
 
 pub returns : goal.returns

@@ -1,5 +1,4 @@
 -- `records::ranges::soil_out` meets its contract.
-use borrow.Author.Rules.{rules}
 use Rattle.records.proofs.ranges.soil_out.Goals as goal
 
 pub returns-in-Suction : goal.returns-in-Suction

@@ -2,7 +2,6 @@
 use mathlib.Core.Path.{◌≡◌, sym}
 use mathlib.Core.Bool.{false}
 use borrow.Author.Tests.{lt-ltb, le-ltb}
-use borrow.Author.Rules.{rules}
 use lib.Dec.{ltb}
 use Rattle.measured.specs.Parameters.{degrees_of}
 use Rattle.records.proofs.ranges.temperatures_out.Goals as goal

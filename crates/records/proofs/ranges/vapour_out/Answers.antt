@@ -1,5 +1,4 @@
 -- `records::ranges::vapour_out` meets its contract.
-use borrow.Author.Rules.{rules}
 use Rattle.records.proofs.ranges.vapour_out.Goals as goal
 
 pub returns-in-Deficit : goal.returns-in-Deficit

@@ -1,6 +1,5 @@
 -- `records::ranges::warmth_broken` meets its contract.
 use mathlib.Core.Path.{sym, ◌∙◌}
-use borrow.Author.Rules.{rules}
 use Rattle.records.proofs.ranges.warmth_broken.Goals as goal
 
 pub returns-then-has_warmth : goal.returns-then-has_warmth

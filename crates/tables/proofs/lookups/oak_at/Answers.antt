@@ -1,6 +1,5 @@
 -- `tables::lookups::oak_at` meets its contract: each array passes one computed test. Made by tools/temperature_tables.py.
 use native.Mathlib.Omega.{arith}
-use borrow.Author.Rules.{rules}
 use Rattle.trees.specs.Temperature.{tried, allowed}
 use Rattle.trees.proofs.SoundLaws.{oak-sound}
 use Rattle.trees.proofs.TemperatureTrim.{floor-pair}

@@ -2,7 +2,6 @@
 use Prim.Native.Nat.{ℕ, ◌*◌, ◌≤◌, ◌<◌}
 use native.Mathlib.Nat.{mul-le-mul}
 use native.Mathlib.Omega.{arith}
-use borrow.Author.Rules.{rules}
 use Rattle.trees.proofs.factors.deficit_factor.Goals as goal
 
 product_le : (m n : ℕ) → m < 65536 → n < 4294967296 → m * n ≤ 65535 * 4294967295

@@ -1,5 +1,4 @@
 -- `trees::factors::drier` meets its contract.
-use borrow.Author.Rules.{rules}
 use Rattle.trees.proofs.factors.drier.Goals as goal
 
 pub returns-in-Suction : goal.returns-in-Suction

@@ -1,5 +1,4 @@
 -- `trees::factors::f_sw` meets its contract.
-use borrow.Author.Rules.{rules}
 use Rattle.trees.specs.SoilWater.{soil_water_of}
 use Rattle.trees.proofs.FactsLaws.{factor-facts}
 use Rattle.trees.proofs.factors.f_sw.Goals as goal

@@ -1,5 +1,4 @@
 -- `trees::factors::f_vpd` meets its contract.
-use borrow.Author.Rules.{rules}
 use Rattle.trees.specs.Deficit.{deficit_of}
 use Rattle.trees.proofs.DeficitLaws.{deficit-pair}
 use Rattle.trees.proofs.FactsLaws.{factor-facts}

@@ -1,5 +1,4 @@
 -- `trees::factors::falling` meets its contract.
-use borrow.Author.Rules.{rules}
 use Rattle.trees.specs.Deficit.{falling}
 use Rattle.trees.proofs.factors.falling.Goals as goal
 

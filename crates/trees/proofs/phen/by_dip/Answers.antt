@@ -1,7 +1,6 @@
 -- `trees::phen::by_dip` meets its contract: each arm of the day number is its piece of the dip.
 use mathlib.Core.Path.{refl}
 use native.Mathlib.Omega.{arith}
-use borrow.Author.Rules.{rules}
 use Rattle.trees.proofs.PhenologyLaws.{dip-before, dip-falling, dip-low, dip-rising, dip-after}
 use Rattle.trees.proofs.phen.by_dip.Goals as goal
 

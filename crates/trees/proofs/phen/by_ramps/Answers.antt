@@ -1,6 +1,5 @@
 -- `trees::phen::by_ramps` meets its contract: the last ramp where fewer than f4 days are left, else the first.
 use native.Mathlib.Omega.{arith}
-use borrow.Author.Rules.{rules}
 use Rattle.trees.proofs.PhenologyLaws.{ramps-falling, ramps-rising}
 use Rattle.trees.proofs.phen.by_ramps.Goals as goal
 

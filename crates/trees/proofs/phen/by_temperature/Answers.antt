@@ -1,9 +1,7 @@
 -- `trees::phen::by_temperature` meets its contract.
 use mathlib.Core.Path.{refl}
-use mathlib.Core.Logic.{⊎_elim}
 use native.Mathlib.Omega.{arith}
-use borrow.Author.Rules.{rules}
-use borrow.Author.Tests.{ltb-true, ltb-false}
+use borrow.Author.Tests.{ltb-true}
 use Rattle.trees.proofs.PhenologyLaws.{temperature-between, temperature-outside}
 use Rattle.trees.proofs.phen.by_temperature.Goals as goal
 use Rattle.trees.proofs.phen.by_temperature.Goals.{else-tmin-t-via-then-tmin-t+else-t-tmax, else-tmin-t-via-else-tmin-t}

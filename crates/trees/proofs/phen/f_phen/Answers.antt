@@ -1,5 +1,4 @@
 -- `trees::phen::f_phen` meets its contract.
-use borrow.Author.Rules.{rules}
 use Rattle.trees.proofs.FactsLaws.{factor-facts}
 use Rattle.trees.proofs.PhenologyLaws.{phenology-ramps, phenology-dip, phenology-temperature}
 use Rattle.trees.proofs.phen.f_phen.Goals as goal

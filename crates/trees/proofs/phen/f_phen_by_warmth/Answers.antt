@@ -1,7 +1,6 @@
 -- `trees::phen::f_phen_by_warmth` meets its contract: past `end` 0, then the fall, else the rise.
 use mathlib.Core.Path.{refl}
 use native.Mathlib.Omega.{arith}
-use borrow.Author.Rules.{rules}
 use Rattle.trees.proofs.FactsLaws.{factor-facts}
 use Rattle.trees.proofs.PhenologyLaws.{warmth-past, warmth-falling, warmth-rising}
 use Rattle.trees.proofs.phen.f_phen_by_warmth.Goals as goal

@@ -1,6 +1,5 @@
 -- `writer::digits::digit` meets its contract.
 use native.Mathlib.Omega.{arith}
-use borrow.Author.Rules.{rules}
 use Rattle.writer.proofs.DigitLaws.{digit_low, digit-high}
 use Rattle.writer.proofs.digits.digit.Goals as goal
 

@@ -1,7 +1,6 @@
 -- `writer::digits::put_byte` meets its contract.
 use native.Mathlib.Omega.{arith}
 use native.Mathlib.Numerals.{add-one}
-use borrow.Author.Rules.{rules}
 use lib.ListN.{length-set}
 use Rattle.writer.proofs.digits.put_byte.Goals as goal
 

@@ -1,6 +1,5 @@
 -- `writer::digits::put_four` meets its contract.
 use mathlib.Core.List.{[]}
-use borrow.Author.Rules.{rules}
 use Rattle.frames.specs.Digits.{number}
 use Rattle.writer.proofs.PutLaws.{put_then}
 use Rattle.writer.proofs.digits.put_four.Goals as goal

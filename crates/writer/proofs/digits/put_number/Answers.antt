@@ -1,7 +1,6 @@
 -- `writer::digits::put_number` meets its contract.
 use Prim.Native.Nat.{◌/◌, ◌%◌}
 use mathlib.Core.List.{[]}
-use borrow.Author.Rules.{rules}
 use Rattle.frames.specs.Digits.{byte}
 use Rattle.writer.proofs.PutLaws.{put_then}
 use Rattle.writer.proofs.digits.put_number.Goals as goal

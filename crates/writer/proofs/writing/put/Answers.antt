@@ -1,5 +1,4 @@
 -- `writer::writing::put` meets its contract.
-use borrow.Author.Rules.{rules}
 use Rattle.frames.specs.Layout.{frame_line}
 use Rattle.writer.proofs.writing.put.Goals as goal
 

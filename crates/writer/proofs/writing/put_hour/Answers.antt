@@ -1,5 +1,4 @@
 -- `writer::writing::put_hour` meets its contract.
-use borrow.Author.Rules.{rules}
 use Rattle.writer.proofs.LineLaws.{deficit-line, pressure-line, humidity-line}
 use Rattle.writer.proofs.writing.put_hour.Goals as goal
 

@@ -1,7 +1,6 @@
 -- `writer::writing::put_pressure_line` meets its contract.
 use mathlib.Core.Path.{refl}
 use native.Mathlib.Omega.{arith}
-use borrow.Author.Rules.{rules}
 use Rattle.records.proofs.BufferLaws.{prints-short}
 use Rattle.writer.proofs.WriterLaws.{prints-set}
 use Rattle.writer.proofs.writing.put_pressure_line.Goals as goal

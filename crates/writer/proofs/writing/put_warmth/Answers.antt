@@ -1,7 +1,6 @@
 -- `writer::writing::put_warmth` meets its contract.
 use mathlib.Core.Path.{refl}
 use native.Mathlib.Omega.{arith}
-use borrow.Author.Rules.{rules}
 use Rattle.frames.specs.Layout.{frame_line}
 use Rattle.records.proofs.BufferLaws.{prints-short}
 use Rattle.writer.proofs.WriterLaws.{prints-set}

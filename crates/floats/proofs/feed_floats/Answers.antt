@@ -1,0 +1,15 @@
+-- `floats::feed_floats` meets its contract.
+use Rattle.std.proofs.Common.{◌≡◌, sym, ap, ◌∙◌, rules}
+use Rattle.floats_spec.proofs.PromiseLaws.{float-promise}
+use Rattle.floats.specs.Steps.{fields_of, first_broken, frame_in}
+use Rattle.floats.proofs.AnswerLaws.{whole-answers, broken-answers, untimely-answers}
+use Rattle.floats.proofs.feed_floats.Goals as goal
+
+pub returns-then-broken-eq0 : goal.returns-then-broken-eq0
+returns-then-broken-eq0 c = record { answers = whole-answers _ _ _ _ _ c.fields_of-read.ensures _ c.first_broken-broken.ensures c.if-broken-eq0.true _ c.frame_in.ensures _ c.feed_frame.ensures; promise = float-promise }
+
+pub returns-in-Sound : goal.returns-in-Sound
+returns-in-Sound c = record { answers = broken-answers _ _ _ _ _ c.fields_of-read.ensures _ c.first_broken-broken.ensures c.if-broken-eq0.false _ c.hour_at.ensures _ c.timely-checked.ensures c.in-Sound.is; promise = float-promise }
+
+pub returns-in-Refused : goal.returns-in-Refused
+returns-in-Refused c = record { answers = untimely-answers _ _ _ _ _ c.fields_of-read.ensures _ c.first_broken-broken.ensures c.if-broken-eq0.false _ c.hour_at.ensures _ c.timely-checked.ensures _ c.in-Refused.is; promise = float-promise }

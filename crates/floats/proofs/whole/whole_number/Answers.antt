@@ -1,0 +1,38 @@
+-- `floats::whole::whole_number` meets its contract.
+use Rattle.std.proofs.Common.{sym, ◌∙◌, rules}
+use lib.Ieee.{of_bits}
+use Rattle.floats.proofs.OrderLaws.{is_T}
+use Rattle.floats.proofs.SignLaws.{plus-broken, plus-number, negated-ge, minus-broken, size-pos, minus_number, neither-broken}
+use Rattle.floats.proofs.whole.whole_number.Goals as goal
+
+pub size_of-requires : goal.size_of-requires
+unfolding of_bits
+size_of-requires c = is_T c.if-x.true
+
+pub returns-in_default : goal.returns-in_default
+unfolding of_bits
+returns-in_default c = plus-broken _ c.if-x.true (sym c.in_default.is ∙ c.size_of.ensures)
+
+pub returns-then-x : goal.returns-then-x
+unfolding of_bits
+returns-then-x c = plus-number _ _ c.if-x.true (sym c.in-Of.is ∙ c.size_of.ensures)
+
+pub size_of-requires-then-x-2 : goal.size_of-requires-then-x-2
+unfolding of_bits
+size_of-requires-then-x-2 c = negated-ge _ c.if-x-2.true
+
+pub returns-in_default-size_of : goal.returns-in_default-size_of
+unfolding of_bits
+returns-in_default-size_of c = minus-broken _ (sym c.in_default-size_of.is ∙ c.size_of-then-x-2.ensures)
+
+pub overflow_sub-result : goal.overflow_sub-result
+unfolding of_bits
+overflow_sub-result c = size-pos _ _ c.if-x-2.true (sym c.in-Of-size_of.is ∙ c.size_of-then-x-2.ensures)
+
+pub returns-then-x-2 : goal.returns-then-x-2
+unfolding of_bits
+returns-then-x-2 c = minus_number _ _ c.if-x-2.true (sym c.in-Of-size_of.is ∙ c.size_of-then-x-2.ensures)
+
+pub returns : goal.returns
+unfolding of_bits
+returns c = neither-broken _ c.if-x.false c.if-x-2.false

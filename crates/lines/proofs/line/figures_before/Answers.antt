@@ -1,0 +1,10 @@
+-- `lines::line::figures_before` meets its contract.
+use native.Mathlib.Omega.{arith}
+use borrow.Author.Rules.{rules}
+use Rattle.report_spec.specs.Steps.{text_in}
+use Rattle.report_spec.proofs.TextLaws.{figures-is}
+use Rattle.lines.proofs.line.figures_before.Goals as goal
+
+pub returns : goal.returns
+returns c = let a = c.args in
+    record { text = figures-is a.sums (text_in a.t) c.column_before-least.ensures.text c.column_before-upper.ensures.text c.column_before-lower.ensures.text c.column_before.ensures.text; room = (c.column_before.ensures.room.0, omega (arith, c.column_before.ensures.room.1, c.column_before-lower.ensures.room.1, c.column_before-upper.ensures.room.1, c.column_before-least.ensures.room.1)) }

@@ -1,0 +1,7 @@
+-- `lines::put_refusal` meets its contract.
+use borrow.Author.Rules.{rules}
+use Rattle.records.proofs.BufferLaws.{prints-same}
+use Rattle.lines.proofs.put_refusal.Goals as goal
+
+pub returns : goal.returns
+returns c = prints-same c.of_refusal.ensures.text c.put.ensures

@@ -1,0 +1,110 @@
+// Lines to feed, each into a lent buffer without a line feed: the frame's own rows, then row 12.
+ghost use Rattle.records.specs.declared.Air.{Air};
+ghost use Rattle.records.specs.declared.Record.{Record};
+ghost use Rattle.writer.specs.Writer.{text_of};
+ghost use Rattle.writer.specs.RoundTrip.{RoundTrip};
+ghost use Rattle.dates_spec.specs.Promise.{PlacePromise};
+ghost use Rattle.part_spec.specs.Calls.{PrintsBytes};
+ghost use Rattle.part_spec.specs.Frames.{hour_from, parameters_from, placed_text};
+
+use answers::Printed;
+use part_spec::{HourReadings, TreeParameters};
+
+// Kind 01: rows 5 to 8.
+#[unsafe(no_mangle)]
+pub extern "C" fn pod1_write_header(
+    tree: u8,
+    days: u16,
+    first: u16,
+    last: u16,
+    level: u16,
+    buffer: &mut [u8],
+) -> Printed
+    ensures prints_bytes { PrintsBytes (text_of (Record.Header (record { tree = tree; days = days; first = first; last = last; level = level }))) buffer.old result buffer.new }
+    ensures round_trip { RoundTrip }
+{
+    part::pod1_write_header(tree, days, first, last, level, buffer)
+}
+
+// Kind 01 from a place: rows 5, 6, 14, 7, 8.
+#[unsafe(no_mangle)]
+pub extern "C" fn pod1_write_place(
+    tree: u8,
+    days: u16,
+    level: u16,
+    latitude: u16,
+    height: u16,
+    buffer: &mut [u8],
+) -> Printed
+    ensures prints_bytes { PrintsBytes (placed_text tree days level latitude height) buffer.old result buffer.new }
+    ensures promise { PlacePromise }
+{
+    part::pod1_write_place(tree, days, level, latitude, height, buffer)
+}
+
+// Kind 02: an hour with the vapour pressure deficit. Row 10.
+#[unsafe(no_mangle)]
+pub extern "C" fn pod1_write_hour(hour: HourReadings, buffer: &mut [u8]) -> Printed
+    ensures prints_bytes { PrintsBytes (text_of (Record.Hour (hour_from hour (Air.Deficit hour.vapour)))) buffer.old result buffer.new }
+    ensures round_trip { RoundTrip }
+{
+    part::pod1_write_hour(hour, buffer)
+}
+
+// Kind 04: an hour with the deficit and the pressure. Row 10.
+#[unsafe(no_mangle)]
+pub extern "C" fn pod1_write_hour_pressure(
+    hour: HourReadings,
+    pressure: u16,
+    buffer: &mut [u8],
+) -> Printed
+    ensures prints_bytes { PrintsBytes (text_of (Record.Hour (hour_from hour (Air.Pressure hour.vapour pressure)))) buffer.old result buffer.new }
+    ensures round_trip { RoundTrip }
+{
+    part::pod1_write_hour_pressure(hour, pressure, buffer)
+}
+
+// Kind 05: an hour with the relative humidity. Row 10.
+#[unsafe(no_mangle)]
+pub extern "C" fn pod1_write_hour_humidity(hour: HourReadings, buffer: &mut [u8]) -> Printed
+    ensures prints_bytes { PrintsBytes (text_of (Record.Hour (hour_from hour (Air.Humidity hour.vapour)))) buffer.old result buffer.new }
+    ensures round_trip { RoundTrip }
+{
+    part::pod1_write_hour_humidity(hour, buffer)
+}
+
+// Kind 03: the season's end.
+#[unsafe(no_mangle)]
+pub extern "C" fn pod1_write_end(hours: u16, buffer: &mut [u8]) -> Printed
+    ensures prints_bytes { PrintsBytes (text_of (Record.End (record { hours = hours }))) buffer.old result buffer.new }
+    ensures round_trip { RoundTrip }
+{
+    part::pod1_write_end(hours, buffer)
+}
+
+// Kind 06: the most that a missing ozone can have been. Row 17.
+#[unsafe(no_mangle)]
+pub extern "C" fn pod1_write_ceiling(ozone: u16, buffer: &mut [u8]) -> Printed
+    ensures prints_bytes { PrintsBytes (text_of (Record.Ceiling (record { ozone = ozone }))) buffer.old result buffer.new }
+    ensures round_trip { RoundTrip }
+{
+    part::pod1_write_ceiling(ozone, buffer)
+}
+
+// Kind 07: a measured tree. Row 24.
+#[unsafe(no_mangle)]
+pub extern "C" fn pod1_write_parameters(parameters: TreeParameters, buffer: &mut [u8]) -> Printed
+    ensures prints_bytes { PrintsBytes (text_of (Record.Parameters (parameters_from parameters))) buffer.old result buffer.new }
+    ensures round_trip { RoundTrip }
+{
+    part::pod1_write_parameters(parameters, buffer)
+}
+
+// Kind 08: leaf age by warmth. Row 25.
+#[unsafe(no_mangle)]
+pub extern "C" fn pod1_write_warmth(rise: u16, fall: u16, end: u16, buffer: &mut [u8]) -> Printed
+    ensures prints_bytes { PrintsBytes (text_of (Record.Warmth (record { rise = rise; fall = fall; end = end }))) buffer.old result buffer.new }
+    ensures round_trip { RoundTrip }
+{
+    part::pod1_write_warmth(rise, fall, end, buffer)
+}

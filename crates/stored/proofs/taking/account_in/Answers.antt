@@ -1,0 +1,20 @@
+-- `stored::taking::account_in` meets its contract.
+use borrow.Author.Rules.{rules}
+use Rattle.records.proofs.SignedLaws.{plain}
+use Rattle.stored.specs.Layout.{account_in}
+use Rattle.stored.proofs.taking.account_in.Goals as goal
+
+pub returns : goal.returns
+unfolding account_in
+returns c = rw (
+      plain c.signed-total.result (search rules),
+      c.signed-total.ensures,
+      c.get-3.ensures.is,
+      c.get-sum.ensures.is,
+      c.sums_in-sums.ensures,
+      c.hour_kind_of-kind.ensures,
+      c.get-2.ensures.is,
+      c.season_in-season.ensures,
+      c.phase_of-phase.ensures,
+      c.get.ensures.is,
+    )
