@@ -1,0 +1,8 @@
+-- `part::given::hour_from` meets its contract.
+use borrow.Author.Rules.{rules}
+use Rattle.records.proofs.SignedLaws.{plain}
+use Rattle.part.proofs.given.hour_from.Goals as goal
+
+pub returns : goal.returns
+returns c = let t = c.args.readings in
+    rw (c.ozone_of-ozone.ensures, c.soil_from-soil.ensures, plain t.temperature (search rules))

@@ -1,0 +1,6 @@
+-- `part::lines::write_hour` meets its contract.
+use borrow.Author.Rules.{rules}
+use Rattle.part.proofs.lines.write_hour.Goals as goal
+
+pub returns : goal.returns
+returns c = record { prints_bytes = rw c.hour_from.ensures at c.write.ensures.prints_bytes; round_trip = c.write.ensures.round_trip }
