@@ -1,9 +1,7 @@
 -- An hour of whole floats is fed as the frame of kind 02 that says their numbers, and as its line; row 26 comes before both.
-use mathlib.Core.Path.{◌≡◌, refl, sym, ap, ◌∙◌}
+use mathlib.Core.Path.{◌≡◌, refl, ap, ◌∙◌}
 use Prim.Native.Nat.{ℕ}
 use mathlib.Core.Bool.{Bool, true, false, not}
-use lib.IntN.{ℤ}
-use lib.Ieee.{Float}
 use Rattle.records.specs.declared.Air.{Air}
 use Rattle.records.specs.declared.Hour.{Hour}
 use Rattle.records.specs.declared.Raw.{Raw}
@@ -27,7 +25,6 @@ use Rattle.account_spec.specs.HourKinds.{is_mixed}
 use Rattle.account_spec.specs.Rules.{out_of_turn, is_due, due_of, turn_of, answer_of, state_of, feed_of, feed_frame_of}
 use Rattle.account_spec.specs.Timely.{timely_in, timely_of}
 use Rattle.floats_spec.specs.declared.FloatReadings.{FloatReadings}
-use Rattle.floats_spec.specs.Whole.{IsWhole, whole_of}
 use Rattle.floats_spec.specs.Numbers.{Wholes, wholes_in, raw_of}
 use Rattle.floats_spec.specs.Feeding.{wholes_of, hour_at, feed_floats_of}
 use Rattle.floats_spec.specs.Promise.{AreWhole, floats_in, FirstBroken, here, later}

@@ -11,7 +11,7 @@ use lib.Ieee.Bits.{cond_no}
 use lib.Ieee.Exact.{HasValue, odd_sign}
 use lib.Ieee.Fits.{down_pos}
 use lib.Ieee.Back.{round_whole}
-use Rattle.floats_spec.specs.Whole.{signed, IsWhole, Wholeness, whole, broken, whole_of}
+use Rattle.floats_spec.specs.Whole.{signed, IsWhole, whole, broken, whole_of}
 
 -- ---- a test of the remainder
 

@@ -1,7 +1,7 @@
 -- What holds of every float and of every hour of floats (W-214).
-use Rattle.std.specs.Prelude.{ℕ, suc, ◌+◌, ◌*◌, ◌^◌, ◌≤◌, ◌<◌, ◌≡◌, Bool, true, false, not, ◌&&◌, List, [], ◌∷◌, T, ltb, eqb, ℤ, pos, negsuc, Float}
+use Rattle.std.specs.Prelude.{ℕ, suc, ◌+◌, ◌*◌, ◌^◌, ◌≤◌, ◌<◌, ◌≡◌, Bool, true, not, ◌&&◌, List, [], ◌∷◌, ltb, eqb, ℤ, pos, negsuc, Float}
 use Rattle.std.specs.Float.{binary32}
-use Rattle.std.specs.Float.Ieee.{of_int, of_bits, of_fields, fits}
+use Rattle.std.specs.Float.Ieee.{of_int, of_bits, of_fields}
 use Rattle.std.specs.Float.Ieee.Exact.{HasValue}
 use Rattle.trees.specs.declared.Measure.{Measure}
 use Rattle.records.specs.declared.Hour.{Hour}

@@ -25,6 +25,7 @@ use Rattle.frames.specs.Layout.{ozone_of, soil_of, hour_of}
 use Rattle.flux_spec.specs.declared.Age.{Age}
 use Rattle.flux_spec.specs.declared.Stand.{Stand}
 use Rattle.flux_spec.specs.Dose.{is_counted}
+use Rattle.flux_spec.specs.Pair.{hour_pair}
 use Rattle.flux_spec.specs.HourDose.{tree_of, stand_of, days_out, other_measure, soil_unfit, stand_for, hour_dose_of, added_pair}
 
 -- ---- the tree's figures
@@ -90,6 +91,16 @@ module _ (tree : Outcome Figures) (age : Age) (first last ceiling : ℕ) (h : Ho
               pub dosed-is : (pair : Bounds) → pair ≡ added_pair (stand_of f age first last ceiling) h → accepted pair ≡ hour_dose_of tree age first last ceiling h
               unfolding hour_dose_of
               dosed-is pair p = rw (stand-is, p)
+
+              pub counted-is :
+                  is_counted h ≡ true → (pair : Bounds) → pair ≡ hour_pair (stand_of f age first last ceiling) h →
+                  accepted pair ≡ hour_dose_of tree age first last ceiling h
+              unfolding hour_dose_of
+              counted-is counted pair p = rw (stand-is, counted, p)
+
+              pub uncounted-is : is_counted h ≡ false → accepted (record { lower = 0; upper = 0 }) ≡ hour_dose_of tree age first last ceiling h
+              unfolding hour_dose_of
+              uncounted-is dark = rw (stand-is, dark)
 
 -- ---- an hour that is not counted
 

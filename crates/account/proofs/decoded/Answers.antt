@@ -1,6 +1,5 @@
 -- `account::decoded` meets its contract.
 use mathlib.Core.Path.{ap, ◌∙◌}
-use borrow.Author.Rules.{rules}
 use Rattle.account_spec.specs.declared.State.{State}
 use Rattle.account_spec.specs.Rules.{turn_of}
 use Rattle.account.proofs.decoded.Goals as goal

@@ -1,7 +1,6 @@
 -- `account::enter` meets its contract.
 use mathlib.Core.Path.{◌≡◌, refl, sym, ◌∙◌}
 use mathlib.Core.Bool.{◌&&◌}
-use borrow.Author.Rules.{rules}
 use borrow.Author.Tests.{not-true, not-false}
 use Rattle.records.proofs.AnswerLaws.{and_both}
 use Rattle.account.specs.Entering.{enter_of, has_room, is_temperate}

@@ -1,5 +1,4 @@
 -- `account::feed` meets its contract: a line is its frame, or refused by rows 1 to 3.
-use borrow.Author.Rules.{rules}
 use Rattle.account_spec.proofs.RuleLaws.{frame-feeds, unread-feeds}
 use Rattle.account.proofs.feed.Goals as goal
 

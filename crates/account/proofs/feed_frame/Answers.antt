@@ -1,6 +1,5 @@
 -- `account::feed_frame` meets its contract.
 use mathlib.Core.Path.{sym, ◌∙◌}
-use borrow.Author.Rules.{rules}
 use Rattle.account_spec.proofs.RuleLaws.{answers-impossible}
 use Rattle.account.proofs.EnterLaws.{untested-feeds}
 use Rattle.account.proofs.feed_frame.Goals as goal

@@ -1,7 +1,6 @@
 -- `account::feed_untested` meets its contract.
 use mathlib.Core.Path.{◌≡◌, refl, sym, ap, ◌∙◌}
 use mathlib.Core.Bool.{◌&&◌}
-use borrow.Author.Rules.{rules}
 use borrow.Author.Tests.{not-true, not-false}
 use Rattle.records.specs.Answers.{decoded_as}
 use Rattle.records.proofs.AnswerLaws.{and_both}

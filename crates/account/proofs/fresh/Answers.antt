@@ -1,6 +1,5 @@
 -- `account::fresh` meets its contract, the promises of a season and of filling its gaps among it.
 use mathlib.Core.Path.{refl}
-use borrow.Author.Rules.{rules}
 use Rattle.account.proofs.Cited.{season-cited, filling-cited}
 use Rattle.account.proofs.fresh.Goals as goal
 

@@ -1,6 +1,5 @@
 -- `account::out_of_turn` meets its contract.
 use mathlib.Core.Path.{ap, ◌∙◌}
-use borrow.Author.Rules.{rules}
 use Rattle.account_spec.specs.declared.State.{State}
 use Rattle.account_spec.specs.Rules.{out_of_turn}
 use Rattle.account.proofs.out_of_turn.Goals as goal

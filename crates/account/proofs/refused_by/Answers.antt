@@ -1,6 +1,5 @@
 -- `account::refused_by` meets its contract.
 use mathlib.Core.Path.{sym, ◌∙◌}
-use borrow.Author.Rules.{rules}
 use Rattle.account.proofs.refused_by.Goals as goal
 
 pub returns-then-impossible : goal.returns-then-impossible

@@ -1,6 +1,5 @@
 -- `account::timely` meets its contract.
 use mathlib.Core.Path.{sym, ap, ◌∙◌}
-use borrow.Author.Rules.{rules}
 use Rattle.account_spec.specs.declared.State.{State}
 use Rattle.account_spec.specs.Timely.{timely_in, timely_of}
 use Rattle.account.proofs.timely.Goals as goal

@@ -2,11 +2,8 @@
 use mathlib.Core.Path.{◌≡◌}
 use mathlib.Core.Bool.{true}
 use native.Mathlib.Omega.{arith}
-use borrow.Author.Rules.{rules}
 use borrow.Author.Tests.{lt-ltb, le-ltb}
-use Rattle.records.specs.declared.Hour.{Hour}
 use Rattle.flux_spec.specs.Dose.{is_counted}
-use Rattle.account_spec.specs.declared.Account.{Account}
 use Rattle.account.specs.Steps.{Roomy}
 use Rattle.account_spec.proofs.PossibleLaws.{most_hour-le}
 use Rattle.account.proofs.AddingLaws.{counted-hour, uncounted-hour}

@@ -1,6 +1,5 @@
 -- `account::adding::carry` meets its contract.
 use mathlib.Core.Path.{refl, sym, ◌∙◌}
-use borrow.Author.Rules.{rules}
 use Rattle.account.proofs.adding.carry.Goals as goal
 
 pub warmer-requires : goal.warmer-requires

@@ -1,5 +1,4 @@
 -- `account::adding::enter` meets its contract.
-use borrow.Author.Rules.{rules}
 use borrow.Author.Tests.{not-true}
 use Rattle.account_spec.specs.Rules.{entered}
 use Rattle.account.specs.Entering.{entered_by}

@@ -1,6 +1,5 @@
 -- `account::adding::open` meets its contract.
 use mathlib.Core.Path.{refl}
-use borrow.Author.Rules.{rules}
 use Rattle.account.proofs.adding.open.Goals as goal
 
 pub returns : goal.returns

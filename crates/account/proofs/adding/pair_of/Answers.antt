@@ -1,6 +1,5 @@
 -- `account::adding::pair_of` meets its contract.
 use native.Mathlib.Omega.{arith}
-use borrow.Author.Rules.{rules}
 use lib.IntN.{pos}
 use Rattle.account_spec.specs.declared.Carried.{Carried}
 use Rattle.account.proofs.AddingLaws.{pair-given, pair_small, pair-none}

@@ -1,5 +1,4 @@
 -- `account::adding::set_parameters` meets its contract.
-use borrow.Author.Rules.{rules}
 use Rattle.account.proofs.adding.set_parameters.Goals as goal
 
 pub returns : goal.returns

@@ -5,7 +5,7 @@ use borrow.Author.Rules.{rules}
 use borrow.Author.Tests.{eq-eqb, ne_eqb}
 use lib.IntN.{◌+ℤ◌}
 use mir.Syntax.{w16}
-use mir.Val.{SFits, to_z, of_z}
+use mir.Val.{to_z, of_z}
 use Rattle.account_spec.specs.Hours.{not_negative}
 use Rattle.account.proofs.WarmthLaws.{sum_fits, sum_is}
 use Rattle.account.proofs.adding.warmer.Goals as goal

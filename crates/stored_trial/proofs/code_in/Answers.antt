@@ -1,0 +1,9 @@
+-- `stored_trial::code_in` meets its contract.
+use borrow.Author.Rules.{rules}
+use native.Mathlib.Omega.{arith}
+use Rattle.stored.specs.Packing.{big_endian_at}
+use Rattle.stored_trial.proofs.code_in.Goals as goal
+
+pub returns : goal.returns
+unfolding big_endian_at
+returns c = omega (arith, c.wide.ensures.is, c.wide-2.ensures.is)
