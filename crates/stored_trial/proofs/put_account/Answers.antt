@@ -9,6 +9,3 @@ pub returns : goal.returns
 returns c = let a = c.args in
     let size = account-length a.account in
     record { is = put-part (account_bytes a.account) a.buffer.now a.at (rw size c.requires) _ _ c.store.ensures.prints; back = c.store.ensures.back }
-
--- OLD goal slice-bounds-store-start: search rules
--- OLD goal slice-bounds-store-end: search rules

@@ -33,8 +33,3 @@ returns c = let in-first : (held : Held) → c.take_up-first.result ≡ held →
     let in-second : (held : Held) → c.take_up-second.result ≡ held → take_up_of (drop (code_width + account_width) c.args.bytes.now) ≡ held_as held = λ held e. ap take_up_of (sym (part-is (code_width + account_width) c.args.bytes.now)) ∙ sym c.take_up-second.ensures.result_value ∙ ap held_as e in
     let back : TrialStoredBack c.args.bytes.now = trial-stored-back c.args.bytes.now (λ i. omega (arith, c.shared_slice_known-1.given i)) in
     record { holds = holds-in _ _ _ _ _ c.code_in-code.ensures (in-first _ c.in-Account.is) (in-second _ c.in-Account-second.is) c.trial_with.ensures; same = back }
-
--- OLD goal slice-bounds-take-up-start: search rules
--- OLD goal slice-bounds-take-up-end: search rules
--- OLD goal slice-bounds-take-up-start-2: search rules
--- OLD goal slice-bounds-take-up-end-2: search rules

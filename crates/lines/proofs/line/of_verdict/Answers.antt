@@ -17,9 +17,3 @@ returns-in-Exceeded c = record { text = rw c.in-Exceeded.is (word-feed (word_of 
 
 pub returns-in-Below : goal.returns-in-Below
 returns-in-Below c = record { text = rw c.in-Below.is (word-feed (word_of Below) c.word_before-in-Below.ensures.text c.byte_before-end.ensures.text c.empty.ensures.text); room = (c.word_before-in-Below.ensures.room.0, word_room _ _ _ _ c.word_before-in-Below.ensures.room.1 c.byte_before-end.ensures.room.1 c.empty.ensures.room.1 (lit≤ tt)) }
-
--- OLD: 18 arguments for 14 goals
--- OLD goal slice-aggregate-word-before: search rules
--- OLD goal slice-aggregate-word-before-2: search rules
--- OLD goal slice-aggregate-word-before-3: search rules
--- OLD goal slice-aggregate-word-before-4: search rules

@@ -17,6 +17,3 @@ pub returns : goal.returns
 returns c = let a = c.args in
     both-done (text_in a.t) a.more.now a.buf.now _ (160 - a.t.at) (simp length-drop (omega arith)) (omega arith)
     (c.copy-2.ensures ∙ ap (λ (l : List ℕ). paste l (160 - a.t.at) a.more.now (length a.more.now)) (c.copy.ensures ∙ ap (λ (l : List ℕ). paste a.buf.now 0 l (length l)) (take_all (160 - a.t.at) (text_in a.t) (simp length-drop (omega arith)))))
-
--- OLD goal slice-bounds-copy-start: search rules
--- OLD goal slice-bounds-copy-end: search rules
