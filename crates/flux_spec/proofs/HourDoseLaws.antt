@@ -92,11 +92,11 @@ module _ (tree : Outcome Figures) (age : Age) (first last ceiling : ℕ) (h : Ho
               unfolding hour_dose_of
               dosed-is pair p = rw (stand-is, p)
 
-              pub counted-is :
+              pub counted_is :
                   is_counted h ≡ true → (pair : Bounds) → pair ≡ hour_pair (stand_of f age first last ceiling) h →
                   accepted pair ≡ hour_dose_of tree age first last ceiling h
               unfolding hour_dose_of
-              counted-is counted pair p = rw (stand-is, counted, p)
+              counted_is counted pair p = rw (stand-is, counted, p)
 
               pub uncounted-is : is_counted h ≡ false → accepted (record { lower = 0; upper = 0 }) ≡ hour_dose_of tree age first last ceiling h
               unfolding hour_dose_of
