@@ -1,5 +1,5 @@
 -- A field's bytes by the cut number, and the seven fields together: the frame of the numbers, or row 26.
-use Rattle.std.proofs.Common.{◌≡◌, ℕ, ◌-◌, ◌<◌, ◌≤◌, min, Bool, true, false, cond, eqb, ltb, ℤ, pos, negsuc, sym, refl, ap, ◌∙◌, arith, ltb-false, ltb-true, le-ltb, ne_eqb}
+use Rattle.std.proofs.Common.{◌≡◌, ℕ, ◌-◌, ◌≤◌, min, Bool, true, false, cond, eqb, ltb, pos, negsuc, sym, refl, ap, ◌∙◌, arith, ltb-false, ltb-true, le-ltb, ne_eqb}
 use lib.Ieee.{Float}
 use Rattle.records.specs.declared.RawHour.{RawHour}
 use Rattle.records.specs.Answers.{Outcome, accepted, refused, onward}

@@ -1,5 +1,5 @@
 -- The whole number of a float by its sign and the size of it or of its negative.
-use Rattle.std.proofs.Common.{◌≡◌, ℕ, zero, suc, ◌+◌, ◌-◌, ◌*◌, ◌/◌, ◌%◌, ◌<◌, ◌≤◌, min, Bool, true, false, cond, not, ◌&&◌, ◌||◌, T, eqb, ltb, ℤ, pos, negsuc, sym, refl, ap, ◌∙◌, subst, true≢false, lt_irrefl, zero-mul, arith, eqb→eq, ltb→lt, nltb→le, T_not}
+use Rattle.std.proofs.Common.{◌≡◌, ℕ, zero, suc, ◌+◌, ◌-◌, ◌*◌, ◌/◌, ◌%◌, ◌<◌, ◌≤◌, min, Bool, true, false, cond, not, ◌&&◌, ◌||◌, T, eqb, ltb, ℤ, pos, sym, refl, ap, ◌∙◌, subst, true≢false, lt_irrefl, zero-mul, arith, eqb→eq, ltb→lt, nltb→le, T_not}
 use lib.Ieee.{Float, nan, inf, fin, up, down, lt, le, neg}
 use lib.Ieee.Fits.{and_i, eq→eqb}
 use Rattle.floats_spec.specs.Whole.{signed, whole, broken, whole_of}

@@ -1,5 +1,5 @@
 -- The size of a float that is not below 0: what a cast to an integer and back says of one below 2 ^ 24, and that every one from there on is whole.
-use Rattle.std.proofs.Common.{◌≡◌, ℕ, zero, suc, ◌+◌, ◌-◌, ◌*◌, ◌/◌, ◌%◌, ◌^◌, ◌<◌, ◌≤◌, min, Bool, true, false, cond, not, ◌&&◌, ◌||◌, T, eqb, ltb, leb, ℤ, pos, negsuc, sym, refl, ap, ◌∙◌, subst, true≢false, div-lt_iff_lt-mul, mul-le-mul_left, zero-mul, mul-one, arith, eqb→eq, ltb→lt, lt→ltb, T_not, pow_pos}
+use Rattle.std.proofs.Common.{◌≡◌, ℕ, zero, suc, ◌+◌, ◌-◌, ◌*◌, ◌/◌, ◌%◌, ◌^◌, ◌<◌, ◌≤◌, min, Bool, true, false, not, ◌&&◌, ◌||◌, T, eqb, ltb, leb, ℤ, pos, negsuc, sym, refl, ap, ◌∙◌, subst, true≢false, div-lt_iff_lt-mul, mul-le-mul_left, zero-mul, mul-one, arith, eqb→eq, ltb→lt, lt→ltb, T_not, pow_pos}
 use native.Mathlib.Nat.{eq_of_mul-eq-mul_right, zero-div}
 use mathlib.Core.Bool.{beq}
 use lib.Ieee.{Float, nan, inf, fin, binary32, up, down, lt, le, eq, to_unsigned, of_int, fits}

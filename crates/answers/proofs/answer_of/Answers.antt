@@ -1,6 +1,5 @@
 -- `answers::answer_of` meets its contract.
 use Prim.Native.Nat.{ℕ}
-use borrow.Author.Rules.{rules}
 use mathlib.Core.Path.{sym, ap, ◌∙◌}
 use mathlib.Core.Option.{some}
 use Rattle.records.specs.Answers.{refused}

@@ -1,5 +1,4 @@
 -- `answers::field_of` meets its contract.
-use borrow.Author.Rules.{rules}
 use Rattle.answers.proofs.field_of.Goals as goal
 
 pub returns-in-Length : goal.returns-in-Length

@@ -1,5 +1,4 @@
 -- `answers::no_trial` meets its contract.
-use borrow.Author.Rules.{rules}
 use Rattle.answers.proofs.no_trial.Goals as goal
 
 pub returns : goal.returns

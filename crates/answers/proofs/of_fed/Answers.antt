@@ -1,5 +1,4 @@
 -- `answers::of_fed` meets its contract.
-use borrow.Author.Rules.{rules}
 use Rattle.answers.proofs.of_fed.Goals as goal
 
 pub returns-in-Refused : goal.returns-in-Refused

@@ -1,5 +1,4 @@
 -- `answers::of_reading` meets its contract.
-use borrow.Author.Rules.{rules}
 use Rattle.answers.proofs.of_reading.Goals as goal
 
 pub returns-in-Given : goal.returns-in-Given

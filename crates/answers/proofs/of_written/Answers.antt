@@ -1,5 +1,4 @@
 -- `answers::of_written` meets its contract.
-use borrow.Author.Rules.{rules}
 use Rattle.answers.proofs.of_written.Goals as goal
 
 pub returns-in-Refused : goal.returns-in-Refused

@@ -1,5 +1,4 @@
 -- `answers::printed_of` meets its contract.
-use borrow.Author.Rules.{rules}
 use Rattle.answers.proofs.printed_of.Goals as goal
 
 pub returns-in-Bytes : goal.returns-in-Bytes

@@ -1,5 +1,4 @@
 -- `answers::readout_of` meets its contract.
-use borrow.Author.Rules.{rules}
 use Rattle.answers.proofs.readout_of.Goals as goal
 
 pub returns : goal.returns

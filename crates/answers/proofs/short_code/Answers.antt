@@ -1,6 +1,5 @@
 -- `answers::short_code` meets its contract: the row, and 256 times the field.
 use mathlib.Core.Path.{refl}
-use borrow.Author.Rules.{rules}
 use Rattle.answers.proofs.short_code.Goals as goal
 
 pub returns : goal.returns

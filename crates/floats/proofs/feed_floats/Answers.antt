@@ -1,7 +1,5 @@
 -- `floats::feed_floats` meets its contract.
-use Rattle.std.proofs.Common.{◌≡◌, sym, ap, ◌∙◌, rules}
 use Rattle.floats_spec.proofs.PromiseLaws.{float-promise}
-use Rattle.floats.specs.Steps.{fields_of, first_broken, frame_in}
 use Rattle.floats.proofs.AnswerLaws.{whole-answers, broken-answers, untimely-answers}
 use Rattle.floats.proofs.feed_floats.Goals as goal
 

@@ -1,5 +1,4 @@
 -- `lines::put_none_yet` meets its contract.
-use borrow.Author.Rules.{rules}
 use Rattle.records.proofs.BufferLaws.{prints-same}
 use Rattle.lines.proofs.put_none_yet.Goals as goal
 

@@ -1,5 +1,4 @@
 -- `lines::put_refused` meets its contract.
-use borrow.Author.Rules.{rules}
 use Rattle.records.proofs.BufferLaws.{prints-same}
 use Rattle.lines.proofs.put_refused.Goals as goal
 

@@ -2,7 +2,6 @@
 use Prim.Native.Nat.{ℕ}
 use mathlib.Core.Path.{ap}
 use mathlib.Core.List.{List, ◌++◌}
-use borrow.Author.Rules.{rules}
 use Rattle.records.proofs.BufferLaws.{prints-same}
 use Rattle.lines.proofs.put_season.Goals as goal
 

@@ -1,5 +1,4 @@
 -- `lines::put_totals` meets its contract.
-use borrow.Author.Rules.{rules}
 use Rattle.records.proofs.BufferLaws.{prints-same}
 use Rattle.lines.proofs.put_totals.Goals as goal
 

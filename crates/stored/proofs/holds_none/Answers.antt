@@ -1,6 +1,5 @@
 -- `stored::holds_none` meets its contract.
 use native.Mathlib.Omega.{arith}
-use borrow.Author.Rules.{rules}
 use mathlib.Core.Bool.{not}
 use mathlib.Core.Path.{ap, ◌∙◌}
 use Rattle.stored.proofs.HeldLaws.{none-short, none-version, none-phase, none-kind}

@@ -34,7 +34,8 @@ returns c = let storable : Storable c.args.account = let a = c.args.account in
     record { numbers = fits-split 21 widths (account_numbers a) 0 front parameters; total = total-back a.carried.total total } in
     let a = c.args.account in
     let l = c.args.buffer.now in
-    record { prints = prints-whole
+    record {
+      prints = prints-whole
           (account_bytes a)
           l
           _
@@ -48,4 +49,6 @@ returns c = let storable : Storable c.args.account = let a = c.args.account in
             c.kind_number-k.ensures,
             at_plain a.carried.total (search rules) complement_of c.complement-total.ensures,
           )
-          (put-bytes a l (omega arith))); back = taken-up a (storable) }
+          (put-bytes a l (omega arith)));
+      back = taken-up a (storable);
+    }

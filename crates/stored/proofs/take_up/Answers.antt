@@ -1,6 +1,5 @@
 -- `stored::take_up` meets its contract.
 use native.Mathlib.Omega.{arith}
-use borrow.Author.Rules.{rules}
 use mathlib.Core.Path.{sym, ap, ◌∙◌}
 use Rattle.records.specs.Answers.{accepted}
 use Rattle.stored.proofs.HeldLaws.{held-room, taken_none, taken-account}

@@ -1,5 +1,4 @@
 -- `stored_trial::code_in` meets its contract.
-use borrow.Author.Rules.{rules}
 use native.Mathlib.Omega.{arith}
 use Rattle.stored.specs.Packing.{big_endian_at}
 use Rattle.stored_trial.proofs.code_in.Goals as goal

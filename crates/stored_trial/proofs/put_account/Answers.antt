@@ -1,5 +1,4 @@
 -- `stored_trial::put_account` meets its contract.
-use borrow.Author.Rules.{rules}
 use Rattle.stored.specs.Layout.{account_bytes}
 use Rattle.stored.proofs.AccountLaws.{account-length}
 use Rattle.stored_trial.proofs.PartLaws.{put-part}

@@ -1,5 +1,4 @@
 -- `stored_trial::trial_with` meets its contract.
-use borrow.Author.Rules.{rules}
 use Rattle.stored_trial.proofs.ContentsLaws.{holds-accepted, holds-refused, holds-unknown}
 use Rattle.stored_trial.proofs.trial_with.Goals as goal
 

@@ -1,5 +1,4 @@
 -- `stored_trial::with_reading` meets its contract.
-use borrow.Author.Rules.{rules}
 use mathlib.Core.Path.{refl, subst}
 use Rattle.account_spec.specs.declared.Account.{Account}
 use Rattle.account_spec.specs.Reading.{Reads}

@@ -1,6 +1,5 @@
 -- `trial::left_by` meets its contract.
 use mathlib.Core.Path.{sym, ap}
-use borrow.Author.Rules.{rules}
 use Rattle.account_spec.specs.Rules.{left_by}
 use Rattle.trial.proofs.left_by.Goals as goal
 

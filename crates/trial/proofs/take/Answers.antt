@@ -1,11 +1,8 @@
 -- `trial::take` meets its contract, the promise of trials among it.
 use mathlib.Core.Path.{◌≡◌, sym, ◌∙◌}
 use mathlib.Core.Bool.{true, false}
-use borrow.Author.Rules.{rules}
 use borrow.Author.Tests.{not-true, not-false}
-use Rattle.account_spec.specs.declared.Account.{Account}
 use Rattle.account_spec.specs.Account.{impossible}
-use Rattle.trial_spec.specs.declared.Trial.{Trial}
 use Rattle.trial_spec.specs.Same.{is_same}
 use Rattle.trial_spec.proofs.TakeLaws.{takes-impossible, takes-other, takes-refused, takes-next-impossible, takes-next}
 use Rattle.trial.proofs.Cited.{promise-cited}

@@ -1,13 +1,12 @@
 -- `trial::trial` meets its contract.
 use mathlib.Core.Path.{refl, subst, ◌∙◌}
-use borrow.Author.Rules.{rules}
 use Rattle.account_spec.specs.declared.Account.{Account}
 use Rattle.account_spec.specs.Reading.{Reads}
 use Rattle.trial.proofs.trial.Goals as goal
 
 pub returns : goal.returns
 returns c = record {
-      tried = refl;
-      answer = c.feed-answer.ensures;
-      reading = subst (λ (a : Account). Reads a c.read-reading.result) (c.left_by-next.ensures ∙ c.feed-answer.ensures.leaves) c.read-reading.ensures;
-    }
+  tried = refl;
+  answer = c.feed-answer.ensures;
+  reading = subst (λ (a : Account). Reads a c.read-reading.result) (c.left_by-next.ensures ∙ c.feed-answer.ensures.leaves) c.read-reading.ensures;
+}

@@ -1,5 +1,4 @@
 -- `answers::comparing::comparison_of` meets its contract.
-use borrow.Author.Rules.{rules}
 use Rattle.answers.proofs.comparing.comparison_of.Goals as goal
 
 pub returns-in-None : goal.returns-in-None

@@ -1,7 +1,6 @@
 -- `answers::stretching::stretch_of` meets its contract.
 use mathlib.Core.Path.{ap, ◌∙◌}
 use Rattle.answers.specs.Stretching.{no_stretch}
-use borrow.Author.Rules.{rules}
 use Rattle.answers.proofs.stretching.stretch_of.Goals as goal
 
 pub returns-in-Found : goal.returns-in-Found

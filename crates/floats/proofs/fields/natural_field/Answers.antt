@@ -1,5 +1,5 @@
 -- `floats::fields::natural_field` meets its contract.
-use Rattle.std.proofs.Common.{◌≡◌, sym, ap, ◌∙◌, rules, le-ltb, lt-ltb}
+use Rattle.std.proofs.Common.{sym, ◌∙◌, le-ltb, lt-ltb}
 use Rattle.floats.proofs.FieldLaws.{natural-says}
 use Rattle.floats.proofs.fields.natural_field.Goals as goal
 

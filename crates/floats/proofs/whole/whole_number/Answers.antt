@@ -1,5 +1,5 @@
 -- `floats::whole::whole_number` meets its contract.
-use Rattle.std.proofs.Common.{sym, ◌∙◌, rules}
+use Rattle.std.proofs.Common.{sym, ◌∙◌}
 use lib.Ieee.{of_bits}
 use Rattle.floats.proofs.OrderLaws.{is_T}
 use Rattle.floats.proofs.SignLaws.{plus-broken, plus-number, negated-ge, minus-broken, size-pos, minus_number, neither-broken}

@@ -1,6 +1,5 @@
 -- `lines::calls::of_header_refused` meets its contract.
 use mathlib.Core.Path.{ap, ◌∙◌}
-use borrow.Author.Rules.{rules}
 use Rattle.lines.specs.Calls.{phrase, word_refused, word_header}
 use Rattle.lines.proofs.calls.of_header_refused.Goals as goal
 

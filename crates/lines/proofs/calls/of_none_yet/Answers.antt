@@ -2,7 +2,6 @@
 use mathlib.Core.Path.{ap, ◌∙◌}
 use Prim.Native.Nat.{ℕ}
 use mathlib.Core.List.{List, ◌++◌}
-use borrow.Author.Rules.{rules}
 use Rattle.lines.specs.Calls.{word_none_yet}
 use Rattle.lines.proofs.calls.of_none_yet.Goals as goal
 

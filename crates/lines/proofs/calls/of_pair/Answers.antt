@@ -2,7 +2,6 @@
 use mathlib.Core.Path.{ap, ◌∙◌}
 use Prim.Native.Nat.{ℕ}
 use mathlib.Core.List.{List, ◌∷◌}
-use borrow.Author.Rules.{rules}
 use Rattle.report_spec.specs.Text.{decimal, space}
 use Rattle.lines.proofs.calls.of_pair.Goals as goal
 

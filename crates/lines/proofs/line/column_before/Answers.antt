@@ -1,7 +1,6 @@
 -- `lines::line::column_before` meets its contract.
 use mathlib.Core.Path.{ap, ◌∙◌}
 use native.Mathlib.Omega.{arith}
-use borrow.Author.Rules.{rules}
 use Rattle.report_spec.specs.Text.{decimal}
 use Rattle.lines.proofs.line.column_before.Goals as goal
 

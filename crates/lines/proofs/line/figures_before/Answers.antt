@@ -1,6 +1,5 @@
 -- `lines::line::figures_before` meets its contract.
 use native.Mathlib.Omega.{arith}
-use borrow.Author.Rules.{rules}
 use Rattle.report_spec.specs.Steps.{text_in}
 use Rattle.report_spec.proofs.TextLaws.{figures-is}
 use Rattle.lines.proofs.line.figures_before.Goals as goal

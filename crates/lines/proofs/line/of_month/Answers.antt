@@ -1,5 +1,4 @@
 -- `lines::line::of_month` meets its contract.
-use borrow.Author.Rules.{rules}
 use Rattle.report_spec.proofs.TextLaws.{month-is}
 use Rattle.lines.proofs.line.of_month.Goals as goal
 

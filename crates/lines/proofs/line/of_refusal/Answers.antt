@@ -1,5 +1,4 @@
 -- `lines::line::of_refusal` meets its contract.
-use borrow.Author.Rules.{rules}
 use Rattle.report_spec.proofs.TextLaws.{refusal_is}
 use Rattle.lines.proofs.line.of_refusal.Goals as goal
 

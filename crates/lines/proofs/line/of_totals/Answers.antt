@@ -1,5 +1,4 @@
 -- `lines::line::of_totals` meets its contract.
-use borrow.Author.Rules.{rules}
 use Rattle.report_spec.proofs.TextLaws.{line-is}
 use Rattle.lines.proofs.line.of_totals.Goals as goal
 

@@ -1,5 +1,4 @@
 -- `lines::line::of_verdict` meets its contract.
-use borrow.Author.Rules.{rules}
 use lib.Dec.{lit≤}
 use Rattle.account_spec.specs.declared.Verdict.TheVariants.{None, Undecided, Exceeded, Below}
 use Rattle.account_spec.specs.Reading.{word_of}

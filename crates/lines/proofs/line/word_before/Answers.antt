@@ -1,12 +1,8 @@
 -- `lines::line::word_before` meets its contract: the bytes passed stand before the text.
-use Prim.Native.Nat.{◌≤◌, ◌+◌}
 use mathlib.Core.Path.{◌≡◌, ◌∙◌}
-use mathlib.Core.List.{◌++◌}
 use native.Mathlib.Omega.{arith}
 use borrow.Author.Rules.{rules}
-use lib.ListN.{length, drop}
 use lib.Seq.{drop-length}
-use Rattle.report_spec.specs.Steps.{text_in, Whole}
 use Rattle.report_spec.proofs.TextLaws.{word-step}
 use Rattle.lines.proofs.line.word_before.Goals as goal
 

@@ -1,6 +1,5 @@
 -- `lines::text::byte_before` meets its contract.
 use native.Mathlib.Omega.{arith}
-use borrow.Author.Rules.{rules}
 use lib.ListN.{length-set}
 use Rattle.report_spec.proofs.TextLaws.{byte-before}
 use Rattle.lines.proofs.text.byte_before.Goals as goal

@@ -1,12 +1,8 @@
 -- `lines::text::number_before` meets its contract: what is left of the number, before the text made, is the number before the text.
-use Prim.Native.Nat.{◌/◌}
-use mathlib.Core.Path.{◌≡◌, sym, ap, ◌∙◌}
-use native.Mathlib.Omega.{arith}
-use borrow.Author.Rules.{rules}
+use mathlib.Core.Path.{◌≡◌}
 use Rattle.report_spec.specs.Text.{decimal}
 use Rattle.report_spec.specs.Steps.{text_in, Whole}
-use Rattle.report_spec.proofs.DecimalLaws.{decimal-last, decimal_step}
-use Rattle.report_spec.proofs.TextLaws.{TextRoom, room-start, room-step}
+use Rattle.report_spec.proofs.TextLaws.{TextRoom}
 use Rattle.lines.proofs.text.number_before.Given as goal
 
 abbrev pub invariant-loop-left : goal.invariant-loop-left

@@ -1,13 +1,8 @@
 -- `lines::text::put` meets its contract: the bytes passed are copied, the others untouched.
 use Prim.Native.Nat.{◌≤◌, ◌-◌}
-use mathlib.Core.Path.{◌≡◌, ap, ◌∙◌}
-use native.Mathlib.Omega.{arith}
-use borrow.Author.Rules.{rules}
-use lib.ListN.{length, length-drop}
-use lib.Seq.{get_or-drop}
+use mathlib.Core.Path.{◌≡◌}
 use Rattle.report_spec.specs.Steps.{text_in}
-use Rattle.records.proofs.BufferLaws.{prints-short}
-use Rattle.report_spec.proofs.TextLaws.{copied, copied-length, copied-step, prints-done}
+use Rattle.report_spec.proofs.TextLaws.{copied}
 use Rattle.lines.proofs.text.put.Given as goal
 
 abbrev pub invariant-loop-i : goal.invariant-loop-i

@@ -1,7 +1,6 @@
 -- `stored::big_endian::get` meets its contract.
 use native.Mathlib.Omega.{arith}
-use Prim.Native.Nat.{◌≤◌, ◌<◌, ◌-◌, ◌^◌, ◌*◌, ◌+◌}
-use borrow.Author.Rules.{rules}
+use Prim.Native.Nat.{◌*◌, ◌+◌}
 use mathlib.Core.Path.{◌≡◌, refl, sym, ap, ◌∙◌}
 use Rattle.stored.specs.Packing.{big_endian_at}
 use Rattle.stored.proofs.BigEndianLaws.{big_endian_at-step, grown, small}

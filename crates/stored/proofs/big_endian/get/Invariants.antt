@@ -1,10 +1,7 @@
 -- `stored::big_endian::get` meets its contract.
-use native.Mathlib.Omega.{arith}
-use Prim.Native.Nat.{◌≤◌, ◌<◌, ◌-◌, ◌^◌, ◌*◌, ◌+◌}
-use borrow.Author.Rules.{rules}
-use mathlib.Core.Path.{◌≡◌, refl, sym, ap, ◌∙◌}
+use Prim.Native.Nat.{◌≤◌, ◌<◌, ◌-◌, ◌^◌}
+use mathlib.Core.Path.{◌≡◌}
 use Rattle.stored.specs.Packing.{big_endian_at}
-use Rattle.stored.proofs.BigEndianLaws.{big_endian_at-step, grown, small}
 use Rattle.stored.proofs.big_endian.get.Given as goal
 
 abbrev pub invariant-loop-i : goal.invariant-loop-i

@@ -1,11 +1,10 @@
 -- `stored::big_endian::put` meets its contract.
-use Prim.Native.Nat.{ℕ, ◌≤◌, ◌+◌, ◌%◌}
+use Prim.Native.Nat.{◌%◌}
 use native.Mathlib.Omega.{arith}
-use borrow.Author.Rules.{rules}
-use mathlib.Core.List.{List, [], ◌∷◌}
+use mathlib.Core.List.{[], ◌∷◌}
 use native.Mathlib.Nat.{add-zero}
 use lib.ListN.{length}
-use lib.Seq.{sets, length-sets}
+use lib.Seq.{length-sets}
 use mathlib.Core.Path.{◌≡◌, refl, ap, ◌∙◌}
 use Rattle.stored.specs.Packing.{big_endian}
 use Rattle.stored.proofs.BigEndianLaws.{put-before, big_endian-step}

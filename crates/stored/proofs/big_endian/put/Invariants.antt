@@ -1,14 +1,9 @@
 -- `stored::big_endian::put` meets its contract.
-use Prim.Native.Nat.{ℕ, ◌≤◌, ◌+◌, ◌%◌}
-use native.Mathlib.Omega.{arith}
-use borrow.Author.Rules.{rules}
-use mathlib.Core.List.{List, [], ◌∷◌}
-use native.Mathlib.Nat.{add-zero}
-use lib.ListN.{length}
-use lib.Seq.{sets, length-sets}
-use mathlib.Core.Path.{◌≡◌, refl, ap, ◌∙◌}
+use Prim.Native.Nat.{ℕ, ◌≤◌, ◌+◌}
+use mathlib.Core.List.{List, []}
+use lib.Seq.{sets}
+use mathlib.Core.Path.{◌≡◌}
 use Rattle.stored.specs.Packing.{big_endian}
-use Rattle.stored.proofs.BigEndianLaws.{put-before, big_endian-step}
 use Rattle.stored.proofs.big_endian.put.Given as goal
 
 abbrev pub invariant-loop-i : goal.invariant-loop-i

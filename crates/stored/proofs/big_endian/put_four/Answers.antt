@@ -2,7 +2,6 @@
 use native.Mathlib.Omega.{arith}
 use Prim.Native.Nat.{suc, ◌+◌}
 use mathlib.Core.Path.{◌≡◌}
-use borrow.Author.Rules.{rules}
 use Rattle.stored.specs.Packing.{big_endian}
 use Rattle.stored.proofs.big_endian.put_four.Goals as goal
 

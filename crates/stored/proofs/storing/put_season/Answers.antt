@@ -1,5 +1,4 @@
 -- `stored::storing::put_season` meets its contract.
-use borrow.Author.Rules.{rules}
 use Rattle.stored.specs.Packing.{big_endian}
 use Rattle.stored.proofs.storing.put_season.Goals as goal
 

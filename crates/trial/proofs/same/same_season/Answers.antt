@@ -2,7 +2,6 @@
 use mathlib.Core.Path.{◌≡◌}
 use mathlib.Core.Bool.{Bool, true, ◌&&◌, and-true, and_assoc}
 use lib.Dec.{eqb}
-use borrow.Author.Rules.{rules}
 use Rattle.records.specs.Numbers.{same_numbers}
 use Rattle.measured.specs.Parameters.{parameter_numbers}
 use Rattle.trial.proofs.same.same_season.Goals as goal
