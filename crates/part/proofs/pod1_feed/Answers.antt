@@ -1,5 +1,4 @@
 -- `part::pod1_feed` meets its contract.
-use borrow.Author.Rules.{rules}
 use Rattle.part_spec.specs.Calls.{fed_in}
 use Rattle.part_spec.proofs.CallLaws.{held-room, leaves_none, leaves-next}
 use Rattle.part.proofs.pod1_feed.Goals as goal

@@ -1,6 +1,5 @@
 -- `part::pod1_line` meets its contract.
 use mathlib.Core.Path.{refl, sym, ap, ◌∙◌}
-use borrow.Author.Rules.{rules}
 use Rattle.stored.specs.Layout.{held_as}
 use Rattle.part_spec.specs.Calls.{line_in}
 use Rattle.part_spec.proofs.CallLaws.{prints-onward, prints-refused}

@@ -1,5 +1,4 @@
 -- `part::pod1_read` meets its contract.
-use borrow.Author.Rules.{rules}
 use mathlib.Core.Path.{ap, ◌∙◌}
 use Rattle.answers.specs.Reading.{no_readout}
 use Rattle.part_spec.proofs.CallLaws.{reads_none, reads-some}

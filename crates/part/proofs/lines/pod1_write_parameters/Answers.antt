@@ -1,5 +1,4 @@
 -- `part::lines::pod1_write_parameters` meets its contract.
-use borrow.Author.Rules.{rules}
 use Rattle.part.proofs.lines.pod1_write_parameters.Goals as goal
 
 pub returns : goal.returns

@@ -3,7 +3,6 @@ use mathlib.Core.Path.{refl, sym, ap, ◌∙◌}
 use Rattle.dates_spec.specs.Rules.{placed_as}
 use Rattle.part_spec.specs.Frames.{placed_text}
 use Rattle.part_spec.proofs.CallLaws.{prints-refused}
-use borrow.Author.Rules.{rules}
 use Rattle.part.proofs.lines.pod1_write_place.Goals as goal
 
 pub returns-in-Header : goal.returns-in-Header

@@ -1,5 +1,4 @@
 -- `part::lines::write_hour` meets its contract.
-use borrow.Author.Rules.{rules}
 use Rattle.part.proofs.lines.write_hour.Goals as goal
 
 pub returns : goal.returns

@@ -1,5 +1,4 @@
 -- `part::logger::pod1_feed_floats` meets its contract.
-use borrow.Author.Rules.{rules}
 use Rattle.floats_spec.proofs.PromiseLaws.{float-promise}
 use Rattle.part_spec.specs.Floats.{floats_fed_in}
 use Rattle.part_spec.proofs.FloatLaws.{float-bytes-promise}

@@ -1,5 +1,4 @@
 -- `part::stand::pod1_feed_all` meets its contract.
-use borrow.Author.Rules.{rules}
 use Rattle.part_spec.proofs.ListLaws.{list-told}
 use Rattle.part.proofs.stand.pod1_feed_all.Goals as goal
 

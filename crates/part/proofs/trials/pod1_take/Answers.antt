@@ -1,5 +1,4 @@
 -- `part::trials::pod1_take` meets its contract.
-use borrow.Author.Rules.{rules}
 use Rattle.part_spec.specs.Trials.{taken_in}
 use Rattle.part_spec.proofs.CallLaws.{held-room, leaves_none, leaves-next}
 use Rattle.part.proofs.CitedTrials.{trials-cited}

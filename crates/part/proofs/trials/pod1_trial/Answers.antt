@@ -1,5 +1,4 @@
 -- `part::trials::pod1_trial` meets its contract.
-use borrow.Author.Rules.{rules}
 use mathlib.Core.Path.{sym, ap, ◌∙◌}
 use Rattle.stored.specs.Layout.{held_as}
 use Rattle.answers.specs.Reading.{no_trial}

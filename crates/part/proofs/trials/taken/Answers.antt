@@ -1,5 +1,4 @@
 -- `part::trials::taken` meets its contract.
-use borrow.Author.Rules.{rules}
 use Rattle.part_spec.proofs.TrialLaws.{taken_none, taken-trial}
 use Rattle.part.proofs.trials.taken.Goals as goal
 

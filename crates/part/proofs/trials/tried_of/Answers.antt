@@ -1,5 +1,4 @@
 -- `part::trials::tried_of` meets its contract.
-use borrow.Author.Rules.{rules}
 use Rattle.part.proofs.trials.tried_of.Goals as goal
 
 pub returns : goal.returns
