@@ -202,23 +202,17 @@ def try_pieces_of(day, year):
     try_pieces("leap year", year, 4096)
 
 
-def hold_unread(name, printed, messages, status):
-    """A read that fails may end the program with an error, which is told on standard error alone."""
-    same(name, printed, b"")
-    same(f"{name}: status {status}, {messages!r}", (status, bool(messages)) in ((0, False), (1, True)), True)
-
-
 def try_folder():
     """Nothing is printed where standard input is a directory."""
     folder = os.open(REPOSITORY, os.O_RDONLY)
-    hold_unread("a directory as standard input", *run([PROGRAM], stdin=folder))
+    same("a directory as standard input", run([PROGRAM], stdin=folder), (b"", b"", 0))
     os.close(folder)
 
 
 def try_closed():
     """Nothing is printed where standard input is closed."""
     closed = ["sh", "-c", 'exec "$0" <&-', PROGRAM]
-    hold_unread("standard input closed", *run(closed))
+    same("standard input closed", run(closed), (b"", b"", 0))
 
 
 # ---- memory
