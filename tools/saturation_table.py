@@ -106,7 +106,6 @@ def proof(first: int) -> list[str]:
     lines = [
         f"-- `humidity::lookups::from_{first}` meets its contract: each array passes one computed test. Made by tools/saturation_table.py.",
         "use native.Mathlib.Omega.{arith}",
-        "use borrow.Author.Rules.{rules}",
         "use Rattle.exact.proofs.SeriesCommon.{common_num, common_den}",
         "use Rattle.humidity_spec.specs.Vapour.{celsius, exponent}",
         "use Rattle.humidity.proofs.TableLaws.{entry_read}",

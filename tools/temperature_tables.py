@@ -172,7 +172,6 @@ def proof(tree: str) -> list[str]:
     lines = [
         f"-- `tables::lookups::{name}_at` meets its contract: each array passes one computed test. Made by tools/temperature_tables.py.",
         "use native.Mathlib.Omega.{arith}",
-        "use borrow.Author.Rules.{rules}",
         "use Rattle.trees.specs.Temperature.{tried, allowed}",
         f"use Rattle.trees.proofs.SoundLaws.{{{name}-sound}}",
         "use Rattle.trees.proofs.TemperatureTrim.{floor-pair}",
