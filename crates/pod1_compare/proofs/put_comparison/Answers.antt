@@ -1,6 +1,5 @@
 -- `pod1_compare::put_comparison` meets its contract: each case of an answer has its line.
 use mathlib.Core.Path.{sym, ap, ◌∙◌}
-use borrow.Author.Rules.{rules}
 use Rattle.records.proofs.BufferLaws.{prints-same}
 use Rattle.compare_spec.specs.declared.Comparison.{Comparison}
 use Rattle.compare_spec.specs.Comparison.{comparison_as}

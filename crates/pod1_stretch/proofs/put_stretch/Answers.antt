@@ -1,6 +1,5 @@
 -- `pod1_stretch::put_stretch` meets its contract: each case of an answer has its line.
 use mathlib.Core.Path.{sym, ap, ◌∙◌}
-use borrow.Author.Rules.{rules}
 use Rattle.records.proofs.BufferLaws.{prints-same}
 use Rattle.stretch_spec.specs.declared.Stretch.{Stretch}
 use Rattle.stretch_spec.specs.Worst.{stretch_as}
