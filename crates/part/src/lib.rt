@@ -4,11 +4,11 @@
 
 mod given;
 mod leaving;
-mod lines;
 mod logger;
 mod stand;
 mod texts;
 mod trials;
+mod writing;
 
 ghost use Rattle.std.specs.Prelude.{◌≡◌};
 ghost use Rattle.account_spec.specs.Account.{fresh_account};
@@ -18,16 +18,16 @@ ghost use Rattle.part_spec.specs.Promise.{PartPromise};
 
 use answers::{Printed, Readout};
 use frames::Written;
-pub use lines::{
-    pod1_write_ceiling, pod1_write_end, pod1_write_header, pod1_write_hour,
-    pod1_write_hour_humidity, pod1_write_hour_pressure, pod1_write_parameters, pod1_write_place,
-    pod1_write_warmth,
-};
 pub use logger::pod1_feed_floats;
 pub use stand::pod1_feed_all;
 use stored::Held;
 pub use texts::{pod1_compare, pod1_report, pod1_worst_stretch};
 pub use trials::{pod1_take, pod1_trial};
+pub use writing::{
+    pod1_write_ceiling, pod1_write_end, pod1_write_header, pod1_write_hour,
+    pod1_write_hour_humidity, pod1_write_hour_pressure, pod1_write_parameters, pod1_write_place,
+    pod1_write_warmth,
+};
 
 // A fresh account into the first bytes of a buffer; refused only by row 12.
 pub fn pod1_fresh(account: &mut [u8]) -> u32

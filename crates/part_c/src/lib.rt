@@ -2,11 +2,11 @@
 // A code is 0, or the row that refuses the call plus 256 times the field that rows 10 and 26 name.
 #![tactic(auto)]
 
-mod lines;
 mod logger;
 mod stand;
 mod texts;
 mod trials;
+mod writing;
 
 ghost use Rattle.std.specs.Prelude.{◌≡◌};
 ghost use Rattle.account_spec.specs.Account.{fresh_account};

@@ -1,9 +1,9 @@
--- `part::lines::pod1_write_place` meets its contract: by whether the place has a header.
+-- `part::writing::pod1_write_place` meets its contract: by whether the place has a header.
 use mathlib.Core.Path.{refl, sym, ap, ◌∙◌}
 use Rattle.dates_spec.specs.Rules.{placed_as}
 use Rattle.part_spec.specs.Frames.{placed_text}
 use Rattle.part_spec.proofs.CallLaws.{prints-refused}
-use Rattle.part.proofs.lines.pod1_write_place.Goals as goal
+use Rattle.part.proofs.writing.pod1_write_place.Goals as goal
 
 pub returns-in-Header : goal.returns-in-Header
 unfolding placed_text

@@ -1,5 +1,5 @@
--- `part::lines::write_hour` meets its contract.
-use Rattle.part.proofs.lines.write_hour.Goals as goal
+-- `part::writing::write_hour` meets its contract.
+use Rattle.part.proofs.writing.write_hour.Goals as goal
 
 pub returns : goal.returns
 returns c = record { prints_bytes = rw c.hour_from.ensures at c.write.ensures.prints_bytes; round_trip = c.write.ensures.round_trip }
