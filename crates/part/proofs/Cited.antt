@@ -34,10 +34,11 @@ tied-run done = stop
 tied-run (by-feed c t) = feeds c.holds (tied-run t)
 tied-run (by_read c t) = reads c.holds (tied-run t)
 
-abbrev lent : List ℕ → Bor (List ℕ)
+-- bytes lent for a call
+abbrev pub lent : List ℕ → Bor (List ℕ)
 lent l = record { ref_ptr = (0, 0); now = l }
 
-abbrev lent-mut : List ℕ → MutBor (List ℕ)
+abbrev pub lent-mut : List ℕ → MutBor (List ℕ)
 lent-mut l = record { ref_ptr = (0, 0); ghost_name = 0; now = l }
 
 run-tied : {b : List ℕ} {ts : List Told} → BytesRun b ts → Tied b ts

@@ -2,20 +2,13 @@
 use Prim.Native.Nat.{ℕ}
 use mathlib.Core.Path.{◌≡◌}
 use mathlib.Core.List.{List, []}
-use denote.MutBor.{MutBor}
-use denote.Ref.{Bor}
 use Rattle.stored.specs.Layout.{take_up_of}
 use Rattle.answers.specs.declared.Tried.{Tried}
 use Rattle.part_spec.specs.Trials.{TakenAsFed, TrialBytesPromise}
 use Rattle.part_spec.proofs.TakenLaws.{trial-bytes-promise}
+use Rattle.part.proofs.Cited.{lent, lent-mut}
 use Rattle.part.proofs.trials.pod1_trial.Reads as trial-reads
 use Rattle.part.proofs.trials.pod1_take.Reads as take-reads
-
-abbrev lent : List ℕ → Bor (List ℕ)
-lent l = record { ref_ptr = (0, 0); now = l }
-
-abbrev lent-mut : List ℕ → MutBor (List ℕ)
-lent-mut l = record { ref_ptr = (0, 0); ghost_name = 0; now = l }
 
 -- what a call of `pod1_trial` promises, and one of `pod1_take`
 abbrev Made : (account line before : List ℕ) → Tried → List ℕ → Type 0

@@ -1,2 +1,2 @@
-mod Cited
+pub mod Cited
 mod CitedTrials
