@@ -29,7 +29,7 @@ def table(place: int) -> list[int]:
 def main() -> None:
     lines = [
         "// exp(-n/10000) in units of 10⁻⁹, made by tools/decay_table.py: entry d of a place's table is that of n = d·place, with 65 terms, rounded",
-        "// down. Past a table's end it is 0. A table is copied where it is read, so each is short.",
+        "// down. Past a table's end it is 0.",
     ]
     for name, place in PLACES.items():
         entries = table(place)

@@ -1,11 +1,11 @@
 #!/usr/bin/env python3
-"""Each tree's f_temp table (document 01, "Factors"), in whole-number arithmetic, and the function that reads it.
+"""Each tree's f_temp table (document 01, "Factors"), in whole-number arithmetic, and where it begins and ends.
 
     python3 tools/temperature_tables.py
 
-writes crates/tables/src/values.rt, src/lookups.rt, specs/Trimmed.antt, proofs/TrimmedLaws.antt and proofs/lookups/. An entry is the greatest whole t with
-t/10^9 not above a·w^(p/q). Entries under f_min go from both ends of a table until it begins and ends with one that is not. The proofs test every entry
-and every one that was cut, so nothing rests on this script.
+writes crates/tables/src/values.rt, specs/Trimmed.antt and proofs/TrimmedLaws.antt. An entry is the greatest whole t with t/10^9 not above a·w^(p/q).
+Entries under f_min go from both ends of a table until it begins and ends with one that is not. The proofs test every entry and every one that was cut,
+so nothing rests on this script.
 """
 from math import gcd
 from pathlib import Path
@@ -24,7 +24,6 @@ TREES = {
 HIGHEST = 600  # tenths of °C
 ZERO = 500  # a reading of 0.0 °C: tenths of a degree above -50.0 °C
 DECIMALS = 9
-PART = 100  # entries of one constant array
 CRATE = Path(__file__).resolve().parent.parent / "crates" / "tables"
 
 
@@ -59,12 +58,6 @@ def table(tree: str) -> dict[int, int]:
     return {x: entries[x] for x in range(min(reached), max(reached) + 1)}
 
 
-def parts(tree: str) -> dict[int, list[int]]:
-    """The entries of 10 degrees, by the first one's reading."""
-    found = table(tree)
-    return {first: [found[x] for x in range(first, min(first + PART, max(found) + 1))] for first in range(min(found), max(found) + 1, PART)}
-
-
 def snake(tree: str) -> str:
     """BorealSpruce: boreal_spruce."""
     return "".join("_" + c.lower() if c.isupper() else c for c in tree).lstrip("_")
@@ -76,58 +69,13 @@ def snake(tree: str) -> str:
 def values() -> list[str]:
     lines = [
         "// f_temp's tables, made by tools/temperature_tables.py: a·w^(p/q) rounded down to nine decimals, for each tenth of a degree above Tmin, below",
-        "// Tmax and up to 60.0 °C, from the first to the last that is not under f_min. TEMPERATURE_609 has the entries of the reading 609 and the 99",
-        "// after it: a table is copied where it is read, so each is short.",
+        "// Tmax and up to 60.0 °C, from the first to the last that is not under f_min. FIRST is the first entry's reading, tenths of a degree above -50.0 °C.",
     ]
     for tree in TREES:
-        lines += ["", "#[derive(Clone, Copy)]", f"pub(crate) struct {tree};", "", f"impl {tree} {{"]
-        for first, entries in parts(tree).items():
-            lines += [] if lines[-1].endswith("{") else [""]
-            lines += array(f"pub const TEMPERATURE_{first}: [u32; {len(entries)}]", entries, "    ")
+        entries = table(tree)
+        lines += ["", "#[derive(Clone, Copy)]", f"pub(crate) struct {tree};", "", f"impl {tree} {{", f"    pub const FIRST: u16 = {min(entries)};", ""]
+        lines += array(f"pub const TEMPERATURE: [u32; {len(entries)}]", list(entries.values()), "    ")
         lines += ["}"]
-    return lines
-
-
-def lookup(tree: str) -> list[str]:
-    found, first, last = parts(tree), min(table(tree)), max(table(tree))
-    lines = [
-        "",
-        f"pub(crate) fn {snake(tree)}_at(x: u16) -> Bounds",
-        "    requires { x ≤ 1100 }",
-        f"    ensures {{ result ≡ temperature_pair {snake(tree)} x }}",
-        "{",
-        f"    let fmin = trees::{tree}::FMIN;",
-        f"    if x < {first} {{",
-        "        return floor_of(fmin);",
-        "    }",
-    ]
-    if last < ZERO + HIGHEST:
-        lines += [f"    if {last} < x {{", "        return floor_of(fmin);", "    }"]
-    lines += [f"    match (x - {first}) / {PART} {{"]
-    for k, start in enumerate(found):
-        lines += [
-            f"        {k if k + 1 < len(found) else '_'} => {{",
-            f"            let t = {tree}::TEMPERATURE_{start};",
-            f"            table_entry(&t, {start}, fmin, x)",
-            "        },",
-        ]
-    return lines + ["    }", "}"]
-
-
-def lookups() -> list[str]:
-    lines = [
-        "// Each tree's f_temp at a reading, tenths of a degree above -50.0 °C: f_min outside the tree's table, else out of the part where the reading lies.",
-        "// Made by tools/temperature_tables.py.",
-        "ghost use Rattle.std.specs.Prelude.{◌≡◌, ◌≤◌};",
-        f"ghost use Rattle.trees.specs.Figures.{{{', '.join(snake(tree) for tree in TREES)}}};",
-        "ghost use Rattle.trees.specs.Temperature.{temperature_pair};",
-        "",
-        "use crate::entries::{floor_of, table_entry};",
-        f"use crate::values::{{{', '.join(sorted(TREES))}}};",
-        "use exact::Bounds;",
-    ]
-    for tree in TREES:
-        lines += lookup(tree)
     return lines
 
 
@@ -163,36 +111,6 @@ def trimmed_laws() -> list[str]:
     return lines + [f"  {snake(tree)}_table = {snake(tree)}-trimmed;" for tree in TREES] + ["}"]
 
 
-def answer(goal: str, proof: str) -> list[str]:
-    return ["", f"pub {goal} : goal.{goal}", "unfolding tried allowed", f"{goal} c = {proof}"]
-
-
-def proof(tree: str) -> list[str]:
-    name, first, last = snake(tree), min(table(tree)), max(table(tree))
-    lines = [
-        f"-- `tables::lookups::{name}_at` meets its contract: each array passes one computed test. Made by tools/temperature_tables.py.",
-        "use native.Mathlib.Omega.{arith}",
-        "use Rattle.trees.specs.Temperature.{tried, allowed}",
-        f"use Rattle.trees.proofs.SoundLaws.{{{name}-sound}}",
-        "use Rattle.trees.proofs.TemperatureTrim.{floor-pair}",
-        f"use Rattle.tables.proofs.TrimmedLaws.{{{name}-trimmed}}",
-        "use Rattle.tables.proofs.TableEntryLaws.{readable, read-pair}",
-        f"use Rattle.tables.proofs.lookups.{name}_at.Goals as goal",
-    ]
-    ends = [f"then-x-lt{first}", *([f"then-x-gt{last}"] if last < ZERO + HIGHEST else [])]
-    for n, end in enumerate(ends):
-        call = "floor_of" if n == 0 else f"floor_of-{end}"
-        lines += answer(f"returns-{end}", f"floor-pair {name}-trimmed (omega arith) (λ first. omega arith) c.{call}.ensures")
-    # a call in the first arm is named without it
-    arms = [*(f"-in-{k}" for k in range(len(parts(tree)) - 1)), "-in_default"]
-    calls = ["table_entry", *(f"table_entry{arm}" for arm in arms[1:])]
-    for n, arm in enumerate(arms):
-        lines += answer("table_entry-requires" + (arm if n else ""), "readable tt (omega arith) (omega arith)")
-    for arm, call in zip(arms, calls):
-        lines += answer(f"returns{arm}", f"read-pair {name}-sound c.{call}.ensures tt")
-    return lines
-
-
 def write(path: Path, lines: list[str]) -> None:
     path.parent.mkdir(parents=True, exist_ok=True)
     path.write_text("\n".join(lines) + "\n")
@@ -200,11 +118,8 @@ def write(path: Path, lines: list[str]) -> None:
 
 def main() -> None:
     write(CRATE / "src" / "values.rt", values())
-    write(CRATE / "src" / "lookups.rt", lookups())
     write(CRATE / "specs" / "Trimmed.antt", trimmed())
     write(CRATE / "proofs" / "TrimmedLaws.antt", trimmed_laws())
-    for tree in TREES:
-        write(CRATE / "proofs" / "lookups" / f"{snake(tree)}_at" / "Answers.antt", proof(tree))
 
 
 if __name__ == "__main__":

@@ -1,8 +1,11 @@
 -- The pair of an hour by what `hour_dose` says, and the account with an hour added by whether it is counted.
+use Rattle.std.specs.Prelude.{Result, Ok, Err}
+use Rattle.std.specs.Result.{result_unwrap_or}
 use Prim.Native.Nat.{ℕ, ◌+◌, ◌≤◌}
 use mathlib.Core.Path.{◌≡◌, refl, sym, ap, subst, ◌∙◌}
 use mathlib.Core.Bool.{Bool, true, false, cond}
 use native.Mathlib.Nat.{le_trans, add-zero}
+use native.Mathlib.Omega.{arith}
 use Rattle.exact.specs.declared.Bounds.{Bounds}
 use Rattle.trees.specs.declared.Figures.{Figures}
 use Rattle.trees.specs.declared.Warmth.{Warmth}
@@ -10,12 +13,11 @@ use Rattle.records.specs.declared.Hour.{Hour}
 use Rattle.records.specs.declared.Record.{Record}
 use Rattle.records.specs.declared.Refusal.{Refusal}
 use Rattle.records.specs.Ozone.{is_missing, read_as}
-use Rattle.records.specs.Answers.{Outcome, accepted, refused}
+use Rattle.records.specs.Answers.{Outcome, accepted, refused, outcome_of}
 use Rattle.records.specs.Ranges.{hour_checked, ceiling_out, warmth_broken, lacks_ceiling}
 use Rattle.records.proofs.AnswerLaws.{accepted-same, refused-not-accepted, row-passed, onward-passed}
 use Rattle.flux_spec.specs.Dose.{is_counted, excess}
-use Rattle.flux_spec.specs.HourDose.{tree_of, stand_of, days_out, soil_unfit, stand_for, hour_dose_of, dosed_as}
-use Rattle.flux_spec.specs.declared.Dosed.{Dosed}
+use Rattle.flux_spec.specs.HourDose.{tree_of, stand_of, days_out, soil_unfit, stand_for, hour_dose_of}
 use Rattle.flux_spec.specs.declared.Age.{Age}
 use Rattle.flux_spec.specs.declared.Stand.{Stand}
 use Rattle.flux_spec.proofs.HourDoseLaws.{stand-passed}
@@ -67,27 +69,39 @@ module _ (season : Season) (c : Carried) (h : Hour) where
   unfolding pair_by
   pair_is dosable counted = rw (dose-is dosable counted) refl
 
-  module _ (counted : is_counted h ≡ true) (d : Dosed) (dosed : dosed_as d ≡ dose) where
-    pub pair-given : (pair : Bounds) → d ≡ Dosed.Pair pair → pair ≡ pair_by season c.sum h
+  module _ (counted : is_counted h ≡ true) (d : Result Bounds Refusal) (dosed : outcome_of d ≡ dose) where
+    pub pair-given : (pair : Bounds) → d ≡ Ok pair → pair ≡ pair_by season c.sum h
     unfolding pair_by
-    pair-given pair e = ap pair_in (sym (ap dosed_as e) ∙ dosed)
+    pair-given pair e = ap pair_in (sym (ap outcome_of e) ∙ dosed)
 
-    pub pair-none : (r : Refusal) → d ≡ Dosed.Refused r → record { lower = 0; upper = 0 } ≡ pair_by season c.sum h
+    pub pair-none : (r : Refusal) → d ≡ Err r → record { lower = 0; upper = 0 } ≡ pair_by season c.sum h
     unfolding pair_by
-    pair-none r e = ap pair_in (sym (ap dosed_as e) ∙ dosed)
+    pair-none r e = ap pair_in (sym (ap outcome_of e) ∙ dosed)
 
     -- an hour that it does not refuse
-    pair-dosable : (pair : Bounds) → d ≡ Dosed.Pair pair → Dosable season h
+    pair-dosable : (pair : Bounds) → d ≡ Ok pair → Dosable season h
     unfolding hour_dose_of
-    pair-dosable pair e = let p = onward-passed _ _ pair (sym dosed ∙ ap dosed_as e) in (_, sum-apart _ season.warmth c.sum 0 _ _ _ h p.0 p.1)
+    pair-dosable pair e = let p = onward-passed _ _ pair (sym dosed ∙ ap outcome_of e) in (_, sum-apart _ season.warmth c.sum 0 _ _ _ h p.0 p.1)
 
-    pub pair_small : (pair : Bounds) → d ≡ Dosed.Pair pair → (pair.lower ≤ most_hour season) × (pair.upper ≤ most_hour season)
+    pub pair_small : (pair : Bounds) → d ≡ Ok pair → (pair.lower ≤ most_hour season) × (pair.upper ≤ most_hour season)
     pair_small pair e =
         let dosable = pair-dosable pair e in
         let few = (stand-passed _ _ _ _ _ h dosable.0 dosable.1).within in
         let is = pair-given pair e ∙ pair_is dosable counted in
         let own : PairSized season pair = subst (PairSized season) (sym is) (pair-sized season h few c (dosable-has season h dosable)) in
         (le_trans own.order own.most, own.most)
+
+  -- 0 and 0 where it refuses the hour
+  module _ (counted : is_counted h ≡ true) where
+    pub pair-or : (d : Result Bounds Refusal) → outcome_of d ≡ dose → result_unwrap_or d (record { lower = 0; upper = 0 }) ≡ pair_by season c.sum h
+    pair-or (Ok pair) e = pair-given counted (Ok pair) e pair refl
+    pair-or (Err r) e = pair-none counted (Err r) e r refl
+
+    pub pair-or-small :
+        (d : Result Bounds Refusal) → outcome_of d ≡ dose →
+        ((result_unwrap_or d (record { lower = 0; upper = 0 })).lower ≤ most_hour season) × ((result_unwrap_or d (record { lower = 0; upper = 0 })).upper ≤ most_hour season)
+    pair-or-small (Ok pair) e = pair_small counted (Ok pair) e pair refl
+    pair-or-small (Err r) e = (omega arith, omega arith)
 
 -- ---- an hour added
 

@@ -1,14 +1,13 @@
 -- Demand 3, and what filling gaps brings, over runs that are tied by the contracts of `feed`, of `parse` with `feed_frame` or `refused_by`, and of `read`, as they
 -- stand at the functions, and by nothing else.
+use Rattle.std.specs.Prelude.{Ok, Err}
 use Prim.Native.Nat.{ℕ}
 use mathlib.Core.Path.{◌≡◌}
 use mathlib.Core.List.{List, [], ◌∷◌}
 use denote.Ref.{Bor}
-use Rattle.records.specs.declared.Parsed.{Parsed}
 use Rattle.frames.proofs.parse.Reads as parse-reads
 use Rattle.account_spec.specs.declared.Account.{Account}
 use Rattle.account_spec.specs.Account.{fresh_account}
-use Rattle.account_spec.specs.declared.Fed.{Fed}
 use Rattle.account_spec.specs.Rules.{left_by}
 use Rattle.account_spec.specs.Book.{empty_book}
 use Rattle.account_spec.specs.Runs.{Event, fed, taken, Run, stop, feeds, reads, account_after, TakesAll}
@@ -35,10 +34,10 @@ record Called {Lifetimes : Type 0} {Args Result Exit : Lifetimes → Type 0} (Co
 data Tied : Account → List Event → Type 0 where
   done : {a : Account} → Tied a []
   by-feed : {es : List Event} (c : Called feed-reads.Post) → Tied (left_by c.result) es → Tied c.args.0 (fed c.args.1.0.now c.result ∷ es)
-  by-frame : {es : List Event} (p : Called parse-reads.Post) (c : Called feed-frame-reads.Post) → p.result ≡ Parsed.Frame c.args.1.0 → Tied (left_by c.result) es
+  by-frame : {es : List Event} (p : Called parse-reads.Post) (c : Called feed-frame-reads.Post) → p.result ≡ Ok c.args.1.0 → Tied (left_by c.result) es
       → Tied c.args.0 (fed p.args.0.now c.result ∷ es)
-  by-refusal : {es : List Event} (p : Called parse-reads.Post) (c : Called refused-by-reads.Post) → p.result ≡ Parsed.Refused c.args.1.0 → Tied c.args.0 es
-      → Tied c.args.0 (fed p.args.0.now (Fed.Refused c.result c.args.0) ∷ es)
+  by-refusal : {es : List Event} (p : Called parse-reads.Post) (c : Called refused-by-reads.Post) → p.result ≡ Err c.args.1.0 → Tied c.args.0 es
+      → Tied c.args.0 (fed p.args.0.now (Err (c.result, c.args.0)) ∷ es)
   by_read : {es : List Event} (c : Called read-reads.Post) → Tied c.args.0 es → Tied c.args.0 (taken c.result ∷ es)
 
 -- each contract says what `Feeds` and `Reads` say, no more and no less

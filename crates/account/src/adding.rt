@@ -11,7 +11,7 @@ ghost use Rattle.account.specs.Steps.{Roomy};
 
 use crate::{Account, Carried, HourKind, Phase, Season, Sums};
 use exact::Bounds;
-use flux::{Age, Dosed};
+use flux::Age;
 use frames::{Ceiling, Header, Hour, Parameters, Record, Warmth};
 
 // The pair of a counted hour as `hour_dose` answers it, 0 and 0 where it refuses; it refuses none that the rows let in.
@@ -21,22 +21,19 @@ fn pair_of(season: Season, sum: u32, h: Hour) -> Bounds
     ensures small { (result.lower ≤ most_hour season) × (result.upper ≤ most_hour season) }
 {
     let header = season.header;
-    let parameters = season.parameters;
-    let warmth = season.warmth;
-    let age = Age { warmth, sum };
     let dose = flux::hour_dose(
         header.tree,
-        parameters,
-        age,
+        season.parameters,
+        Age {
+            warmth: season.warmth,
+            sum,
+        },
         header.first,
         header.last,
         season.ceiling,
         h,
     );
-    match dose {
-        Dosed::Pair(pair) => pair,
-        Dosed::Refused(_) => Bounds { lower: 0, upper: 0 },
-    }
+    dose.unwrap_or(Bounds { lower: 0, upper: 0 })
 }
 
 fn open(header: Header) -> Account
@@ -45,22 +42,10 @@ fn open(header: Header) -> Account
     Account {
         phase: Phase::Open,
         season: Season {
-            header: header,
-            ceiling: 0,
-            parameters: measured::no_parameters(),
-            warmth: measured::no_warmth(),
+            header,
+            ..Season::default()
         },
-        kind: HourKind::None,
-        sums: Sums {
-            hours: 0,
-            counted: 0,
-            missing: 0,
-            lower: 0,
-            upper: 0,
-            least: 0,
-            most: 0,
-        },
-        carried: Carried { sum: 0, total: 0 },
+        ..Account::default()
     }
 }
 
@@ -81,9 +66,7 @@ fn sums_room(s: Sums) -> bool
 pub(crate) fn has_room(a: Account) -> bool
     ensures { result ≡ has_room a }
 {
-    let sums = a.sums;
-    let carried = a.carried;
-    sums_room(sums) & (carried.sum < 1000000000) & !account_read::total_out(24, carried.total)
+    sums_room(a.sums) & (a.carried.sum < 1000000000) & !account_read::total_out(24, a.carried.total)
 }
 
 // An hour whose temperature is in range.
@@ -125,10 +108,7 @@ fn warmer(c: Carried, h: Hour) -> Carried
             total: 0,
         };
     }
-    Carried {
-        sum: c.sum,
-        total: total,
-    }
+    Carried { total, ..c }
 }
 
 // Where a frame of warmth stands.
@@ -150,91 +130,70 @@ fn add_hour(a: Account, h: Hour) -> Account
     requires temperature { temperature_out h.temperature ≡ false }
     ensures { result ≡ hour_added a h }
 {
-    let phase = a.phase;
-    let season = a.season;
-    let carried = a.carried;
-    let warmth = season.warmth;
-    let next = carry(warmth, carried, h);
-    let air = h.air;
-    let kind = turns::kind_of(air);
+    let carried = carry(a.season.warmth, a.carried, h);
     let mut sums = a.sums;
-    sums.hours = sums.hours + 1;
+    sums.hours += 1;
     if 50 < h.radiation {
-        let pair = pair_of(season, carried.sum, h);
-        sums.counted = sums.counted + 1;
-        sums.lower = sums.lower + pair.lower;
-        sums.upper = sums.upper + pair.upper;
-        let ozone = sums::ozone_sums(season.ceiling, h);
-        sums.least = sums.least + ozone.least;
-        sums.most = sums.most + ozone.most;
-        sums.missing = sums.missing + ozone.missing;
+        let pair = pair_of(a.season, a.carried.sum, h);
+        sums.counted += 1;
+        sums.lower += pair.lower;
+        sums.upper += pair.upper;
+        let ozone = sums::ozone_sums(a.season.ceiling, h);
+        sums.least += ozone.least;
+        sums.most += ozone.most;
+        sums.missing += ozone.missing;
     }
     Account {
-        phase: phase,
-        season: season,
-        kind: kind,
-        sums: sums,
-        carried: next,
+        kind: turns::kind_of(h.air),
+        sums,
+        carried,
+        ..a
     }
 }
 
 fn end(a: Account) -> Account
     ensures { result ≡ ended a }
 {
-    let season = a.season;
-    let kind = a.kind;
-    let sums = a.sums;
-    let carried = a.carried;
     Account {
         phase: Phase::Closed,
-        season: season,
-        kind: kind,
-        sums: sums,
-        carried: carried,
-    }
-}
-
-// The account with a season to which a frame was added.
-fn with_season(a: Account, season: Season) -> Account
-    ensures { result ≡ with_season a season }
-{
-    let phase = a.phase;
-    let kind = a.kind;
-    let sums = a.sums;
-    let carried = a.carried;
-    Account {
-        phase: phase,
-        season: season,
-        kind: kind,
-        sums: sums,
-        carried: carried,
+        ..a
     }
 }
 
 fn set_ceiling(a: Account, c: Ceiling) -> Account
     ensures { result ≡ with_season a (with_ceiling a.season c) }
 {
-    let mut season = a.season;
-    season.ceiling = c.ozone;
-    with_season(a, season)
+    Account {
+        season: Season {
+            ceiling: c.ozone,
+            ..a.season
+        },
+        ..a
+    }
 }
 
-fn set_parameters(a: Account, p: Parameters) -> Account
-    ensures { result ≡ with_season a (with_parameters a.season p) }
+fn set_parameters(a: Account, parameters: Parameters) -> Account
+    ensures { result ≡ with_season a (with_parameters a.season parameters) }
 {
-    let mut season = a.season;
-    season.parameters = p;
-    with_season(a, season)
+    Account {
+        season: Season {
+            parameters,
+            ..a.season
+        },
+        ..a
+    }
 }
 
-fn set_warmth(a: Account, w: Warmth) -> Account
-    ensures { result ≡ with_season a (with_warmth a.season w) }
+fn set_warmth(a: Account, warmth: Warmth) -> Account
+    ensures { result ≡ with_season a (with_warmth a.season warmth) }
 {
-    let mut season = a.season;
-    season.warmth = w;
-    with_season(a, season)
+    Account {
+        season: Season { warmth, ..a.season },
+        ..a
+    }
 }
 
+#[tactic(auto, unfolding(crate::specs::Entering::entered_by, account_spec::specs::Rules::entered))]
 pub(crate) fn enter(a: Account, record: Record) -> Account
     requires room { Roomy a }
     requires temperate { is_temperate «record» ≡ true }

@@ -4,7 +4,7 @@
 mod adding;
 
 ghost use Rattle.std.specs.Prelude.{◌≡◌};
-ghost use Rattle.records.specs.Answers.{row_of, checked_as, decoded_as};
+ghost use Rattle.records.specs.Answers.{row_of, outcome_of};
 ghost use Rattle.account_spec.specs.Account.{fresh_account};
 ghost use Rattle.account_spec.specs.Rules.{out_of_turn, turn_of, state_of, feed_frame_of, unread_row, Answers, Feeds};
 ghost use Rattle.account_spec.specs.Timely.{timely_of};
@@ -14,10 +14,8 @@ ghost use Rattle.account.specs.Entering.{untested_of, enter_of, NextBy};
 
 pub use account_read::read;
 use account_spec::State;
-pub use account_spec::{
-    Account, Carried, Fed, HourKind, Phase, Reading, Season, Sums, Totals, Verdict,
-};
-use frames::{Checked, Decoded, Header, Parsed, Raw, RawHour, Record, Refusal};
+pub use account_spec::{Account, Carried, Fed, HourKind, Phase, Season, Sums, Totals, Verdict};
+use frames::{Header, Raw, RawHour, Record, Refusal};
 pub use turns::{kind_number, phase_number};
 
 // An account before its season: header fields, ceiling, parameters, warmth and sums 0.
@@ -26,46 +24,17 @@ pub fn fresh() -> Account
     ensures season { SeasonPromise }
     ensures filling { FillingPromise }
 {
-    Account {
-        phase: Phase::Fresh,
-        season: Season {
-            header: Header {
-                tree: 0,
-                days: 0,
-                first: 0,
-                last: 0,
-                level: 0,
-            },
-            ceiling: 0,
-            parameters: measured::no_parameters(),
-            warmth: measured::no_warmth(),
-        },
-        kind: HourKind::None,
-        sums: Sums {
-            hours: 0,
-            counted: 0,
-            missing: 0,
-            lower: 0,
-            upper: 0,
-            least: 0,
-            most: 0,
-        },
-        carried: Carried { sum: 0, total: 0 },
-    }
+    Account::default()
 }
 
 fn state_of(account: Account) -> State
     ensures { result ≡ state_of account }
 {
-    let phase = account.phase;
-    let season = account.season;
-    let kind = account.kind;
-    let sums = account.sums;
     State {
-        phase: phase,
-        season: season,
-        kind: kind,
-        hours: sums.hours,
+        phase: account.phase,
+        season: account.season,
+        kind: account.kind,
+        hours: account.sums.hours,
     }
 }
 
@@ -74,13 +43,13 @@ pub fn feed_untested(account: Account, frame: Raw) -> Fed
     ensures { Answers account (untested_of account frame) result }
 {
     let decoded = turns::decode(state_of(account), frame);
-    let Decoded::Read(record) = decoded else {
-        return Fed::Refused(turns::refusal_in(decoded), account);
+    let Ok(record) = decoded else {
+        return Err((turns::refusal_in(decoded), account));
     };
     if !(adding::has_room(account) & adding::temperate(record)) {
-        return Fed::Refused(Refusal::Account, account);
+        return Err((Refusal::Account, account));
     }
-    Fed::Accepted(adding::enter(account, record))
+    Ok(adding::enter(account, record))
 }
 
 // The next account of one that takes a frame, which rows 1 to 3 let pass: row 13 first, then rows 4 to 11, 15, 17, 18, 24 and 25.
@@ -88,14 +57,14 @@ pub fn feed_frame(account: Account, frame: Raw) -> Fed
     ensures { Answers account (feed_frame_of account frame) result }
 {
     if account_read::impossible(account) {
-        return Fed::Refused(Refusal::Account, account);
+        return Err((Refusal::Account, account));
     }
     feed_untested(account, frame)
 }
 
 // The record of a frame, or the row from 4 on that refuses it. Row 13 is not tested.
-pub fn decoded(account: Account, frame: Raw) -> Decoded
-    ensures { decoded_as result ≡ turn_of (state_of account) frame }
+pub fn decoded(account: Account, frame: Raw) -> Result<Record, Refusal>
+    ensures { outcome_of result ≡ turn_of (state_of account) frame }
 {
     turns::decode(state_of(account), frame)
 }
@@ -119,11 +88,12 @@ pub fn enter(account: Account, record: Record) -> Account
 }
 
 // The rows of an hour that look at no reading: 13, 4, 15 and 9.
-pub fn timely(account: Account, raw: RawHour) -> Checked
-    ensures { checked_as result ≡ timely_of account raw }
+#[tactic(auto, unfolding(account_spec::specs::Timely::timely_in, account_spec::specs::Timely::timely_of))]
+pub fn timely(account: Account, raw: RawHour) -> Result<(), Refusal>
+    ensures { outcome_of result ≡ timely_of account raw }
 {
     if account_read::impossible(account) {
-        return Checked::Refused(Refusal::Account);
+        return Err(Refusal::Account);
     }
     turns::timely(state_of(account), raw)
 }
@@ -142,9 +112,8 @@ pub fn refused_by(account: Account, refusal: Refusal) -> Refusal
 pub fn feed(account: Account, line: &[u8]) -> Fed
     ensures { Feeds account line.now result }
 {
-    let parsed = frames::parse(line);
-    match parsed {
-        Parsed::Frame(frame) => feed_frame(account, frame),
-        Parsed::Refused(refusal) => Fed::Refused(refused_by(account, refusal), account),
+    match frames::parse(line) {
+        Ok(frame) => feed_frame(account, frame),
+        Err(refusal) => Err((refused_by(account, refusal), account)),
     }
 }

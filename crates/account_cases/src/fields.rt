@@ -3,9 +3,10 @@
 // missing 4 | lower 16 | upper 16 | least 8 | most 8 | the sixteen parameters 4 each, in the order of their frame |
 // rise 4 | fall 4 | end 4 | sum 8 | total 4, in two's complement
 use account::{Account, Carried, HourKind, Phase, Season, Sums};
-use cases::{i16_at, u8_at, u16_at, u32_at, u64_at};
-use frames::{Header, Parameters, Warmth};
+use cases::{i16_at, parameters_of, u8_at, u16_at, u32_at, u64_at};
+use frames::{Header, Warmth};
 
+// Kept: these two read a digit's character, those of `cases_account` its number.
 fn phase_of(c: u8) -> Phase {
     match c {
         b'0' => Phase::Fresh,
@@ -20,28 +21,6 @@ fn kind_of(c: u8) -> HourKind {
         b'4' => HourKind::Pressure,
         b'5' => HourKind::Humidity,
         _ => HourKind::None,
-    }
-}
-
-// All 0 where their digits are left out.
-fn parameters_of(digits: &[u8]) -> Parameters {
-    Parameters {
-        gmax: u16_at(digits, 84),
-        fmin: u16_at(digits, 88),
-        lighta: u16_at(digits, 92),
-        tmin: u16_at(digits, 96),
-        topt: u16_at(digits, 100),
-        tmax: u16_at(digits, 104),
-        vpdmax: u16_at(digits, 108),
-        vpdmin: u16_at(digits, 112),
-        soilmax: u16_at(digits, 116),
-        soilmin: u16_at(digits, 120),
-        leaf: u16_at(digits, 124),
-        a: u16_at(digits, 128),
-        e: u16_at(digits, 132),
-        f1: u16_at(digits, 136),
-        f4: u16_at(digits, 140),
-        y: u16_at(digits, 144),
     }
 }
 
@@ -60,21 +39,35 @@ fn carried_of(digits: &[u8]) -> Carried {
     }
 }
 
-fn season_of(digits: &[u8]) -> Season {
-    let header = Header {
+fn header_of(digits: &[u8]) -> Header {
+    Header {
         tree: u8_at(digits, 1),
         days: u16_at(digits, 3),
         first: u16_at(digits, 7),
         last: u16_at(digits, 11),
         level: u16_at(digits, 15),
-    };
-    let parameters = parameters_of(digits);
-    let warmth = warmth_of(digits);
+    }
+}
+
+// Parameters and warmth all 0 where their digits are left out.
+fn season_of(digits: &[u8]) -> Season {
     Season {
-        header: header,
+        header: header_of(digits),
         ceiling: u16_at(digits, 19),
-        parameters: parameters,
-        warmth: warmth,
+        parameters: parameters_of(digits.get(84..).unwrap_or_default()),
+        warmth: warmth_of(digits),
+    }
+}
+
+fn sums_of(digits: &[u8]) -> Sums {
+    Sums {
+        lower: u64_at(digits, 36),
+        upper: u64_at(digits, 52),
+        least: u32_at(digits, 68),
+        most: u32_at(digits, 76),
+        hours: u16_at(digits, 24),
+        counted: u16_at(digits, 28),
+        missing: u16_at(digits, 32),
     }
 }
 
@@ -83,24 +76,11 @@ pub(crate) fn account_of(digits: &[u8]) -> Account {
     if digits.len() < 84 {
         return account::fresh();
     }
-    let phase = phase_of(digits[0]);
-    let kind = kind_of(digits[23]);
-    let season = season_of(digits);
-    let sums = Sums {
-        lower: u64_at(digits, 36),
-        upper: u64_at(digits, 52),
-        least: u32_at(digits, 68),
-        most: u32_at(digits, 76),
-        hours: u16_at(digits, 24),
-        counted: u16_at(digits, 28),
-        missing: u16_at(digits, 32),
-    };
-    let carried = carried_of(digits);
     Account {
-        phase: phase,
-        season: season,
-        kind: kind,
-        sums: sums,
-        carried: carried,
+        phase: phase_of(digits[0]),
+        season: season_of(digits),
+        kind: kind_of(digits[23]),
+        sums: sums_of(digits),
+        carried: carried_of(digits),
     }
 }

@@ -5,7 +5,8 @@ mod answers;
 mod commands;
 mod fields;
 
+// A read or a write that fails ends it.
 fn main(rt: HostRuntime) {
-    let mut piece = [0; 65536];
-    commands::run_pieces(&rt, &mut piece);
+    let mut held = account::fresh();
+    let _ = cases::for_each_line(&rt, |command| commands::obey(&rt, &mut held, command));
 }

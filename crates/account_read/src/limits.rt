@@ -19,8 +19,7 @@ const MOST_AOT40: u64 = 4600;
 pub(crate) fn is_measured(season: Season) -> bool
     ensures { result ≡ is_measured season }
 {
-    let header = season.header;
-    header.tree == 7
+    season.header.tree == 7
 }
 
 // nmol m⁻²

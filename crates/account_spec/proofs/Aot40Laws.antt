@@ -1,11 +1,10 @@
 -- AOT40's two numbers over hours in a row: a missing ozone is read as 0 for the lower one, as the ceiling for the upper one (W-207); what they are at most.
+use Rattle.std.specs.Prelude.{Option, Some, None}
 use Prim.Native.Nat.{ℕ, ◌+◌, ◌-◌, ◌*◌, ◌≤◌}
 use mathlib.Core.Path.{◌≡◌, refl}
 use mathlib.Core.Bool.{Bool, true, false, cond}
 use mathlib.Core.List.{List, [], ◌∷◌}
 use native.Mathlib.Omega.{arith}
-use Rattle.records.specs.declared.Ozone.{Ozone}
-use Rattle.records.specs.declared.Ozone.TheVariants.{Tenths, Missing}
 use Rattle.records.specs.declared.Hour.{Hour}
 use Rattle.records.specs.declared.Record.{Record}
 use Rattle.records.specs.Answers.{Outcome, accepted}
@@ -61,9 +60,9 @@ pub record Aot40In (season : Season) (s : Sums) : Type 0 where
 pub excess-le : (season : Season) (m : ℕ) (h : Hour) → m ≤ 5000 → checked (Record.Hour h) ≡ accepted tt → excess (read_as m h) ≤ most_aot40 season
 excess-le season m h few passed = omega (arith, (checked-passed (Record.Hour (read_as m h)) (read-passed m h few passed)).ozone)
 
-width-le : (m : ℕ) (o : Ozone) → m ≤ 5000 → tenths_or m o - 400 ≤ tenths_or 0 o - 400 + 4600 * cond (is_missing o) 1 0
-width-le m (Tenths n) few = omega arith
-width-le m Missing few = omega arith
+width-le : (m : ℕ) (o : Option ℕ) → m ≤ 5000 → tenths_or m o - 400 ≤ tenths_or 0 o - 400 + 4600 * cond (is_missing o) 1 0
+width-le m (Some n) few = omega arith
+width-le m None few = omega arith
 
 module _ (season : Season) (stand : Outcome Stand) (few : ceiling_in stand ≤ 5000) where
   hour-aot40 : (c : Carried) (h : Hour) → checked (Record.Hour h) ≡ accepted tt → Aot40In season (hour_sums stand c h)

@@ -1,4 +1,5 @@
 -- One hour: its sums enclose the dose and AOT40 of every filling. All that is used of `flux_spec`'s pair is here: `enclosure.pair` and `enclosure.trees`.
+use Rattle.std.specs.Prelude.{Some}
 use Prim.Native.Nat.{ℕ, ◌+◌, ◌-◌, ◌*◌, ◌≤◌}
 use mathlib.Core.Path.{◌≡◌, refl, sym, ap, subst}
 use mathlib.Core.Bool.{Bool, true, false, cond}
@@ -9,7 +10,6 @@ use Rattle.exact.specs.Frac.{Frac, natural}
 use Rattle.exact.proofs.FracLaws.{≼_refl}
 use Rattle.trees.specs.Sound.{Sound}
 use Rattle.trees.specs.declared.Figures.{Figures}
-use Rattle.trees.specs.declared.Choice.{Choice}
 use Rattle.measured.specs.Figures.{measured_figures, figures_in}
 use Rattle.records.specs.declared.Air.{Air}
 use Rattle.records.specs.declared.Hour.{Hour}
@@ -119,7 +119,7 @@ module _
 
 -- ---- one hour of a season
 
-tree-same : {f g : Figures} → Choice.Tree f ≡ Choice.Tree g → f ≡ g
+tree-same : {f g : Figures} → Some f ≡ Some g → f ≡ g
 tree-same e = cc
 
 -- a tree's figures within the season's limits

@@ -1,7 +1,7 @@
 -- An account that row 13 lets pass: what each of the row's conditions says of it, and that it has room for another hour.
 use Prim.Native.Nat.{ℕ, ◌+◌, ◌-◌, ◌*◌, ◌≤◌}
-use mathlib.Core.Path.{◌≡◌, refl, sym, ap}
-use mathlib.Core.Bool.{Bool, true, false, not, cond, true≢false, false≢true, or-false, or-true, ◌&&◌, ◌||◌}
+use mathlib.Core.Path.{◌≡◌, refl, ap}
+use mathlib.Core.Bool.{Bool, true, false, not, cond, true≢false, false≢true, ◌&&◌, ◌||◌}
 use native.Mathlib.Nat.{mul-le-mul_left}
 use native.Mathlib.Omega.{arith}
 use lib.Dec.{eqb, ltb}
@@ -13,7 +13,6 @@ use Rattle.records.specs.Ranges.{checked, ceiling_out, warmth_broken}
 use Rattle.records.specs.Period.{period_hours, all_given}
 use Rattle.records.proofs.AnswerLaws.{and_both, or-neither}
 use Rattle.frames.proofs.RangeLaws.{period-le}
-use Rattle.account_spec.specs.declared.Phase.TheVariants.{Fresh, Open, Closed}
 use Rattle.account_spec.specs.declared.Season.{Season}
 use Rattle.account_spec.specs.declared.Sums.{Sums}
 use Rattle.account_spec.specs.declared.Account.{Account}
@@ -62,46 +61,6 @@ false-and false b f = refl
 accepted-is : (o : Outcome Unit) → is_refused o ≡ false → o ≡ accepted tt
 accepted-is (accepted u) e = refl
 accepted-is (refused w) e = absurd (true≢false e)
-
--- ---- row 13, the sums first
-
--- the last two conditions, by the phase
-abbrev pub by_phase : Account → Bool
-by_phase a = is_fresh a.phase && not (is_blank a) || is_closed a.phase && not (all_given a.season.header a.sums.hours)
-
-pub fresh-is : (a : Account) → a.phase ≡ Fresh → not (is_blank a) ≡ by_phase a
-fresh-is a e = rw e (sym (or-false (not (is_blank a))))
-
-pub open_is : (a : Account) → a.phase ≡ Open → false ≡ by_phase a
-open_is a e = rw e
-
-pub closed_is : (a : Account) → a.phase ≡ Closed → not (all_given a.season.header a.sums.hours) ≡ by_phase a
-closed_is a e = rw e
-
-third-first : (b p s k u w c x y : Bool) → (s || (k || (u || (w || (c || (b || (p || (x || y)))))))) ≡ (b || p || s || k || u || w || c || x || y)
-third-first true p s k u w c x y = rw (or-true c, or-true w, or-true u, or-true k) (or-true s)
-third-first false true s k u w c x y = rw (or-true c, or-true w, or-true u, or-true k) (or-true s)
-third-first false false true k u w c x y = refl
-third-first false false false true u w c x y = refl
-third-first false false false false true w c x y = refl
-third-first false false false false false true c x y = refl
-third-first false false false false false false true x y = refl
-third-first false false false false false false false x y = refl
-
-pub sums_first : (a : Account) →
-    (any_of (sums_out a.season a.sums)
-    || (kind_out a.kind a.sums.hours
-    || (unmeasured_in a.season a.kind a.sums.hours
-    || (warmth_alone a.season
-    || (carried_out a.season a.sums.hours a.carried
-    || ((is_begun a.phase && is_broken a.season) || (ltb (period_hours a.season.header) a.sums.hours || by_phase a)))))))
-    ≡ impossible a
-unfolding impossible
-sums_first a =
-    third-first (is_begun a.phase && is_broken a.season) (ltb (period_hours a.season.header) a.sums.hours) (any_of (sums_out a.season a.sums))
-    (kind_out a.kind a.sums.hours) (unmeasured_in a.season a.kind a.sums.hours) (warmth_alone a.season)
-    (carried_out a.season a.sums.hours a.carried) (is_fresh a.phase && not (is_blank a))
-    (is_closed a.phase && not (all_given a.season.header a.sums.hours))
 
 -- ---- row 13, one condition after the other
 

@@ -1,4 +1,7 @@
 -- A reading of the account that stands for a book: it gives the book's figures, and is right for every filling of its hours (W-207).
+use Rattle.account_spec.specs.declared.Totals.{Totals}
+use Rattle.records.specs.declared.Refusal.{Refusal}
+use Rattle.std.specs.Prelude.{Result, Ok, Err}
 use Prim.Native.Nat.{ℕ, ◌+◌, ◌-◌, ◌*◌, ◌≤◌}
 use mathlib.Core.Path.{◌≡◌, refl, sym, ap, ◌∙◌}
 use mathlib.Core.List.{List}
@@ -7,7 +10,6 @@ use Rattle.records.specs.declared.Hour.{Hour}
 use Rattle.records.specs.Ozone.{all_read_as, AllFill}
 use Rattle.records.specs.Answers.{accepted}
 use Rattle.records.proofs.AnswerLaws.{refused-not-accepted, accepted-same}
-use Rattle.account_spec.specs.declared.Reading.{Reading}
 use Rattle.account_spec.specs.Limits.{most_hour, gap_each}
 use Rattle.account_spec.specs.Hours.{stand_in, none_carried}
 use Rattle.account_spec.specs.Enclosed.{AllRead, Encloses}
@@ -94,6 +96,6 @@ module _ (b : Book) (p : Proper b) where
     read = read_kept;
   }
 
-  pub reading-is : (r : Reading) → Reads (account_of b) r → r ≡ Reading.Given (totals_of (account_of b))
-  reading-is (Reading.Given t) k = ap Reading.Given (accepted-same (k.answers ∙ read_of-is))
-  reading-is (Reading.Refused x) k = refused-not-accepted (k.answers ∙ read_of-is)
+  pub reading-is : (r : Result Totals Refusal) → Reads (account_of b) r → r ≡ Ok (totals_of (account_of b))
+  reading-is (Ok t) k = ap Ok (accepted-same (k.answers ∙ read_of-is))
+  reading-is (Err x) k = refused-not-accepted (k.answers ∙ read_of-is)

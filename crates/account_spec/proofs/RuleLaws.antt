@@ -1,4 +1,5 @@
 -- The answers to a line and to a reading, by what each test says.
+use Rattle.std.specs.Prelude.{Result, Ok, Err}
 use mathlib.Core.Path.{◌≡◌, refl, ◌∙◌}
 use mathlib.Core.Bool.{Bool, true, false, not}
 use Prim.Native.Nat.{ℕ}
@@ -12,9 +13,7 @@ use Rattle.records.specs.declared.End.{End}
 use Rattle.records.specs.declared.Ceiling.{Ceiling}
 use Rattle.records.specs.declared.Record.{Record}
 use Rattle.records.specs.declared.Refusal.{Refusal}
-use Rattle.records.specs.declared.Parsed.{Parsed}
-use Rattle.records.specs.declared.Decoded.{Decoded}
-use Rattle.records.specs.Answers.{accepted, refused, row, row_of, parsed_as, decoded_as}
+use Rattle.records.specs.Answers.{accepted, refused, row, row_of, outcome_of}
 use Rattle.measured.specs.declared.Parameters.{Parameters}
 use Rattle.records.specs.Parameters.{parameter_out}
 use Rattle.records.specs.Ranges.{checked, lacks_ceiling, ramps_out}
@@ -26,11 +25,9 @@ use Rattle.account_spec.specs.declared.Phase.TheVariants.{Fresh, Open, Closed}
 use Rattle.account_spec.specs.declared.Account.{Account}
 use Rattle.account_spec.specs.declared.State.{State}
 use Rattle.account_spec.specs.declared.Totals.{Totals}
-use Rattle.account_spec.specs.declared.Fed.{Fed}
-use Rattle.account_spec.specs.declared.Reading.{Reading}
 use Rattle.account_spec.specs.HourKinds.{is_mixed}
 use Rattle.account_spec.specs.Account.{is_fresh, impossible}
-use Rattle.account_spec.specs.Rules.{is_due, count_wrong, due_of, turn_of, answer_of, state_of, entered, feed_of, unread_row, feed_frame_of, Answers, Feeds}
+use Rattle.account_spec.specs.Rules.{is_due, count_wrong, due_of, turn_of, answer_of, state_of, entered, feed_of, unread_row, feed_frame_of, Answers, Feeds, Fed}
 use Rattle.account_spec.specs.Reading.{totals_of, read_of, Reads}
 use Rattle.account_spec.specs.Steps.{refusal_in}
 
@@ -134,40 +131,40 @@ module _ (s : State) where
 -- ---- feeding
 
 module _ (a : Account) (frame : Raw) where
-  pub answers-impossible : impossible a ≡ true → Answers a (feed_frame_of a frame) (Fed.Refused Refusal.Account a)
+  pub answers-impossible : impossible a ≡ true → Answers a (feed_frame_of a frame) (Err (Refusal.Account, a))
   unfolding feed_frame_of
   answers-impossible e = record { answers = rw e; leaves = rw e }
 
-  module _ (possible : impossible a ≡ false) (d : Decoded) (decoded : decoded_as d ≡ turn_of (state_of a) frame) where
-    pub answers-refused : (r s : Refusal) → d ≡ Decoded.Refused s → r ≡ refusal_in d → Answers a (feed_frame_of a frame) (Fed.Refused r a)
+  module _ (possible : impossible a ≡ false) (d : Result Record Refusal) (decoded : outcome_of d ≡ turn_of (state_of a) frame) where
+    pub answers-refused : (r s : Refusal) → d ≡ Err s → r ≡ refusal_in d → Answers a (feed_frame_of a frame) (Err (r, a))
     unfolding feed_frame_of
     answers-refused r s e i = record { answers = rw (possible, ← decoded, i, e); leaves = rw (possible, ← decoded, e) }
 
-    pub answers-accepted : (r : Record) (b : Account) → d ≡ Decoded.Read r → b ≡ entered a r → Answers a (feed_frame_of a frame) (Fed.Accepted b)
+    pub answers-accepted : (r : Record) (b : Account) → d ≡ Ok r → b ≡ entered a r → Answers a (feed_frame_of a frame) (Ok b)
     unfolding feed_frame_of
     answers-accepted r b e i = record { answers = rw (possible, ← decoded, e, i); leaves = rw (possible, ← decoded, e, i) }
 
 -- a line is its frame, or refused by rows 1 to 3
-module _ (a : Account) (l : List ℕ) (p : Parsed) (parsed : parsed_as p ≡ parsed_of l) where
-  pub frame-feeds : (frame : Raw) (r : Fed) → p ≡ Parsed.Frame frame → Answers a (feed_frame_of a frame) r → Feeds a l r
+module _ (a : Account) (l : List ℕ) (p : Result Raw Refusal) (parsed : outcome_of p ≡ parsed_of l) where
+  pub frame-feeds : (frame : Raw) (r : Fed) → p ≡ Ok frame → Answers a (feed_frame_of a frame) r → Feeds a l r
   unfolding feed_of answer_of feed_frame_of
   frame-feeds frame r e k = rw (← parsed, e) k
 
-  unread-by : (t : Bool) (s r : Refusal) → impossible a ≡ t → p ≡ Parsed.Refused s → row_of r ≡ unread_row a (row_of s) → Feeds a l (Fed.Refused r a)
+  unread-by : (t : Bool) (s r : Refusal) → impossible a ≡ t → p ≡ Err s → row_of r ≡ unread_row a (row_of s) → Feeds a l (Err (r, a))
   unfolding feed_of answer_of
   unread-by true s r i e k = record { answers = rw (← parsed, e, k, i) refl; leaves = rw (← parsed, e, i) refl }
   unread-by false s r i e k = record { answers = rw (← parsed, e, k, i) refl; leaves = rw (← parsed, e, i) refl }
 
-  pub unread-feeds : (s r : Refusal) → p ≡ Parsed.Refused s → row_of r ≡ unread_row a (row_of s) → Feeds a l (Fed.Refused r a)
+  pub unread-feeds : (s r : Refusal) → p ≡ Err s → row_of r ≡ unread_row a (row_of s) → Feeds a l (Err (r, a))
   unread-feeds s r e k = unread-by (impossible a) s r refl e k
 
 -- ---- reading
 
 module _ (a : Account) where
-  pub reads-impossible : impossible a ≡ true → Reads a (Reading.Refused Refusal.Account)
+  pub reads-impossible : impossible a ≡ true → Reads a (Err Refusal.Account)
   unfolding read_of
   reads-impossible e = record { answers = rw e }
 
-  pub reads-given : (t : Totals) → impossible a ≡ false → t ≡ totals_of a → Reads a (Reading.Given t)
+  pub reads-given : (t : Totals) → impossible a ≡ false → t ≡ totals_of a → Reads a (Ok t)
   unfolding read_of
   reads-given t e i = record { answers = rw (e, i) }

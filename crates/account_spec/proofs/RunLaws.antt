@@ -1,4 +1,5 @@
 -- Every list of calls has a run, and its replies to the lines are the book's; document 01's evergreen day is such a list.
+use Rattle.std.specs.Prelude.{Ok, Err}
 use Prim.Native.Nat.{ℕ}
 use mathlib.Core.Path.{◌≡◌, refl, sym, ap, subst, ◌∙◌}
 use mathlib.Core.List.{List, [], ◌∷◌}
@@ -13,9 +14,7 @@ use Rattle.frames.specs.Frames.{parsed_of, sound_of, record_of}
 use Rattle.trees.specs.Figures.{figures_of}
 use Rattle.measured.specs.Figures.{figures_in}
 use Rattle.account_spec.specs.declared.Account.{Account}
-use Rattle.account_spec.specs.declared.Fed.{Fed}
-use Rattle.account_spec.specs.declared.Reading.{Reading}
-use Rattle.account_spec.specs.Rules.{due_of, turn_of, answer_of, entered, left_by, Feeds}
+use Rattle.account_spec.specs.Rules.{due_of, turn_of, answer_of, entered, left_by, Feeds, Fed}
 use Rattle.account_spec.specs.Reading.{totals_of}
 use Rattle.account_spec.specs.Book.{Book, empty_book, book_answer, book_next}
 use Rattle.account_spec.specs.Runs.{Event, fed, taken, Run, stop, feeds, reads, Call, line, reading, calls_of, RunOf, replies_of}
@@ -36,13 +35,13 @@ record Replied (b : Book) (l : List ℕ) : Type 0 where
 module _ (b : Book) (p : Proper b) (l : List ℕ) where
   by_answer : (o : Outcome Record) → book_answer b l ≡ o → Replied b l
   by_answer (accepted r) e = record {
-    reply-to = Fed.Accepted (entered (account_of b) r);
+    reply-to = Ok (entered (account_of b) r);
     feeds-it = record { answers = rw (feed_of-is b p l, e) refl; leaves = rw (feed_of-is b p l, e) refl };
   }
   by_answer (refused w) e =
       let row = answer-row b l w.0 w.1 e in
       record {
-        reply-to = Fed.Refused row.refusal (account_of b);
+        reply-to = Err (row.refusal, account_of b);
         feeds-it = record { answers = rw (feed_of-is b p l, e) (ap refused row.is); leaves = rw (feed_of-is b p l, e) refl };
       }
 
@@ -64,7 +63,7 @@ run-from b p (line l ∷ calls) =
 run-from b p (reading ∷ calls) =
     let rest = run-from b p calls in
     record {
-      events = taken (Reading.Given (totals_of (account_of b))) ∷ rest.events;
+      events = taken (Ok (totals_of (account_of b))) ∷ rest.events;
       run = reads (record { answers = sym (read_of-is b p) }) rest.run;
       same = ap (λ (cs : List Call). reading ∷ cs) rest.same;
     }

@@ -1,5 +1,6 @@
 -- Demand 3: one claim about every list of lines fed and readings taken from a fresh account on (document 01, "The book of demand 3").
-use Rattle.std.specs.Prelude.{ℕ, zero, suc, ◌+◌, ◌-◌, ◌*◌, ◌≤◌, ◌≡◌, cond, List, [], ◌∷◌, ◌++◌, eqb, length}
+use Rattle.std.specs.Prelude.{ℕ, zero, suc, ◌+◌, ◌-◌, ◌*◌, ◌≤◌, ◌≡◌, cond, List, [], ◌∷◌, ◌++◌, eqb, length, Result, Ok, Err}
+use Rattle.records.specs.declared.Refusal.{Refusal}
 use Rattle.trees.specs.Sound.{Sound}
 use Rattle.records.specs.declared.Hour.{Hour}
 use Rattle.records.specs.Ozone.{all_read_as, AllFill}
@@ -12,13 +13,11 @@ use Rattle.account_spec.specs.declared.Season.{Season}
 use Rattle.account_spec.specs.declared.Account.{Account}
 use Rattle.account_spec.specs.declared.Carried.{Carried}
 use Rattle.account_spec.specs.declared.Totals.{Totals}
-use Rattle.account_spec.specs.declared.Fed.{Fed}
-use Rattle.account_spec.specs.declared.Reading.{Reading}
 use Rattle.account_spec.specs.Limits.{most_hour, gap_each, most_aot40}
 use Rattle.account_spec.specs.Hours.{stand_in, none_carried, carried_over}
 use Rattle.account_spec.specs.Enclosed.{AllChecked, AllMost, AllDosed, AllRead, gap_hour, HoursEnclosed}
 use Rattle.account_spec.specs.Account.{fresh_account}
-use Rattle.account_spec.specs.Rules.{left_by}
+use Rattle.account_spec.specs.Rules.{left_by, Fed}
 use Rattle.account_spec.specs.Reading.{exceeded_word, below_word, word_of, verdict_word}
 use Rattle.account_spec.specs.Book.{Book, empty_book, book_answer, book_next, counted_of, missing_of, excess_over, book_carried, pod_in, book_pod, Above}
 use Rattle.account_spec.specs.Runs.{Event, fed, taken, Run, Call, line, reading, RunOf, reply_in, replies_of}
@@ -75,13 +74,13 @@ pub record TotalsKept (b : Book) (t : Totals) : Type 0 where
   pub read : AllRead b.hours → ReadKept b t
 
 -- row 13 never comes up
-abbrev pub ReadingKept : Book → Reading → Type 0
-ReadingKept b (Reading.Given t) = TotalsKept b t
-ReadingKept b (Reading.Refused r) = ⊥
+abbrev pub ReadingKept : Book → Result Totals Refusal → Type 0
+ReadingKept b (Ok t) = TotalsKept b t
+ReadingKept b (Err r) = ⊥
 
-abbrev pub SaysExceeded : Reading → Type 0
-SaysExceeded (Reading.Given t) = word_of t.verdict ≡ exceeded_word
-SaysExceeded (Reading.Refused r) = ⊥
+abbrev pub SaysExceeded : Result Totals Refusal → Type 0
+SaysExceeded (Ok t) = word_of t.verdict ≡ exceeded_word
+SaysExceeded (Err r) = ⊥
 
 -- every reading says "exceeded"
 abbrev pub AllExceeded : List Event → Type 0

@@ -1,6 +1,7 @@
 -- Reading the account: the sums that it carries and the verdict, refused only by row 13 (document 01, "Account").
-use Rattle.std.specs.Prelude.{ℕ, ◌*◌, ◌≡◌, cond, List, [], ◌∷◌, ltb, leb}
-use Rattle.records.specs.Answers.{Outcome, accepted, refused, row, row_of}
+use Rattle.std.specs.Prelude.{ℕ, ◌*◌, ◌≡◌, cond, List, [], ◌∷◌, ltb, leb, Result}
+use Rattle.records.specs.declared.Refusal.{Refusal}
+use Rattle.records.specs.Answers.{Outcome, accepted, row, outcome_of}
 use Rattle.account_spec.specs.declared.Phase.{Phase}
 use Rattle.account_spec.specs.declared.Season.{Season}
 use Rattle.account_spec.specs.declared.Sums.{Sums}
@@ -8,7 +9,6 @@ use Rattle.account_spec.specs.declared.Account.{Account}
 use Rattle.account_spec.specs.declared.Verdict.{Verdict}
 use Rattle.account_spec.specs.declared.Verdict.TheVariants.{None, Undecided, Exceeded, Below}
 use Rattle.account_spec.specs.declared.Totals.{Totals}
-use Rattle.account_spec.specs.declared.Reading.{Reading}
 use Rattle.account_spec.specs.Account.{is_fresh, impossible}
 
 -- ---- the verdict
@@ -56,10 +56,6 @@ totals_of a = record { sums = a.sums; verdict = verdict_of a.phase a.season a.su
 unfoldable pub read_of : Account → Outcome Totals
 read_of a = row 13 (impossible a) (accepted (totals_of a))
 
-abbrev pub reading_as : Reading → Outcome Totals
-reading_as (Reading.Given t) = accepted t
-reading_as (Reading.Refused r) = refused (row_of r)
-
 -- what `read` promises
-pub record Reads (a : Account) (r : Reading) : Type 0 where
-  pub answers : reading_as r ≡ read_of a
+pub record Reads (a : Account) (r : Result Totals Refusal) : Type 0 where
+  pub answers : outcome_of r ≡ read_of a

@@ -1,22 +1,22 @@
 -- Lists of lines fed and readings taken (document 01, "The book of demand 3"): each call gets the account that the one before left.
-use Rattle.std.specs.Prelude.{ℕ, ◌≡◌, List, [], ◌∷◌}
+use Rattle.std.specs.Prelude.{ℕ, ◌≡◌, List, [], ◌∷◌, Result, Ok, Err}
+use Rattle.account_spec.specs.declared.Totals.{Totals}
+use Rattle.records.specs.declared.Refusal.{Refusal}
 use Rattle.records.specs.Answers.{Outcome, accepted, refused, row_of}
 use Rattle.account_spec.specs.declared.Account.{Account}
-use Rattle.account_spec.specs.declared.Fed.{Fed}
-use Rattle.account_spec.specs.declared.Reading.{Reading}
-use Rattle.account_spec.specs.Rules.{feed_of, left_by, Feeds}
+use Rattle.account_spec.specs.Rules.{feed_of, left_by, Feeds, Fed}
 use Rattle.account_spec.specs.Reading.{Reads}
 
 -- a line fed, with its reply; a reading taken, with what it gave
 pub data Event : Type 0 where
   fed : List ℕ → Fed → Event
-  taken : Reading → Event
+  taken : Result Totals Refusal → Event
 
 -- each call gets the account that the one before left; each reply is tied by what `feed` or `read` promises, and by nothing else
 pub data Run : Account → List Event → Type 0 where
   stop : {a : Account} → Run a []
   feeds : {a : Account} {l : List ℕ} {r : Fed} {es : List Event} → Feeds a l r → Run (left_by r) es → Run a (fed l r ∷ es)
-  reads : {a : Account} {r : Reading} {es : List Event} → Reads a r → Run a es → Run a (taken r ∷ es)
+  reads : {a : Account} {r : Result Totals Refusal} {es : List Event} → Reads a r → Run a es → Run a (taken r ∷ es)
 
 -- ---- runs of given calls
 
@@ -37,8 +37,8 @@ pub record RunOf (a : Account) (calls : List Call) : Type 0 where
 
 -- the replies to the lines, in order
 abbrev pub reply_in : Fed → Outcome Unit
-reply_in (Fed.Accepted a) = accepted tt
-reply_in (Fed.Refused r a) = refused (row_of r)
+reply_in (Ok a) = accepted tt
+reply_in (Err (r, a)) = refused (row_of r)
 
 abbrev pub replies_of : List Event → List (Outcome Unit)
 replies_of [] = []

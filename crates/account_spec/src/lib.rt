@@ -4,25 +4,27 @@
 use frames::{Header, Parameters, Refusal, Warmth};
 
 // An account's phase: before a header, after it, and after the right end frame.
-#[derive(Clone, Copy)]
+#[derive(Clone, Copy, Default, PartialEq)]
 pub enum Phase {
+    #[default]
     Fresh,
     Open,
     Closed,
 }
 
 // The kind of a season's hours, by what they say of the air: that of its first hour, none before it.
-#[derive(Clone, Copy)]
+#[derive(Clone, Copy, Default, PartialEq)]
 pub enum HourKind {
-    None,
-    Deficit,
-    Pressure,
-    Humidity,
+    #[default]
+    None = 0,
+    Deficit = 2,
+    Pressure = 4,
+    Humidity = 5,
 }
 
 // What the frames before the first hour said: the header, the ozone ceiling in tenths of ppb (0: not fed), a measured tree's parameters and its leaf age by warmth
 // (all 0: not fed).
-#[derive(Clone, Copy)]
+#[derive(Clone, Copy, Default, PartialEq)]
 pub struct Season {
     pub header: Header,
     pub ceiling: u16,
@@ -32,7 +34,7 @@ pub struct Season {
 
 // What hours add up to: POD1 at least lower and at most upper nmol m⁻², AOT40 at least `least` and at most `most` tenths of ppb h, their number, how many are
 // counted, how many of those are without ozone. The wide ones stand first, which spares an account eight bytes.
-#[derive(Clone, Copy)]
+#[derive(Clone, Copy, Default, PartialEq)]
 pub struct Sums {
     pub lower: u64,
     pub upper: u64,
@@ -45,14 +47,14 @@ pub struct Sums {
 
 // What leaf age by warmth takes from the hours before (W-213), in tenths of a degree over hours: the temperature sum of the earlier days, a day's negative total taken
 // as 0, and the running day's total. Both 0 where no frame of warmth was fed.
-#[derive(Clone, Copy)]
+#[derive(Clone, Copy, Default, PartialEq)]
 pub struct Carried {
     pub sum: u32,
     pub total: i16,
 }
 
 // The season so far.
-#[derive(Clone, Copy)]
+#[derive(Clone, Copy, Default, PartialEq)]
 pub struct Account {
     pub phase: Phase,
     pub season: Season,
@@ -70,7 +72,7 @@ pub struct State {
     pub hours: u16,
 }
 
-// Whether POD1 is above the critical level; `word_of` (specs/Reading.antt) gives each case's word.
+// Whether POD1 is above the critical level (kept: "none" is one of the four words of a verdict); `word_of` (specs/Reading.antt) gives each case's word.
 #[derive(Clone, Copy)]
 pub enum Verdict {
     None,
@@ -87,15 +89,4 @@ pub struct Totals {
 }
 
 // The answer to a line: the new account, or the row that refuses the line and the account as it was.
-#[derive(Clone, Copy)]
-pub enum Fed {
-    Accepted(Account),
-    Refused(Refusal, Account),
-}
-
-// The answer to a reading: the figures, or row 13.
-#[derive(Clone, Copy)]
-pub enum Reading {
-    Given(Totals),
-    Refused(Refusal),
-}
+pub type Fed = Result<Account, (Refusal, Account)>;

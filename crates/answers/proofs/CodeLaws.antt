@@ -2,7 +2,7 @@
 use Prim.Native.Nat.{ℕ, ◌+◌, ◌*◌, ◌/◌, ◌%◌, ◌≤◌, ◌<◌}
 use mathlib.Core.Path.{◌≡◌, refl, sym, ap, ◌∙◌}
 use mathlib.Core.Bool.{Bool, true, false, cond, ◌&&◌, ◌||◌, or-true, or-false}
-use mathlib.Core.Option.{Option, some, none}
+use Rattle.std.specs.Prelude.{Option, Some, None}
 use native.Mathlib.Omega.{arith}
 use borrow.Author.Tests.{eqb-true, leb-true, ne_eqb}
 use lib.Dec.{eqb, leb}
@@ -105,49 +105,49 @@ module _ (r : Refusal) where
 
 -- ---- by the tests
 
-pub coded-accepted : (code : ℕ) → code ≡ 0 → some (accepted tt) ≡ coded_of code
+pub coded-accepted : (code : ℕ) → code ≡ 0 → Some (accepted tt) ≡ coded_of code
 unfolding coded_of is_code answer_of
 coded-accepted code e = rw e
 
 module _ (code : ℕ) (other : code ≡ 0 → ⊥) where
-  pub coded-refused : is_row (code % 256) (code / 256) ≡ true → some (refused (code % 256, code / 256)) ≡ coded_of code
+  pub coded-refused : is_row (code % 256) (code / 256) ≡ true → Some (refused (code % 256, code / 256)) ≡ coded_of code
   unfolding coded_of is_code answer_of
   coded-refused e = simp (ne_eqb code 0 other, e)
 
-  pub coded_none : is_row (code % 256) (code / 256) ≡ false → none ≡ coded_of code
+  pub coded_none : is_row (code % 256) (code / 256) ≡ false → None ≡ coded_of code
   unfolding coded_of is_code answer_of
   coded_none e = simp (ne_eqb code 0 other, e)
 
 -- ---- one to one
 
-some_same : {A : Type 0} {a b : A} → some a ≡ some b → a ≡ b
+some_same : {A : Type 0} {a b : A} → Some a ≡ Some b → a ≡ b
 some_same e = cc
 
-coded-same : (code : ℕ) (o : Outcome Unit) (t : Bool) → cond t (some (answer_of code tt)) none ≡ some o → code_of o ≡ code
+coded-same : (code : ℕ) (o : Outcome Unit) (t : Bool) → cond t (Some (answer_of code tt)) None ≡ Some o → code_of o ≡ code
 coded-same code o true e = ap code_of (sym (some_same e)) ∙ answer-code tt code
 coded-same code o false e = let z : ◌≡◌ {A = ℕ} 0 1 = cc in absurd (omega arith)
 
-coded-some : (code : ℕ) (o : Outcome Unit) (t : Bool) → cond t (some (answer_of code tt)) none ≡ some o → t ≡ true
+coded-some : (code : ℕ) (o : Outcome Unit) (t : Bool) → cond t (Some (answer_of code tt)) None ≡ Some o → t ≡ true
 coded-some code o true e = refl
 coded-some code o false e = let z : ◌≡◌ {A = ℕ} 0 1 = cc in absurd (omega arith)
 
-coded-unknown : (code : ℕ) (t : Bool) → ◌≡◌ {A = Option (Outcome Unit)} (cond t (some (answer_of code tt)) none) none → t ≡ false
+coded-unknown : (code : ℕ) (t : Bool) → ◌≡◌ {A = Option (Outcome Unit)} (cond t (Some (answer_of code tt)) None) None → t ≡ false
 coded-unknown code true e = let z : ◌≡◌ {A = ℕ} 0 1 = cc in absurd (omega arith)
 coded-unknown code false e = refl
 
 module _ (code : ℕ) where
   -- a number that names an answer is a code
-  pub named-code : (o : Outcome Unit) → coded_of code ≡ some o → is_code code ≡ true
+  pub named-code : (o : Outcome Unit) → coded_of code ≡ Some o → is_code code ≡ true
   unfolding coded_of
   named-code o e = coded-some code o (is_code code) e
 
-  pub unknown-code : coded_of code ≡ none → is_code code ≡ false
+  pub unknown-code : coded_of code ≡ None → is_code code ≡ false
   unfolding coded_of
   unknown-code e = coded-unknown code (is_code code) e
 
-coded-named : (r : Refusal) → coded_of (code_of_row (row_of r)) ≡ some (refused (row_of r))
+coded-named : (r : Refusal) → coded_of (code_of_row (row_of r)) ≡ Some (refused (row_of r))
 unfolding coded_of
-coded-named r = simp (code_is r) (ap some (code-answer r tt))
+coded-named r = simp (code_is r) (ap Some (code-answer r tt))
 
 pub code-promise : CodePromise
 unfolding coded_of

@@ -1,8 +1,7 @@
 -- A code: 0, or the row that refuses the call plus 256 times the field that rows 10 and 26 name.
-use Rattle.std.specs.Prelude.{ℕ, ◌+◌, ◌*◌, ◌/◌, ◌%◌, Bool, cond, ◌&&◌, ◌||◌, eqb, leb}
-use Rattle.std.proofs.Math.Option.{Option, some, none}
-use Rattle.records.specs.Answers.{Outcome, accepted, refused, row_of}
-use Rattle.answers.specs.declared.Coded.{Coded}
+use Rattle.std.specs.Prelude.{ℕ, ◌+◌, ◌*◌, ◌/◌, ◌%◌, Bool, cond, ◌&&◌, ◌||◌, eqb, leb, Option, Some, None, Result}
+use Rattle.records.specs.declared.Refusal.{Refusal}
+use Rattle.records.specs.Answers.{Outcome, accepted, refused, outcome_of}
 
 -- ---- the code of an answer
 
@@ -29,9 +28,8 @@ answer_of code a = cond (eqb code 0) (accepted a) (refused (code % 256, code / 2
 
 -- none for a number that is no code
 unfoldable pub coded_of : ℕ → Option (Outcome Unit)
-coded_of code = cond (is_code code) (some (answer_of code tt)) none
+coded_of code = cond (is_code code) (Some (answer_of code tt)) None
 
-abbrev pub coded_as : Coded → Option (Outcome Unit)
-coded_as Coded.Accepted = some (accepted tt)
-coded_as (Coded.Refused r) = some (refused (row_of r))
-coded_as Coded.Unknown = none
+abbrev pub coded_as : Option (Result Unit Refusal) → Option (Outcome Unit)
+coded_as None = None
+coded_as (Some r) = Some (outcome_of r)

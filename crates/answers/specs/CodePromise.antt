@@ -1,12 +1,11 @@
 -- Codes and answers are one to one.
-use Rattle.std.specs.Prelude.{ℕ, ◌≡◌}
-use Rattle.std.proofs.Math.Option.{some}
+use Rattle.std.specs.Prelude.{ℕ, ◌≡◌, Some}
 use Rattle.records.specs.declared.Refusal.{Refusal}
 use Rattle.records.specs.Answers.{Outcome, refused, row_of}
 use Rattle.answers.specs.Code.{code_of_row, code_of, coded_of}
 
 pub record CodePromise : Type 0 where
   -- the code of the answer that a code names is that code
-  pub same : (code : ℕ) (answer : Outcome Unit) → coded_of code ≡ some answer → code_of answer ≡ code
+  pub same : (code : ℕ) (answer : Outcome Unit) → coded_of code ≡ Some answer → code_of answer ≡ code
   -- every refusal is named by its code
-  pub named : (r : Refusal) → coded_of (code_of_row (row_of r)) ≡ some (refused (row_of r))
+  pub named : (r : Refusal) → coded_of (code_of_row (row_of r)) ≡ Some (refused (row_of r))

@@ -1,13 +1,12 @@
 -- What comparing gives, as numbers: the figures and the place of the first differing line, or the code of a refusal with the text and its line, and zeros.
-use Rattle.std.specs.Prelude.{ℕ}
-use Rattle.std.proofs.Math.Option.{Option, none, some}
+use Rattle.std.specs.Prelude.{ℕ, Option, Some, None}
 use Rattle.compare_spec.specs.Comparison.{Compared, figures, refused_text, refused_both}
 use Rattle.answers.specs.declared.comparing.ComparisonNumbers.{ComparisonNumbers}
 
 -- where the line starts and ends; 0 and 0 where there is none
 abbrev pub place_numbers : Option (ℕ × ℕ) → ℕ × ℕ
-place_numbers none = (0, 0)
-place_numbers (some place) = place
+place_numbers None = (0, 0)
+place_numbers (Some place) = place
 
 abbrev pub differing : ℕ → ℕ → ℕ × ℕ → ComparisonNumbers
 differing hours sum place = record { code = 0; text = 0; line = 0; hours = hours; sum = sum; start = place.0; end = place.1 }

@@ -3,7 +3,8 @@ ghost use Rattle.std.specs.Prelude.{◌≡◌};
 ghost use Rattle.compare_spec.specs.Comparison.{comparison_as};
 ghost use Rattle.answers.specs.Comparing.{differing, not_compared, compared_of};
 
-use compare_spec::{Comparison, Differences, Place};
+use compare_spec::{Differences, LinePlace, NotCompared};
+use frames::Refusal;
 
 // Code 0 and the figures, or the code of a refusal with the text and its line, and zeros.
 #[repr(C)]
@@ -18,8 +19,8 @@ pub struct ComparisonNumbers {
     pub end: u64,
 }
 
-fn differing(found: Differences, start: usize, end: usize) -> ComparisonNumbers
-    ensures { result ≡ differing found.hours found.sum (start, end) }
+fn differing(found: Differences, line: LinePlace) -> ComparisonNumbers
+    ensures { result ≡ differing found.hours found.sum (line.start, line.end) }
 {
     ComparisonNumbers {
         code: 0,
@@ -27,8 +28,8 @@ fn differing(found: Differences, start: usize, end: usize) -> ComparisonNumbers
         line: 0,
         hours: found.hours as u32,
         sum: found.sum,
-        start: start as u64,
-        end: end as u64,
+        start: line.start as u64,
+        end: line.end as u64,
     }
 }
 
@@ -38,7 +39,7 @@ fn not_compared(row: u8, text: u8, line: u64) -> ComparisonNumbers
     ComparisonNumbers {
         code: row as u32,
         text: text as u32,
-        line: line,
+        line,
         hours: 0,
         sum: 0,
         start: 0,
@@ -46,18 +47,13 @@ fn not_compared(row: u8, text: u8, line: u64) -> ComparisonNumbers
     }
 }
 
-pub fn comparison_of(comparison: Comparison) -> ComparisonNumbers
+pub fn comparison_of(comparison: Result<Differences, NotCompared>) -> ComparisonNumbers
     ensures { result ≡ compared_of (comparison_as comparison) }
 {
     match comparison {
-        Comparison::Compared(found) => {
-            let first = found.first;
-            match first {
-                Place::None => differing(found, 0, 0),
-                Place::Line { start, end } => differing(found, start, end),
-            }
-        },
-        Comparison::Stopped { text, row, line } => not_compared(row, text, line),
-        Comparison::Unlike => not_compared(19, 0, 0),
+        Ok(found) => differing(found, found.first.unwrap_or(LinePlace { start: 0, end: 0 })),
+        Err(NotCompared::First(stop)) => not_compared(frames::row_of(stop.refusal), 1, stop.line),
+        Err(NotCompared::Second(stop)) => not_compared(frames::row_of(stop.refusal), 2, stop.line),
+        Err(NotCompared::Unlike) => not_compared(frames::row_of(Refusal::Unlike), 0, 0),
     }
 }

@@ -6,22 +6,20 @@ mod comparing;
 mod stretching;
 
 ghost use Rattle.std.specs.Prelude.{true, ◌≡◌};
-ghost use Rattle.records.specs.Answers.{accepted, row_of, written_as};
+ghost use Rattle.records.specs.Answers.{accepted, row_of, outcome_of};
 ghost use Rattle.account_spec.specs.Rules.{fed_as};
-ghost use Rattle.account_spec.specs.Reading.{reading_as};
-ghost use Rattle.list_spec.specs.Feeding.{fed_all_as};
 ghost use Rattle.answers.specs.Code.{code_of, code_of_row, is_row, coded_of, coded_as};
 ghost use Rattle.answers.specs.CodePromise.{CodePromise};
 ghost use Rattle.answers.specs.Reading.{verdict_number, no_readout, readout_of, no_trial};
 ghost use Rattle.answers.specs.Writing.{printed_of};
 
-use account_spec::{Fed, Reading, Totals, Verdict};
+use account_spec::{Fed, Totals, Verdict};
 pub use comparing::{ComparisonNumbers, comparison_of};
-use frames::{Refusal, Written};
-use list_spec::FedAll;
+use frames::Refusal;
 pub use stretching::{StretchNumbers, stretch_of};
 
 // What reading gives: code 0, the sums and the verdict by its number, or the code of a refusal and zeros.
+// Kept for the C interface: a code beside its values, kinds by their numbers, in each struct of this crate
 #[repr(C)]
 #[derive(Clone, Copy)]
 pub struct Readout {
@@ -53,45 +51,13 @@ pub struct Tried {
     pub reading: Readout,
 }
 
-// What a number says as a code: acceptance, a refusal, or nothing.
-#[derive(Clone, Copy)]
-pub enum Coded {
-    Accepted,
-    Refused(Refusal),
-    Unknown,
-}
-
 // The field that rows 10 and 26 name, else 0.
 fn field_of(refusal: Refusal) -> u8
     ensures { result ≡ (row_of «refusal»).1 }
 {
     match refusal {
-        Refusal::Length => 0,
-        Refusal::Digit => 0,
-        Refusal::Kind => 0,
-        Refusal::Turn => 0,
-        Refusal::Tree => 0,
-        Refusal::Year => 0,
-        Refusal::Period => 0,
-        Refusal::Level => 0,
-        Refusal::Due => 0,
-        Refusal::Range(field) => field,
-        Refusal::Count => 0,
-        Refusal::Buffer => 0,
-        Refusal::Account => 0,
-        Refusal::Place => 0,
-        Refusal::Mixed => 0,
-        Refusal::Tried => 0,
-        Refusal::Ceiling => 0,
-        Refusal::NoCeiling => 0,
-        Refusal::Unlike => 0,
-        Refusal::Days => 0,
-        Refusal::Scratch => 0,
-        Refusal::ListSize => 0,
-        Refusal::UnlikeAccounts => 0,
-        Refusal::Parameter => 0,
-        Refusal::Warmth => 0,
-        Refusal::Float(field) => field,
+        Refusal::Range(field) | Refusal::Float(field) => field,
+        _ => 0,
     }
 }
 
@@ -113,8 +79,8 @@ pub fn of_fed(answer: Fed) -> u16
     ensures { result ≡ code_of (fed_as answer) }
 {
     match answer {
-        Fed::Accepted(_) => 0,
-        Fed::Refused(refusal, _) => short_code(refusal),
+        Ok(_) => 0,
+        Err((refusal, _)) => short_code(refusal),
     }
 }
 
@@ -125,6 +91,7 @@ fn is_row(row: u8, field: u8) -> bool
     (1 <= row) & (row <= 26) & ((field == 0) | (row == 10) | (row == 26))
 }
 
+// Kept: Refusal is of another crate, so no TryFrom can stand here
 fn refusal_of(row: u8, field: u8) -> Refusal
     requires { is_row row field ≡ true }
     ensures { row_of result ≡ (row, field) }
@@ -159,55 +126,48 @@ fn refusal_of(row: u8, field: u8) -> Refusal
     }
 }
 
-// The answer that a code names.
-pub fn answer_of(code: u16) -> Coded
+// The answer that a code names, if the number is one.
+pub fn answer_of(code: u16) -> Option<Result<(), Refusal>>
     ensures result_value { coded_as result ≡ coded_of code }
     ensures promise { CodePromise }
 {
     if code == 0 {
-        return Coded::Accepted;
+        return Some(Ok(()));
     }
     let row = (code % 256) as u8;
     let field = (code / 256) as u8;
     if is_row(row, field) {
-        return Coded::Refused(refusal_of(row, field));
+        return Some(Err(refusal_of(row, field)));
     }
-    Coded::Unknown
+    None
 }
 
-pub fn of_written(written: Written) -> u32
-    ensures { result ≡ code_of (written_as «written») }
-{
-    match written {
-        Written::Bytes(_) => 0,
-        Written::Refused(refusal) => code_of(refusal),
-    }
-}
-
-pub fn of_fed_all(answer: FedAll) -> u32
-    ensures { result ≡ code_of (fed_all_as answer) }
+// The code of an answer, whatever it gives.
+pub fn of_answer<T: Copy>(answer: Result<T, Refusal>) -> u32
+    ensures { result ≡ code_of (outcome_of answer) }
 {
     match answer {
-        FedAll::Accepted => 0,
-        FedAll::Refused(refusal) => code_of(refusal),
+        Ok(_) => 0,
+        Err(refusal) => code_of(refusal),
     }
 }
 
-pub fn printed_of(written: Written) -> Printed
-    ensures { result ≡ printed_of (written_as «written») }
+pub fn printed_of(written: Result<usize, Refusal>) -> Printed
+    ensures { result ≡ printed_of (outcome_of «written») }
 {
     match written {
-        Written::Bytes(n) => Printed {
+        Ok(n) => Printed {
             code: 0,
             length: n as u64,
         },
-        Written::Refused(refusal) => Printed {
+        Err(refusal) => Printed {
             code: code_of(refusal),
             length: 0,
         },
     }
 }
 
+// Kept: Verdict is of another crate, so no From can stand here
 fn verdict_number(verdict: Verdict) -> u32
     ensures { result ≡ verdict_number verdict }
 {
@@ -223,7 +183,7 @@ pub fn no_readout(code: u32) -> Readout
     ensures { result ≡ no_readout code }
 {
     Readout {
-        code: code,
+        code,
         verdict: 0,
         hours: 0,
         counted: 0,
@@ -239,11 +199,9 @@ pub fn readout_of(totals: Totals) -> Readout
     ensures { result ≡ readout_of (accepted totals) }
 {
     let sums = totals.sums;
-    let verdict = totals.verdict;
-    let number = verdict_number(verdict);
     Readout {
         code: 0,
-        verdict: number,
+        verdict: verdict_number(totals.verdict),
         hours: sums.hours as u32,
         counted: sums.counted as u32,
         missing: sums.missing as u32,
@@ -254,12 +212,12 @@ pub fn readout_of(totals: Totals) -> Readout
     }
 }
 
-pub fn of_reading(reading: Reading) -> Readout
-    ensures { result ≡ readout_of (reading_as reading) }
+pub fn of_reading(reading: Result<Totals, Refusal>) -> Readout
+    ensures { result ≡ readout_of (outcome_of reading) }
 {
     match reading {
-        Reading::Given(totals) => readout_of(totals),
-        Reading::Refused(refusal) => no_readout(code_of(refusal)),
+        Ok(totals) => readout_of(totals),
+        Err(refusal) => no_readout(code_of(refusal)),
     }
 }
 
@@ -267,7 +225,7 @@ pub fn no_trial(code: u32) -> Tried
     ensures { result ≡ no_trial code }
 {
     Tried {
-        code: code,
+        code,
         answer: 0,
         reading: no_readout(0),
     }

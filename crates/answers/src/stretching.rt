@@ -3,7 +3,7 @@ ghost use Rattle.std.specs.Prelude.{◌≡◌};
 ghost use Rattle.stretch_spec.specs.Worst.{stretch_as};
 ghost use Rattle.answers.specs.Stretching.{no_stretch, stretch_of};
 
-use stretch_spec::Stretch;
+use stretch_spec::{NoStretch, WorstDays};
 
 // Code 0, found 1, the sum and its first day, or zeros where there is none yet; or the code of a refusal with the text's line, and zeros.
 #[repr(C)]
@@ -20,27 +20,29 @@ fn no_stretch(code: u32, line: u64) -> StretchNumbers
     ensures { result ≡ no_stretch code line }
 {
     StretchNumbers {
-        code: code,
+        code,
         found: 0,
-        line: line,
+        line,
         sum: 0,
         day: 0,
     }
 }
 
-pub fn stretch_of(stretch: Stretch) -> StretchNumbers
+pub fn stretch_of(stretch: Result<Option<WorstDays>, NoStretch>) -> StretchNumbers
     ensures { result ≡ stretch_of (stretch_as stretch) }
 {
     match stretch {
-        Stretch::Found { sum, day } => StretchNumbers {
+        Ok(Some(worst)) => StretchNumbers {
             code: 0,
             found: 1,
             line: 0,
-            sum: sum,
-            day: day as u32,
+            sum: worst.sum,
+            day: worst.day as u32,
         },
-        Stretch::NoneYet => no_stretch(0, 0),
-        Stretch::Stopped { row, line } => no_stretch(row as u32, line),
-        Stretch::Refused(refusal) => no_stretch(crate::code_of(refusal), 0),
+        Ok(None) => no_stretch(0, 0),
+        Err(NoStretch::Stopped(stop)) => {
+            no_stretch(frames::row_of(stop.refusal) as u32, stop.line)
+        },
+        Err(NoStretch::Refused(refusal)) => no_stretch(crate::code_of(refusal), 0),
     }
 }

@@ -8,8 +8,8 @@ fn value(c: u8) -> u8
     ensures { result ≡ value_of c }
 {
     match c {
-        48..=57 => c - 48,
-        65..=70 => c - 55,
+        b'0'..=b'9' => c - b'0',
+        b'A'..=b'F' => c - b'A' + 10,
         _ => 0,
     }
 }
@@ -18,16 +18,14 @@ fn value(c: u8) -> u8
 fn digit(line: &[u8], at: usize, i: usize) -> u8
     ensures { result ≡ value_of (get_or line.now (at + i) 0) }
 {
-    if line.len() <= at {
-        return 0;
+    match line.get(at.saturating_add(i)) {
+        Some(c) => value(*c),
+        None => 0,
     }
-    if line.len() - at <= i {
-        return 0;
-    }
-    value(line[at + i])
 }
 
 // What n digits from a place on say.
+// Kept: `from_str_radix` refuses what says 0 here: a byte that is no digit and a line that is too short.
 fn number(line: &[u8], at: usize, n: usize) -> u64
     requires { n ≤ 16 }
     ensures value { result ≡ hex_at n at line.now }
@@ -41,6 +39,7 @@ fn number(line: &[u8], at: usize, n: usize) -> u64
 }
 
 // What two digits from a place on say.
+// Kept: one function for every width would name the count and the type at each call, as these four do once.
 pub fn u8_at(line: &[u8], at: usize) -> u8
     ensures { result ≡ hex_at 2 at line.now }
 {

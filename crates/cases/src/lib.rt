@@ -2,9 +2,11 @@
 #![tactic(auto)]
 
 mod digits;
-mod lines;
-mod stdio;
+mod input;
+mod parameters;
+mod refused;
 
 pub use digits::{i16_at, u8_at, u16_at, u32_at, u64_at};
-pub use lines::{after_line, line};
-pub use stdio::{buffer, print, print_next, print_number, print_signed, read};
+pub use input::{for_each_line, read_all};
+pub use parameters::{Listed, parameters_of};
+pub use refused::{Refused, Row};

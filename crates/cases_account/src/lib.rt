@@ -6,5 +6,5 @@ mod fields;
 mod parameters;
 mod warmth;
 
-pub use answers::{print_fed, print_refusal};
-pub use fields::{print_account, with_field};
+pub use answers::Answer;
+pub use fields::{Fields, with_field};

@@ -3,7 +3,10 @@
 
 mod pairs;
 
+// A read or a write that fails ends it.
 fn main(rt: HostRuntime) {
-    let mut buf = cases::buffer();
-    pairs::print_cases(&rt, &mut buf);
+    let Ok(input) = cases::read_all(&rt) else {
+        return;
+    };
+    let _ = pairs::print_cases(&rt, input.as_slice());
 }

@@ -3,60 +3,48 @@
 
 mod days;
 
+ghost use Rattle.records.specs.Answers.{outcome_of};
 ghost use Rattle.std.specs.Prelude.{◌≡◌};
-ghost use Rattle.dates_spec.specs.Rules.{place_out, placed_of, placed_as};
+ghost use Rattle.dates_spec.specs.Rules.{place_out, placed_of};
 ghost use Rattle.dates_spec.specs.Promise.{PlacePromise};
 
-pub use dates_spec::Placed;
 use days::{first_day, last_day};
-use frames::{Checked, Header, Record, Refusal};
-use trees::Choice;
+use frames::{Header, Record, Refusal};
 
 // Row 14: latitude (tenths of a degree) or height (metres) outside its range, or a tree without the model.
+#[tactic(auto, unfolding(dates_spec::specs::Rules::place_out, frames::specs::Kinds::among))]
 fn place_out(tree: u8, latitude: u16, height: u16) -> bool
     ensures { result ≡ place_out tree latitude height }
 {
-    if records::outside(350, 720, latitude) {
-        return true;
-    }
-    if 3000 < height {
-        return true;
-    }
-    match tree {
-        1 => false,
-        2 => false,
-        4 => false,
-        5 => false,
-        _ => true,
-    }
+    records::outside(350, 720, latitude) || 3000 < height || !matches!(tree, 1 | 2 | 4 | 5)
 }
 
 // The header of a place, or the first of rows 5, 6, 14, 7, 8 whose condition holds.
-pub fn header_at(tree: u8, days: u16, level: u16, latitude: u16, height: u16) -> Placed
-    ensures result_value { placed_as result ≡ placed_of tree days level latitude height }
+#[tactic(auto, using(dates_spec::proofs::PlaceLaws::place_promise), unfolding(dates_spec::specs::Rules::placed_of, dates_spec::specs::Rules::made_header, records::specs::Ranges::checked))]
+pub fn header_at(
+    tree: u8,
+    days: u16,
+    level: u16,
+    latitude: u16,
+    height: u16,
+) -> Result<Header, Refusal>
+    ensures result_value { outcome_of result ≡ placed_of tree days level latitude height }
     ensures promise { PlacePromise }
 {
-    let Choice::Tree(_) = measured::figures_in(measured::no_parameters(), tree) else {
-        return Placed::Refused(Refusal::Tree);
-    };
+    measured::figures_before(tree).ok_or(Refusal::Tree)?;
     if records::outside(365, 366, days) {
-        return Placed::Refused(Refusal::Year);
+        return Err(Refusal::Year);
     }
     if place_out(tree, latitude, height) {
-        return Placed::Refused(Refusal::Place);
+        return Err(Refusal::Place);
     }
-    let first = first_day(latitude, height);
-    let last = last_day(latitude, height);
     let header = Header {
         tree,
         days,
-        first,
-        last,
+        first: first_day(latitude, height),
+        last: last_day(latitude, height),
         level,
     };
-    let answer = frames::check(Record::Header(header));
-    match answer {
-        Checked::Sound => Placed::Header(header),
-        Checked::Refused(refusal) => Placed::Refused(refusal),
-    }
+    frames::check(Record::Header(header))?;
+    Ok(header)
 }

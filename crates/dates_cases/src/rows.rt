@@ -1,27 +1,29 @@
 // Rows of tree (two hexadecimal digits), days in the year, level, latitude and height (four each), with single spaces; the answer for each row
-// on a line of its own.
-use crate::answers::print_placed;
-use cases::{print, u8_at, u16_at};
+// on a line of its own: the header's first and last day and its line, or the row that refuses it.
+use cases::{Row, u8_at, u16_at};
+use frames::{Header, Record};
+use std::io;
 
-fn print_row(rt: &impl Print, row: &[u8]) {
-    print_placed(
-        rt,
-        dates::header_at(
-            u8_at(row, 0),
-            u16_at(row, 3),
-            u16_at(row, 8),
-            u16_at(row, 13),
-            u16_at(row, 18),
-        ),
-    );
-    print(rt, b"\n");
+fn print_header(rt: &impl Print, header: Header) -> io::Result<()> {
+    print!(rt; "{} {} ", header.first, header.last)?;
+    let mut line = [b'.'; 20];
+    match writer::write_frame(Record::Header(header), &mut line) {
+        Ok(_) => rt.write_all(&line)?,
+        Err(refusal) => print!(rt; "{}", Row(refusal))?,
+    }
+    println!(rt; "")
 }
 
-pub(crate) fn print_rows(rt: &impl Print, text: &[u8]) {
-    let mut rest = text;
-    while 0 < rest.len() {
-        print_row(rt, cases::line(rest));
-        let next = cases::after_line(rest);
-        rest = next;
+pub(crate) fn print_row(rt: &impl Print, row: &[u8]) -> io::Result<()> {
+    let placed = dates::header_at(
+        u8_at(row, 0),
+        u16_at(row, 3),
+        u16_at(row, 8),
+        u16_at(row, 13),
+        u16_at(row, 18),
+    );
+    match placed {
+        Ok(header) => print_header(rt, header),
+        Err(refusal) => println!(rt; "{}", Row(refusal)),
     }
 }

@@ -1,5 +1,4 @@
 pub mod ModelLaws
 pub mod RuleLaws
-pub mod MadeLaws
 pub mod HeaderLaws
 pub mod PlaceLaws

@@ -6,8 +6,8 @@ use Rattle.dates_spec.proofs.ModelLaws.{sixty-is, edges-is, extremes-is, model-k
 use Rattle.dates_spec.proofs.RuleLaws.{pole-is, period-in, place_out_lem, placed-rows, placed-made, placed-passed, without-model}
 use Rattle.dates_spec.proofs.HeaderLaws.{header-kept}
 
-pub place-promise : PlacePromise
-place-promise = record {
+pub place_promise : PlacePromise
+place_promise = record {
   first = λ latitude height. round_up-ceiling (model_start latitude height);
   last = λ latitude height. round_down-floor (model_end latitude height);
   model = model-kept;

@@ -1,4 +1,5 @@
 -- The rows of a header made from a place: row 14 before row 7, row 7 never.
+use Rattle.std.specs.Prelude.{Option, Some, None}
 use Prim.Native.Nat.{ℕ, ◌-◌, ◌≤◌}
 use mathlib.Core.Path.{◌≡◌, refl, sym, subst}
 use mathlib.Core.Bool.{Bool, true, false, cond, not, ◌||◌, or-true, true≢false, false≢true}
@@ -7,7 +8,6 @@ use native.Mathlib.Omega.{arith}
 use borrow.Author.Tests.{leb-true, ltb-false, le-ltb, not-false}
 use lib.Dec.{ltb, leb}
 use Rattle.trees.specs.declared.Figures.{Figures}
-use Rattle.trees.specs.declared.Choice.{Choice}
 use Rattle.trees.specs.Figures.{beech, figures_of, ramp_days}
 use Rattle.measured.specs.Parameters.{no_parameters}
 use Rattle.measured.specs.Figures.{figures_in}
@@ -51,28 +51,28 @@ module _ (tree latitude height : ℕ) (e : place_out tree latitude height ≡ fa
       }
 
 -- a tree with the model: it is one, and its ramps take 50 days at most
-abbrev short : Choice → Bool
-short (Choice.Tree f) = leb (ramp_days f) 50
-short Choice.Unknown = false
+abbrev short : Option Figures → Bool
+short (Some f) = leb (ramp_days f) 50
+short None = false
 
 record Modelled (tree : ℕ) : Type 0 where
   figures : Figures
-  is : figures_in no_parameters tree ≡ Choice.Tree figures
+  is : figures_in no_parameters tree ≡ Some figures
   ramps : ramp_days figures ≤ 50
 
-short-is : (tree : ℕ) (choice : Choice) → figures_in no_parameters tree ≡ choice → short choice ≡ true → Modelled tree
-short-is tree (Choice.Tree f) e s = record { figures = f; is = e; ramps = leb-true (ramp_days f) 50 s }
-short-is tree Choice.Unknown e s = absurd (false≢true s)
+short-is : (tree : ℕ) (choice : Option Figures) → figures_in no_parameters tree ≡ choice → short choice ≡ true → Modelled tree
+short-is tree (Some f) e s = record { figures = f; is = e; ramps = leb-true (ramp_days f) 50 s }
+short-is tree None e s = absurd (false≢true s)
 
 modelled : (tree : ℕ) → has_model tree ≡ true → Modelled tree
 unfolding among figures_in figures_of
 modelled tree e = short-is tree (figures_in no_parameters tree) refl (among-passes (λ n. short (figures_in no_parameters n)) with_model tree refl e)
 
-tree-same : {choice : Choice} {f g : Figures} → choice ≡ Choice.Tree f → choice ≡ Choice.Tree g → f ≡ g
+tree-same : {choice : Option Figures} {f g : Figures} → choice ≡ Some f → choice ≡ Some g → f ≡ g
 tree-same d e = cc
 
 -- row 7 never comes up
-pub period-in : (tree days level latitude height : ℕ) (f : Figures) → figures_in no_parameters tree ≡ Choice.Tree f → is_outside 365 366 days ≡ false
+pub period-in : (tree days level latitude height : ℕ) (f : Figures) → figures_in no_parameters tree ≡ Some f → is_outside 365 366 days ≡ false
     → place_out tree latitude height ≡ false → period_out (made_header tree days level latitude height) (ramp_days f) ≡ false
 unfolding made_header
 period-in tree days level latitude height f known year e =
@@ -106,16 +106,16 @@ module _ {A : Type 0} {rows : List ℕ} where
   }
   row-only false k next h o = o refl
 
-  on_tree-only : (choice : Choice) (next : Figures → Outcome A) → among rows 5 ≡ true → ((f : Figures) → choice ≡ Choice.Tree f → Only rows (next f)) → Only rows (on_tree choice next)
-  on_tree-only (Choice.Tree f) next h o = o f refl
-  on_tree-only Choice.Unknown next h o = row-only true 5 (refused (5, 0)) h (λ e. absurd (true≢false e))
+  on_tree-only : (choice : Option Figures) (next : Figures → Outcome A) → among rows 5 ≡ true → ((f : Figures) → choice ≡ Some f → Only rows (next f)) → Only rows (on_tree choice next)
+  on_tree-only (Some f) next h o = o f refl
+  on_tree-only None next h o = row-only true 5 (refused (5, 0)) h (λ e. absurd (true≢false e))
 
   row-never : (t : Bool) (w : ℕ × ℕ) (next : Outcome A) → t ≡ false → Only rows next → Only rows (cond t (refused w) next)
   row-never t w next e o = rw e o
 
 module _ (tree days level latitude height : ℕ) where
   -- row 14 comes before row 7
-  pub place_out_lem : (f : Figures) → figures_in no_parameters tree ≡ Choice.Tree f → is_outside 365 366 days ≡ false → place_out tree latitude height ≡ true
+  pub place_out_lem : (f : Figures) → figures_in no_parameters tree ≡ Some f → is_outside 365 366 days ≡ false → place_out tree latitude height ≡ true
       → placed_of tree days level latitude height ≡ refused (14, 0)
   unfolding placed_of
   place_out_lem f known year out = rw (known, year, out)

@@ -1,8 +1,7 @@
 -- What holds of every header made from a place (W-202).
-use Rattle.std.specs.Prelude.{ℕ, ◌+◌, ◌≤◌, ◌≡◌, true, false, List, [], ◌∷◌, length, take}
+use Rattle.std.specs.Prelude.{ℕ, ◌+◌, ◌≤◌, ◌≡◌, true, false, List, [], ◌∷◌, length, take, Some}
 use Rattle.exact.specs.Frac.{natural, ◌⊕◌, ◌⊗◌, ◌≈◌}
 use Rattle.trees.specs.declared.Figures.{Figures}
-use Rattle.trees.specs.declared.Choice.{Choice}
 use Rattle.trees.specs.Figures.{beech, ramp_days}
 use Rattle.measured.specs.Parameters.{no_parameters}
 use Rattle.measured.specs.Figures.{figures_in}
@@ -66,14 +65,14 @@ pub record PlacePromise : Type 0 where
   pub thousand : (latitude height : ℕ) → InPlace latitude (height + 1000)
       → (first_day latitude (height + 1000) ≡ first_day latitude height + 10) × (last_day latitude (height + 1000) + 10 ≡ last_day latitude height)
   -- row 14 before row 7
-  pub out : (tree days level latitude height : ℕ) (f : Figures) → figures_in no_parameters tree ≡ Choice.Tree f → is_outside 365 366 days ≡ false
+  pub out : (tree days level latitude height : ℕ) (f : Figures) → figures_in no_parameters tree ≡ Some f → is_outside 365 366 days ≡ false
       → place_out tree latitude height ≡ true → placed_of tree days level latitude height ≡ refused (14, 0)
   -- so at the pole and 3000 m, where the end would be before the start
   pub pole : (period_out (made_header 4 365 520 900 3000) (ramp_days beech) ≡ true) × (placed_of 4 365 520 900 3000 ≡ refused (14, 0))
   -- continental spruce, the evergreen and a measured tree (W-212) are without the model
   pub without_model : (latitude height : ℕ) → (place_out 3 latitude height ≡ true) × (place_out 6 latitude height ≡ true) × (place_out 7 latitude height ≡ true)
   -- row 7 never comes up
-  pub period : (tree days level latitude height : ℕ) (f : Figures) → figures_in no_parameters tree ≡ Choice.Tree f → is_outside 365 366 days ≡ false
+  pub period : (tree days level latitude height : ℕ) (f : Figures) → figures_in no_parameters tree ≡ Some f → is_outside 365 366 days ≡ false
       → place_out tree latitude height ≡ false → period_out (made_header tree days level latitude height) (ramp_days f) ≡ false
   pub rows : (tree days level latitude height n f : ℕ) → placed_of tree days level latitude height ≡ refused (n, f)
       → (among (5 ∷ 6 ∷ 14 ∷ 8 ∷ []) n ≡ true) × (f ≡ 0)

@@ -1,5 +1,6 @@
 -- The header of a place (W-202): rows 5, 6, 14, 7, 8 in that order, or the header with the model's days.
 use Rattle.std.specs.Prelude.{ℕ, Bool, not, ◌||◌, List, [], ◌∷◌, ltb}
+use Rattle.records.specs.declared.Refusal.{Refusal}
 use Rattle.trees.specs.Figures.{ramp_days}
 use Rattle.measured.specs.Parameters.{no_parameters}
 use Rattle.measured.specs.Figures.{figures_in}
@@ -8,7 +9,6 @@ use Rattle.records.specs.Answers.{Outcome, accepted, refused, row, row_of}
 use Rattle.records.specs.Numbers.{is_outside}
 use Rattle.records.specs.Ranges.{on_tree, period_out}
 use Rattle.frames.specs.Kinds.{among}
-use Rattle.dates_spec.specs.declared.Placed.{Placed}
 use Rattle.dates_spec.specs.Model.{first_day, last_day}
 
 -- boreal spruce, birch, beech, oak
@@ -49,7 +49,3 @@ placed_of tree days level latitude height =
     (row 7 (period_out (made_header tree days level latitude height) (ramp_days f))
     (row 8 (is_outside 1 10000 level)
     (accepted (made_header tree days level latitude height))))))
-
-abbrev pub placed_as : Placed → Outcome Header
-placed_as (Placed.Header h) = accepted h
-placed_as (Placed.Refused r) = refused (row_of r)

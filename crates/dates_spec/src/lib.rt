@@ -2,10 +2,3 @@
 #![tactic(auto)]
 
 use frames::{Header, Refusal};
-
-// The answer to a place: its header, or the row that refuses it.
-#[derive(Clone, Copy)]
-pub enum Placed {
-    Header(Header),
-    Refused(Refusal),
-}

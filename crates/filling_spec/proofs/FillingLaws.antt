@@ -1,4 +1,5 @@
 -- What filling brings: the lines filled are accepted too, with the figures of both ends and no verdict turned (document 02, W-207).
+use Rattle.std.specs.Prelude.{Ok, Err}
 use Prim.Native.Nat.{ℕ, ◌≤◌}
 use mathlib.Core.Path.{◌≡◌, refl, sym, ap, subst, ◌∙◌}
 use mathlib.Core.Bool.{Bool, true, false, cond}
@@ -9,10 +10,9 @@ use Rattle.records.specs.declared.Record.{Record}
 use Rattle.records.specs.Ozone.{with_ozone}
 use Rattle.records.proofs.OzoneLaws.{ceiling-le}
 use Rattle.account_spec.specs.declared.Account.{Account}
-use Rattle.account_spec.specs.declared.Fed.{Fed}
 use Rattle.account_spec.specs.Hours.{none_carried}
 use Rattle.account_spec.specs.Account.{fresh_account}
-use Rattle.account_spec.specs.Rules.{left_of, left_by, Feeds}
+use Rattle.account_spec.specs.Rules.{left_of, left_by, Feeds, Fed}
 use Rattle.account_spec.specs.Book.{Book, empty_book, book_sums}
 use Rattle.account_spec.specs.Runs.{Event, fed, Run, stop, feeds, reads, account_after, TakesAll}
 use Rattle.account_spec.specs.Steps.{account_of, Proper}
@@ -30,8 +30,8 @@ use Rattle.filling_spec.proofs.NarrowLaws.{Narrowed, hours-narrowed, exceeded-ke
 fed-alone :
     (a : Account) (l : List ℕ) (es : List Event) (r : Fed) → Feeds a l r → TakesAll (left_by r) (accepted_lines es) (account_after (left_by r) es) →
     TakesAll a (accepted_lines (fed l r ∷ es)) (account_after a (fed l r ∷ es))
-fed-alone a l es (Fed.Accepted b) k rest = TakesAll.line (sym k.answers) rest
-fed-alone a l es (Fed.Refused w b) k rest =
+fed-alone a l es (Ok b) k rest = TakesAll.line (sym k.answers) rest
+fed-alone a l es (Err (w, b)) k rest =
     subst (λ (x : Account). TakesAll x (accepted_lines es) (account_after b es)) (k.leaves ∙ ap (left_of a) (sym k.answers)) rest
 
 run_alone : (a : Account) (es : List Event) → Run a es → TakesAll a (accepted_lines es) (account_after a es)
@@ -73,7 +73,7 @@ module _ (n : ℕ) (few : n ≤ 5000) where
 
 -- ---- the account that they leave
 
-record Result (low high : ℕ) (a : Account) (ms : List (List ℕ)) : Type 0 where
+record FilledResult (low high : ℕ) (a : Account) (ms : List (List ℕ)) : Type 0 where
   taken : Taken a ms
   order : taken.account.sums.lower ≤ taken.account.sums.upper
   narrowed : Narrowed low high a.season.ceiling a.sums taken.account.sums
@@ -85,7 +85,7 @@ module _ {low high : ℕ} where
 
   books-taken :
       (b c : Book) (ms : List (List ℕ)) → Proper b → Proper c → Beside low high b c → high ≤ b.season.ceiling → TakesAll fresh_account ms (account_of c) →
-      Result low high (account_of b) ms
+      FilledResult low high (account_of b) ms
   books-taken b c ms p q beside within takes =
       let narrowed = books-narrowed b c p beside within in
       record {
@@ -103,13 +103,13 @@ module _ {low high : ℕ} where
         narrowed = narrowed;
       }
 
-  lines-taken : (ls ms : List (List ℕ)) (a : Account) → high ≤ a.season.ceiling → TakesAll fresh_account ls a → FilledLines low high ls ms → Result low high a ms
+  lines-taken : (ls ms : List (List ℕ)) (a : Account) → high ≤ a.season.ceiling → TakesAll fresh_account ls a → FilledLines low high ls ms → FilledResult low high a ms
   lines-taken ls ms a within takes filled =
       let none : Beside low high empty_book empty_book = record { phase = refl; season = refl; hours = FilledHours.none } in
       let both = lines-both empty_book empty_book fresh_account a ls ms fresh-proper fresh-proper none fresh-same filled takes in
       let is = both.is in
       let own = subst (λ (x : Account). TakesAll x ms (account_of both.other)) (sym fresh-same) both.takes in
-      subst (λ (x : Account). Result low high x ms) (sym is)
+      subst (λ (x : Account). FilledResult low high x ms) (sym is)
       (books-taken both.book both.other ms both.proper both.other-proper both.beside (subst (λ (x : Account). high ≤ x.season.ceiling) is within) own)
 
 -- row 17
@@ -120,7 +120,7 @@ ceiling-few ls a takes =
 
 -- ---- the promise
 
-narrower : {high : ℕ} (a : Account) (ms : List (List ℕ)) (r : Result 0 high a ms) → Narrower a r.taken.account
+narrower : {high : ℕ} (a : Account) (ms : List (List ℕ)) (r : FilledResult 0 high a ms) → Narrower a r.taken.account
 narrower a ms r =
     let n = r.narrowed in
     let t = r.taken in

@@ -1,12 +1,11 @@
 -- The sums of filled hours: the lower figures do not fall and the upper ones do not rise; filled with 0 the lower ones stay, filled with the ceiling the upper ones.
+use Rattle.std.specs.Prelude.{Option, Some, None}
 use Prim.Native.Nat.{ℕ, ◌≤◌}
 use mathlib.Core.Path.{◌≡◌, refl, sym, subst, ◌∙◌}
 use mathlib.Core.Bool.{Bool, true, false, false≢true, cond}
 use mathlib.Core.List.{List}
 use native.Mathlib.Nat.{le_refl}
 use native.Mathlib.Omega.{arith}
-use Rattle.records.specs.declared.Ozone.{Ozone}
-use Rattle.records.specs.declared.Ozone.TheVariants.{Tenths, Missing}
 use Rattle.records.specs.declared.Hour.{Hour}
 use Rattle.records.specs.Answers.{Outcome, accepted}
 use Rattle.records.specs.Ozone.{is_missing}
@@ -68,9 +67,9 @@ module _ {low high ceiling : ℕ} where
 
 -- ---- one hour
 
-missing-is : (o : Ozone) → is_missing o ≡ true → o ≡ Missing
-missing-is (Tenths n) e = absurd (false≢true e)
-missing-is Missing e = refl
+missing-is : (o : Option ℕ) → is_missing o ≡ true → o ≡ None
+missing-is (Some n) e = absurd (false≢true e)
+missing-is None e = refl
 
 module _ {low high ceiling : ℕ} (within : high ≤ ceiling) where
   hour-narrowed :

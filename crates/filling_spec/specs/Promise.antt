@@ -1,8 +1,8 @@
 -- What filling brings (document 02, W-207): the lines are accepted too, the figures of both ends are those of lines, and no verdict is turned.
-use Rattle.std.specs.Prelude.{ℕ, ◌≤◌, ◌≡◌, List, [], ◌∷◌}
+use Rattle.std.specs.Prelude.{ℕ, ◌≤◌, ◌≡◌, List, [], ◌∷◌, Ok, Err}
+use Rattle.account_spec.specs.Rules.{Fed}
 use Rattle.records.specs.Answers.{accepted}
 use Rattle.account_spec.specs.declared.Account.{Account}
-use Rattle.account_spec.specs.declared.Fed.{Fed}
 use Rattle.account_spec.specs.Account.{fresh_account}
 use Rattle.account_spec.specs.Reading.{exceeded_word, below_word, word_of, totals_of, read_of}
 use Rattle.account_spec.specs.Runs.{Event, fed, taken, Run, account_after, TakesAll}
@@ -11,8 +11,8 @@ use Rattle.filling_spec.specs.Lines.{lines_read_as, FillsLines}
 -- ---- the lines that a run accepted
 
 abbrev pub if_accepted : Fed → List ℕ → List (List ℕ) → List (List ℕ)
-if_accepted (Fed.Accepted a) l ls = l ∷ ls
-if_accepted (Fed.Refused r a) l ls = ls
+if_accepted (Ok a) l ls = l ∷ ls
+if_accepted (Err (r, a)) l ls = ls
 
 abbrev pub accepted_lines : List Event → List (List ℕ)
 accepted_lines [] = []

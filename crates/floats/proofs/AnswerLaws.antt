@@ -1,13 +1,12 @@
 -- What `feed_floats` answers, by the first broken field: the frame's answer, or row 26 after the rows that look at no reading.
+use Rattle.std.specs.Prelude.{Result, Ok, Err}
 use Rattle.std.proofs.Common.{◌≡◌, ℕ, sym, refl, ap, ◌∙◌, subst}
 use Rattle.records.specs.declared.Raw.{Raw}
 use Rattle.records.specs.declared.RawHour.{RawHour}
 use Rattle.records.specs.declared.Refusal.{Refusal}
-use Rattle.records.specs.declared.Checked.{Checked}
-use Rattle.records.specs.Answers.{Outcome, checked_as}
+use Rattle.records.specs.Answers.{Outcome, outcome_of}
 use Rattle.account_spec.specs.declared.Account.{Account}
-use Rattle.account_spec.specs.declared.Fed.{Fed}
-use Rattle.account_spec.specs.Rules.{feed_frame_of, Answers}
+use Rattle.account_spec.specs.Rules.{feed_frame_of, Answers, Fed}
 use Rattle.account_spec.specs.Timely.{timely_of}
 use Rattle.floats_spec.specs.declared.FloatReadings.{FloatReadings}
 use Rattle.floats_spec.specs.Feeding.{hour_at, feed_floats_of}
@@ -27,16 +26,16 @@ module _ (a : Account) (day hour : ℕ) (r : FloatReadings) (read : Fields) (fie
       let raw-is = p.2 ∙ ap (frame_in day hour) (sym fields) ∙ sym is in
       subst (λ (o : Outcome Account). Answers a o fed) (sym (feed-whole a day hour p.0 r p.1 ∙ ap (λ (x : RawHour). feed_frame_of a (Raw.Hour x)) raw-is)) k
 
-  module _ (some : n ≡ 0 → ⊥) (hour_is : RawHour) (is : hour_is ≡ hour_at day hour) (c : Checked) (checked : checked_as c ≡ timely_of a hour_is) where
-    timely-is : checked_as c ≡ timely_of a (hour_at day hour)
+  module _ (some : n ≡ 0 → ⊥) (hour_is : RawHour) (is : hour_is ≡ hour_at day hour) (c : Result Unit Refusal) (checked : outcome_of c ≡ timely_of a hour_is) where
+    timely-is : outcome_of c ≡ timely_of a (hour_at day hour)
     timely-is = checked ∙ ap (timely_of a) is
 
-    pub broken-answers : c ≡ Checked.Sound → Answers a (feed_floats_of a day hour r) (Fed.Refused (Refusal.Float n) a)
+    pub broken-answers : c ≡ (Ok tt) → Answers a (feed_floats_of a day hour r) (Err (Refusal.Float n, a))
     unfolding feed_floats_of
     broken-answers e =
         let w = fields-broken day hour r (λ z. some (broken-is ∙ z)) in
         record { answers = rw (← timely-is, e, w, broken-is) refl; leaves = rw (← timely-is, e, w) refl }
 
-    pub untimely-answers : (row : Refusal) → c ≡ Checked.Refused row → Answers a (feed_floats_of a day hour r) (Fed.Refused row a)
+    pub untimely-answers : (row : Refusal) → c ≡ Err row → Answers a (feed_floats_of a day hour r) (Err (row, a))
     unfolding feed_floats_of
     untimely-answers row e = record { answers = rw (← timely-is, e) refl; leaves = rw (← timely-is, e) refl }

@@ -1,4 +1,5 @@
 -- A field's bytes by the cut number, and the seven fields together: the frame of the numbers, or row 26.
+use Rattle.std.specs.Prelude.{Option, Some, None}
 use Rattle.std.proofs.Common.{◌≡◌, ℕ, ◌-◌, ◌≤◌, min, Bool, true, false, cond, eqb, ltb, pos, negsuc, sym, refl, ap, ◌∙◌, arith, ltb-false, ltb-true, le-ltb, ne_eqb}
 use lib.Ieee.{Float}
 use Rattle.records.specs.declared.RawHour.{RawHour}
@@ -9,7 +10,6 @@ use Rattle.floats_spec.specs.Whole.{Wholeness, whole, broken, whole_of}
 use Rattle.floats_spec.specs.Numbers.{Wholes, natural_bytes, complement_bytes, raw_of}
 use Rattle.floats_spec.specs.Feeding.{in_field, wholes_of}
 use Rattle.floats.specs.declared.whole.Number.{Number}
-use Rattle.floats.specs.declared.fields.Field.{Field}
 use Rattle.floats.specs.declared.fields.Fields.{Fields}
 use Rattle.floats.specs.Steps.{cut, field_of, fields_of, first_broken, frame_in}
 
@@ -23,32 +23,32 @@ cut-held {A} limit most n h f other = go (ltb n limit) refl
     go true e = let same : min n most ≡ n = omega (arith, ltb-true n limit e) in rw same refl
     go false e = rw (e, le-ltb (min n most) limit (omega (arith, ltb-false n limit e))) refl
 
-abbrev natural_in : Number → Field
-natural_in (Number.Plus n) = record { whole = true; bytes = cond (ltb n 65536) n 65534 }
-natural_in (Number.Minus n) = record { whole = true; bytes = 65534 }
-natural_in Number.Broken = record { whole = false; bytes = 0 }
+abbrev natural_in : Option Number → Option ℕ
+natural_in (Some (Number.Plus n)) = Some (cond (ltb n 65536) n 65534)
+natural_in (Some (Number.Minus n)) = Some (65534)
+natural_in None = None
 
 natural-cut : (w : Wholeness) → natural_in (cut w) ≡ field_of natural_bytes w
 unfolding natural_bytes
-natural-cut (whole (pos n)) = ap (λ (b : ℕ). record { whole = true; bytes = b }) (cut-held 65536 16777216 n (omega arith) (λ k. k) 65534)
+natural-cut (whole (pos n)) = ap (λ (b : ℕ). Some (b)) (cut-held 65536 16777216 n (omega arith) (λ k. k) 65534)
 natural-cut (whole (negsuc n)) = refl
 natural-cut broken = refl
 
-pub natural-says : (x : Float) (n : Number) → n ≡ cut (whole_of x) → natural_in n ≡ field_of natural_bytes (whole_of x)
+pub natural-says : (x : Float) (n : Option Number) → n ≡ cut (whole_of x) → natural_in n ≡ field_of natural_bytes (whole_of x)
 natural-says x n e = ap natural_in e ∙ natural-cut (whole_of x)
 
-abbrev complement_in : Number → Field
-complement_in (Number.Plus n) = record { whole = true; bytes = cond (ltb n 32768) n 32767 }
-complement_in (Number.Minus n) = record { whole = true; bytes = cond (ltb n 32768) (65535 - n) 32767 }
-complement_in Number.Broken = record { whole = false; bytes = 0 }
+abbrev complement_in : Option Number → Option ℕ
+complement_in (Some (Number.Plus n)) = Some (cond (ltb n 32768) n 32767)
+complement_in (Some (Number.Minus n)) = Some (cond (ltb n 32768) (65535 - n) 32767)
+complement_in None = None
 
 complement-cut : (w : Wholeness) → complement_in (cut w) ≡ field_of complement_bytes w
 unfolding complement_bytes
-complement-cut (whole (pos n)) = ap (λ (b : ℕ). record { whole = true; bytes = b }) (cut-held 32768 16777216 n (omega arith) (λ k. k) 32767)
-complement-cut (whole (negsuc n)) = ap (λ (b : ℕ). record { whole = true; bytes = b }) (cut-held 32768 16777215 n (omega arith) (λ k. 65535 - k) 32767)
+complement-cut (whole (pos n)) = ap (λ (b : ℕ). Some (b)) (cut-held 32768 16777216 n (omega arith) (λ k. k) 32767)
+complement-cut (whole (negsuc n)) = ap (λ (b : ℕ). Some (b)) (cut-held 32768 16777215 n (omega arith) (λ k. 65535 - k) 32767)
 complement-cut broken = refl
 
-pub complement-says : (x : Float) (n : Number) → n ≡ cut (whole_of x) → complement_in n ≡ field_of complement_bytes (whole_of x)
+pub complement-says : (x : Float) (n : Option Number) → n ≡ cut (whole_of x) → complement_in n ≡ field_of complement_bytes (whole_of x)
 complement-says x n e = ap complement_in e ∙ complement-cut (whole_of x)
 
 -- ---- all seven

@@ -1,84 +1,84 @@
 -- The whole number of a float by its sign and the size of it or of its negative.
+use Rattle.std.specs.Prelude.{Option, Some, None}
 use Rattle.std.proofs.Common.{◌≡◌, ℕ, zero, suc, ◌+◌, ◌-◌, ◌*◌, ◌/◌, ◌%◌, ◌<◌, ◌≤◌, min, Bool, true, false, cond, not, ◌&&◌, ◌||◌, T, eqb, ltb, ℤ, pos, sym, refl, ap, ◌∙◌, subst, true≢false, lt_irrefl, zero-mul, arith, eqb→eq, ltb→lt, nltb→le, T_not}
 use lib.Ieee.{Float, nan, inf, fin, up, down, lt, le, neg}
 use lib.Ieee.Fits.{and_i, eq→eqb}
 use Rattle.floats_spec.specs.Whole.{signed, whole, broken, whole_of}
 use Rattle.floats_spec.proofs.WholeLaws.{divided-back}
-use Rattle.floats.specs.declared.whole.Size.{Size}
 use Rattle.floats.specs.declared.whole.Number.{Number}
 use Rattle.floats.specs.Steps.{cut_size, cut}
 use Rattle.floats.proofs.OrderLaws.{is_T, is-not, minus-size-zero}
 use Rattle.floats.proofs.SizeLaws.{size-whole}
 
-abbrev unsigned : Size → ℕ
-unsigned (Size.Of n) = n
-unsigned Size.Broken = 0
+abbrev unsigned : Option ℕ → ℕ
+unsigned (Some n) = n
+unsigned None = 0
 
-abbrev signs : Bool → Size → Number
-signs false (Size.Of n) = Number.Plus n
-signs true (Size.Of zero) = Number.Plus 0
-signs true (Size.Of (suc n)) = Number.Minus n
-signs s Size.Broken = Number.Broken
+abbrev signs : Bool → Option ℕ → Option Number
+signs false (Some n) = Some (Number.Plus n)
+signs true (Some zero) = Some (Number.Plus 0)
+signs true (Some (suc n)) = Some (Number.Minus n)
+signs s None = None
 
 cut-suc : (k : ℕ) → min (suc k) 16777216 ≡ suc (min k 16777215)
 cut-suc k = omega arith
 
-signs-cut : (s : Bool) (n : ℕ) → signs s (Size.Of (min n 16777216)) ≡ cut (whole (signed s n))
+signs-cut : (s : Bool) (n : ℕ) → signs s (Some (min n 16777216)) ≡ cut (whole (signed s n))
 signs-cut false n = refl
 signs-cut true zero = refl
-signs-cut true (suc k) = ap (λ (n : ℕ). signs true (Size.Of n)) (cut-suc k)
+signs-cut true (suc k) = ap (λ (n : ℕ). signs true (Some n)) (cut-suc k)
 
 signs-whole : (s : Bool) (m : ℕ) (e : ℤ) → signs s (cut_size (fin s m e)) ≡ cut (whole_of (fin s m e))
 unfolding cut_size whole_of
 signs-whole s m e = go (eqb (m * up e % down e) 0)
   where
-    go : (b : Bool) → signs s (cond b (Size.Of (min (m * up e / down e) 16777216)) Size.Broken) ≡ cut (cond b (whole (signed s (m * up e / down e))) broken)
+    go : (b : Bool) → signs s (cond b (Some (min (m * up e / down e) 16777216)) None) ≡ cut (cond b (whole (signed s (m * up e / down e))) broken)
     go true = signs-cut s (m * up e / down e)
     go false = refl
 
-pub plus-broken : (x : Float) → le (fin false 0 (pos 0)) x ≡ true → Size.Broken ≡ cut_size x → Number.Broken ≡ cut (whole_of x)
+pub plus-broken : (x : Float) → le (fin false 0 (pos 0)) x ≡ true → None ≡ cut_size x → None ≡ cut (whole_of x)
 unfolding whole_of
 plus-broken nan z h = refl
 plus-broken (inf s) z h = refl
 plus-broken (fin s m e) z h = ap (signs s) h ∙ signs-whole s m e
 
-abbrev IsOf : Size → Type 0
-IsOf (Size.Of n) = Unit
-IsOf Size.Broken = ⊥
+abbrev IsOf : Option ℕ → Type 0
+IsOf (Some n) = Unit
+IsOf None = ⊥
 
-size-not-broken : (n : ℕ) → Size.Of n ≡ Size.Broken → ⊥
+size-not-broken : (n : ℕ) → Some n ≡ None → ⊥
 size-not-broken n h = subst IsOf h tt
 
-pub plus-number : (x : Float) (n : ℕ) → le (fin false 0 (pos 0)) x ≡ true → Size.Of n ≡ cut_size x → Number.Plus n ≡ cut (whole_of x)
+pub plus-number : (x : Float) (n : ℕ) → le (fin false 0 (pos 0)) x ≡ true → Some n ≡ cut_size x → Some (Number.Plus n) ≡ cut (whole_of x)
 unfolding cut_size
 plus-number nan n z h = absurd (size-not-broken n h)
 plus-number (inf s) n z h = absurd (size-not-broken n h)
 plus-number (fin false m e) n z h = ap (signs false) h ∙ signs-whole false m e
 plus-number (fin true m e) n z h =
     let k : n ≡ 0 = ap unsigned (h ∙ size-whole true m e 0 (minus-size-zero m e (is_T z) ∙ sym (zero-mul (down e)))) in
-    ap Number.Plus k ∙ ap (signs true) (ap Size.Of (sym k) ∙ h) ∙ signs-whole true m e
+    ap (λ (n : ℕ). Some (Number.Plus n)) k ∙ ap (signs true) (ap (λ (n : ℕ). Some n) (sym k) ∙ h) ∙ signs-whole true m e
 
-pub minus-broken : (x : Float) → Size.Broken ≡ cut_size (neg x) → Number.Broken ≡ cut (whole_of x)
+pub minus-broken : (x : Float) → None ≡ cut_size (neg x) → None ≡ cut (whole_of x)
 unfolding whole_of neg cut_size
 minus-broken nan h = refl
 minus-broken (inf s) h = refl
 minus-broken (fin s m e) h = ap (signs s) h ∙ signs-whole s m e
 
 -- a size above 0 that is whole is not 0
-quotient-pos : (v d n : ℕ) → 0 < v → Size.Of n ≡ cond (eqb (v % d) 0) (Size.Of (min (v / d) 16777216)) Size.Broken → 0 < n
+quotient-pos : (v d n : ℕ) → 0 < v → Some n ≡ cond (eqb (v % d) 0) (Some (min (v / d) 16777216)) None → 0 < n
 quotient-pos v d n p h = go (eqb (v % d) 0) (eqb→eq (v % d) 0) h
   where
     kept : (q v : ℕ) → 0 < v → v ≡ q * d → 0 < min q 16777216
     kept zero v p k = absurd (lt_irrefl 0 (subst (λ (t : ℕ). 0 < t) (k ∙ zero-mul d) p))
     kept (suc q) v p k = omega arith
 
-    go : (b : Bool) → (T b → v % d ≡ 0) → Size.Of n ≡ cond b (Size.Of (min (v / d) 16777216)) Size.Broken → 0 < n
+    go : (b : Bool) → (T b → v % d ≡ 0) → Some n ≡ cond b (Some (min (v / d) 16777216)) None → 0 < n
     go true r h = subst (λ (t : ℕ). 0 < t) (sym (ap unsigned h)) (kept (v / d) v p (divided-back v d (r tt)))
     go false r h = absurd (size-not-broken n h)
 
-minus_is : (n : ℕ) → 0 < n → Number.Minus (n - 1) ≡ signs true (Size.Of n)
+minus_is : (n : ℕ) → 0 < n → Some (Number.Minus (n - 1)) ≡ signs true (Some n)
 minus_is zero h = absurd (lt_irrefl 0 h)
-minus_is (suc n) h = let less : suc n - 1 ≡ n = omega arith in ap Number.Minus less
+minus_is (suc n) h = let less : suc n - 1 ≡ n = omega arith in ap (λ (n : ℕ). Some (Number.Minus n)) less
 
 below-absurd : (a b : ℕ) → a < 0 * 1 * b → ⊥
 below-absurd a b h = omega arith
@@ -94,7 +94,7 @@ plus-ge m e = go (ltb (0 * 1 * down e) (m * up e * 1)) (nltb→le (0 * 1 * down 
     go true h = tt
     go false h = and_i (eqb (0 * 1 * down e) (m * up e * 1)) true (eq→eqb (flat (down e) (m * up e * 1) (h tt))) tt
 
-pub size-pos : (x : Float) (n : ℕ) → lt x (fin false 0 (pos 0)) ≡ true → Size.Of n ≡ cut_size (neg x) → 0 < n
+pub size-pos : (x : Float) (n : ℕ) → lt x (fin false 0 (pos 0)) ≡ true → Some n ≡ cut_size (neg x) → 0 < n
 unfolding cut_size neg lt
 size-pos nan n z h = absurd (size-not-broken n h)
 size-pos (inf s) n z h = absurd (size-not-broken n h)
@@ -103,7 +103,7 @@ size-pos (fin true m e) n z h =
     let p : 0 < m * up e = omega (arith, ltb→lt 0 (m * up e * 1 + 0 * 1 * down e) (is_T z)) in
     quotient-pos (m * up e) (down e) n p h
 
-pub minus_number : (x : Float) (n : ℕ) → lt x (fin false 0 (pos 0)) ≡ true → Size.Of n ≡ cut_size (neg x) → Number.Minus (n - 1) ≡ cut (whole_of x)
+pub minus_number : (x : Float) (n : ℕ) → lt x (fin false 0 (pos 0)) ≡ true → Some n ≡ cut_size (neg x) → Some (Number.Minus (n - 1)) ≡ cut (whole_of x)
 unfolding cut_size neg lt
 minus_number nan n z h = absurd (size-not-broken n h)
 minus_number (inf s) n z h = absurd (size-not-broken n h)
@@ -118,7 +118,7 @@ negated-ge (inf true) z = tt
 negated-ge (fin false m e) z = absurd (below-absurd (m * up e * 1) (down e) (ltb→lt (m * up e * 1) (0 * 1 * down e) (is_T z)))
 negated-ge (fin true m e) z = plus-ge m e
 
-pub neither-broken : (x : Float) → le (fin false 0 (pos 0)) x ≡ false → lt x (fin false 0 (pos 0)) ≡ false → Number.Broken ≡ cut (whole_of x)
+pub neither-broken : (x : Float) → le (fin false 0 (pos 0)) x ≡ false → lt x (fin false 0 (pos 0)) ≡ false → None ≡ cut (whole_of x)
 unfolding lt le whole_of
 neither-broken nan h k = refl
 neither-broken (inf s) h k = refl

@@ -1,4 +1,5 @@
 -- The size of a float that is not below 0: what a cast to an integer and back says of one below 2 ^ 24, and that every one from there on is whole.
+use Rattle.std.specs.Prelude.{Some, None}
 use Rattle.std.proofs.Common.{◌≡◌, ℕ, zero, suc, ◌+◌, ◌-◌, ◌*◌, ◌/◌, ◌%◌, ◌^◌, ◌<◌, ◌≤◌, min, Bool, true, false, not, ◌&&◌, ◌||◌, T, eqb, ltb, leb, ℤ, pos, negsuc, sym, refl, ap, ◌∙◌, subst, true≢false, div-lt_iff_lt-mul, mul-le-mul_left, zero-mul, mul-one, arith, eqb→eq, ltb→lt, lt→ltb, T_not, pow_pos}
 use native.Mathlib.Nat.{eq_of_mul-eq-mul_right, zero-div}
 use mathlib.Core.Bool.{beq}
@@ -7,7 +8,6 @@ use lib.Ieee.Fits.{down_pos, and_i, and_l, and_r, eq→eqb}
 use lib.Ieee.Exact.{HasValue}
 use lib.Ieee.Back.{round_whole}
 use Rattle.floats_spec.proofs.WholeLaws.{divided, undivided, divided-back}
-use Rattle.floats.specs.declared.whole.Size.{Size}
 use Rattle.floats.specs.Steps.{cut_size}
 use Rattle.floats.proofs.OrderLaws.{is_T, is-not, large-ge, minus-size-zero, small-lt}
 
@@ -29,26 +29,26 @@ cut-large v h = omega arith
 
 -- ---- the size of a finite float
 
-pub size-whole : (s : Bool) (m : ℕ) (e : ℤ) (n : ℕ) → m * up e ≡ n * down e → cut_size (fin s m e) ≡ Size.Of (min n 16777216)
+pub size-whole : (s : Bool) (m : ℕ) (e : ℤ) (n : ℕ) → m * up e ≡ n * down e → cut_size (fin s m e) ≡ Some (min n 16777216)
 unfolding cut_size
-size-whole s m e n h = divided (m * up e) (down e) n (down_pos e) h (λ (k : ℕ). Size.Of (min k 16777216)) Size.Broken
+size-whole s m e n h = divided (m * up e) (down e) n (down_pos e) h (λ (k : ℕ). Some (min k 16777216)) None
 
-size-broken : (s : Bool) (m : ℕ) (e : ℤ) → (m * up e % down e ≡ 0 → ⊥) → cut_size (fin s m e) ≡ Size.Broken
+size-broken : (s : Bool) (m : ℕ) (e : ℤ) → (m * up e % down e ≡ 0 → ⊥) → cut_size (fin s m e) ≡ None
 unfolding cut_size
-size-broken s m e h = undivided (m * up e) (down e) (Size.Of (min (m * up e / down e) 16777216)) Size.Broken h
+size-broken s m e h = undivided (m * up e) (down e) (Some (min (m * up e / down e) 16777216)) None h
 
-large-whole : (s : Bool) (m : ℕ) (e : ℤ) → T (fits binary32 (fin s m e)) → 16777216 * down e ≤ m * up e → Size.Of 16777216 ≡ cut_size (fin s m e)
-large-whole s m (pos k) f h = sym (size-whole s m (pos k) (m * 2 ^ k) (sym (mul-one (m * 2 ^ k))) ∙ ap Size.Of (cut-large (m * 2 ^ k) h))
+large-whole : (s : Bool) (m : ℕ) (e : ℤ) → T (fits binary32 (fin s m e)) → 16777216 * down e ≤ m * up e → Some 16777216 ≡ cut_size (fin s m e)
+large-whole s m (pos k) f h = sym (size-whole s m (pos k) (m * 2 ^ k) (sym (mul-one (m * 2 ^ k))) ∙ ap (λ (n : ℕ). Some n) (cut-large (m * 2 ^ k) h))
 large-whole s m (negsuc k) f h = absurd (fraction-lt m (2 ^ suc k) (digits_lt s m (negsuc k) f) (pow_pos (suc k)) h)
 
-pub size-large : (x : Float) → fits binary32 x ≡ true → le (fin false 1 (pos 24)) x ≡ true → eq x (inf false) ≡ false → Size.Of 16777216 ≡ cut_size x
+pub size-large : (x : Float) → fits binary32 x ≡ true → le (fin false 1 (pos 24)) x ≡ true → eq x (inf false) ≡ false → Some 16777216 ≡ cut_size x
 unfolding le eq
 size-large nan f h k = absurd (true≢false (sym h))
 size-large (inf true) f h k = absurd (true≢false (sym h))
 size-large (inf false) f h k = absurd (true≢false k)
 size-large (fin s m e) f h k = large-whole s m e (is_T f) (large-ge s m e (is_T h))
 
-pub size-infinite : (x : Float) → eq x (inf false) ≡ true → Size.Broken ≡ cut_size x
+pub size-infinite : (x : Float) → eq x (inf false) ≡ true → None ≡ cut_size x
 unfolding eq cut_size
 size-infinite nan h = refl
 size-infinite (inf s) h = refl
@@ -135,16 +135,16 @@ sign_zero false m e z t = elim t [ ]
 cut_small : (n : ℕ) → n < 16777216 → min n 16777216 ≡ n
 cut_small n h = omega arith
 
-pub size_exact : (x : Float) (n : ℕ) → T (le (fin false 0 (pos 0)) x) → le (fin false 1 (pos 24)) x ≡ false → n ≡ to_unsigned 64 x → eq (of_int binary32 (pos n)) x ≡ true → Size.Of n ≡ cut_size x
+pub size_exact : (x : Float) (n : ℕ) → T (le (fin false 0 (pos 0)) x) → le (fin false 1 (pos 24)) x ≡ false → n ≡ to_unsigned 64 x → eq (of_int binary32 (pos n)) x ≡ true → Some n ≡ cut_size x
 unfolding le
 size_exact nan n z h k t = absurd z
 size_exact (inf true) n z h k t = absurd z
 size_exact (inf false) n z h k t = absurd (true≢false h)
 size_exact (fin s m e) n z h k t =
     let l : n < 16777216 = subst (λ (q : ℕ). q < 16777216) (sym k) (part-lt (fin s m e) z h) in
-    sym (size-whole s m e n (equal-value (of_int binary32 (pos n)) n s m e (back-value n l) (is_T t)) ∙ ap Size.Of (cut_small n l))
+    sym (size-whole s m e n (equal-value (of_int binary32 (pos n)) n s m e (back-value n l) (is_T t)) ∙ ap (λ (n : ℕ). Some n) (cut_small n l))
 
-pub size-fraction : (x : Float) (n : ℕ) → T (le (fin false 0 (pos 0)) x) → le (fin false 1 (pos 24)) x ≡ false → n ≡ to_unsigned 64 x → eq (of_int binary32 (pos n)) x ≡ false → Size.Broken ≡ cut_size x
+pub size-fraction : (x : Float) (n : ℕ) → T (le (fin false 0 (pos 0)) x) → le (fin false 1 (pos 24)) x ≡ false → n ≡ to_unsigned 64 x → eq (of_int binary32 (pos n)) x ≡ false → None ≡ cut_size x
 unfolding le
 size-fraction nan n z h k t = absurd z
 size-fraction (inf true) n z h k t = absurd z

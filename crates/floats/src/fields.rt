@@ -8,64 +8,37 @@ use crate::whole::{Number, whole_number};
 use floats_spec::FloatReadings;
 use frames::{Air, RawHour};
 
-// The bytes are 0 where the float is no whole number.
-#[derive(Clone, Copy)]
-pub(crate) struct Field {
-    whole: bool,
-    bytes: u16,
-}
-
-// In kind 02's order.
+// The bytes of each field, in kind 02's order; none where the float is no whole number.
 #[derive(Clone, Copy)]
 pub(crate) struct Fields {
-    ozone: Field,
-    ppfd: Field,
-    radiation: Field,
-    temperature: Field,
-    vpd: Field,
-    wind: Field,
-    soil: Field,
+    ozone: Option<u16>,
+    ppfd: Option<u16>,
+    radiation: Option<u16>,
+    temperature: Option<u16>,
+    vpd: Option<u16>,
+    wind: Option<u16>,
+    soil: Option<u16>,
 }
 
 // A field from 0 up.
-fn natural_field(x: f32) -> Field
+fn natural_field(x: f32) -> Option<u16>
     ensures { result ≡ field_of natural_bytes (whole_of x) }
 {
-    let number = whole_number(x);
-    match number {
-        Number::Plus(n) => Field {
-            whole: true,
-            bytes: if n < 65536 { n as u16 } else { 65534 },
-        },
-        Number::Minus(_) => Field {
-            whole: true,
-            bytes: 65534,
-        },
-        Number::Broken => Field {
-            whole: false,
-            bytes: 0,
-        },
+    match whole_number(x) {
+        Some(Number::Plus(n)) => Some(if n < 65536 { n as u16 } else { 65534 }),
+        Some(Number::Minus(_)) => Some(65534),
+        None => None,
     }
 }
 
 // A temperature.
-fn complement_field(x: f32) -> Field
+fn complement_field(x: f32) -> Option<u16>
     ensures { result ≡ field_of complement_bytes (whole_of x) }
 {
-    let number = whole_number(x);
-    match number {
-        Number::Plus(n) => Field {
-            whole: true,
-            bytes: if n < 32768 { n as u16 } else { 32767 },
-        },
-        Number::Minus(n) => Field {
-            whole: true,
-            bytes: if n < 32768 { (65535 - n) as u16 } else { 32767 },
-        },
-        Number::Broken => Field {
-            whole: false,
-            bytes: 0,
-        },
+    match whole_number(x) {
+        Some(Number::Plus(n)) => Some(if n < 32768 { n as u16 } else { 32767 }),
+        Some(Number::Minus(n)) => Some(if n < 32768 { (65535 - n) as u16 } else { 32767 }),
+        None => None,
     }
 }
 
@@ -87,25 +60,25 @@ pub(crate) fn fields_of(r: FloatReadings) -> Fields
 pub(crate) fn first_broken(f: Fields) -> u8
     ensures { result ≡ first_broken f }
 {
-    if !f.ozone.whole {
+    if f.ozone.is_none() {
         return 1;
     }
-    if !f.ppfd.whole {
+    if f.ppfd.is_none() {
         return 2;
     }
-    if !f.radiation.whole {
+    if f.radiation.is_none() {
         return 3;
     }
-    if !f.temperature.whole {
+    if f.temperature.is_none() {
         return 4;
     }
-    if !f.vpd.whole {
+    if f.vpd.is_none() {
         return 5;
     }
-    if !f.wind.whole {
+    if f.wind.is_none() {
         return 6;
     }
-    if !f.soil.whole {
+    if f.soil.is_none() {
         return 7;
     }
     0
@@ -117,12 +90,12 @@ pub(crate) fn frame_in(day: u16, hour: u8, f: Fields) -> RawHour
     RawHour {
         day: day,
         hour: hour,
-        ozone: f.ozone.bytes,
-        ppfd: f.ppfd.bytes,
-        radiation: f.radiation.bytes,
-        temperature: f.temperature.bytes,
-        air: Air::Deficit(f.vpd.bytes),
-        wind: f.wind.bytes,
-        soil: f.soil.bytes,
+        ozone: f.ozone.unwrap_or(0),
+        ppfd: f.ppfd.unwrap_or(0),
+        radiation: f.radiation.unwrap_or(0),
+        temperature: f.temperature.unwrap_or(0),
+        air: Air::Deficit(f.vpd.unwrap_or(0)),
+        wind: f.wind.unwrap_or(0),
+        soil: f.soil.unwrap_or(0),
     }
 }

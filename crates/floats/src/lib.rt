@@ -11,7 +11,7 @@ ghost use Rattle.floats_spec.specs.Promise.{FloatPromise};
 
 use account::{Account, Fed};
 pub use floats_spec::FloatReadings;
-use frames::{Air, Checked, Raw, RawHour, Refusal};
+use frames::{Air, Raw, RawHour, Refusal};
 
 // An hour of kind 02 by its day and hour alone.
 fn hour_at(day: u16, hour: u8) -> RawHour
@@ -42,7 +42,7 @@ pub fn feed_floats(account: Account, day: u16, hour: u8, readings: FloatReadings
     }
     let checked = account::timely(account, hour_at(day, hour));
     match checked {
-        Checked::Sound => Fed::Refused(Refusal::Float(broken), account),
-        Checked::Refused(refusal) => Fed::Refused(refusal, account),
+        Ok(()) => Err((Refusal::Float(broken), account)),
+        Err(refusal) => Err((refusal, account)),
     }
 }

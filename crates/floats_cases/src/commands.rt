@@ -1,85 +1,73 @@
 // Commands, one a line, over two accounts that are held. `N` makes both fresh, `C` and four digits sets the counted hours of both, `F` and a line feeds both; `L` and a line
 // feeds the first; `G`, a day, an hour and seven floats' bits feeds the second; `A` prints both. `F`, `L` and `G` print the answers.
-use crate::answers::print_fed;
 use crate::bits::readings_at;
-use account::Account;
-use cases::{print, u8_at, u16_at};
+use account::{Account, Fed};
+use cases::{u8_at, u16_at};
+use cases_account::{Answer, Fields};
+use std::io;
 
 #[derive(Clone, Copy)]
-struct Held {
+pub(crate) struct Held {
     lines: Account,
     floats: Account,
 }
 
-fn counted(a: Account, n: u16) -> Account {
-    let mut sums = a.sums;
-    sums.counted = n;
-    let phase = a.phase;
-    let season = a.season;
-    let kind = a.kind;
-    let carried = a.carried;
-    Account {
-        phase: phase,
-        season: season,
-        kind: kind,
-        sums: sums,
-        carried: carried,
-    }
+// Prints an answer, and takes the account that it leaves.
+fn leave(rt: &impl Print, held: &mut Account, answer: Fed) -> io::Result<()> {
+    *held = answer.unwrap_or_else(|(_, same)| same);
+    println!(rt; "{}", Answer(answer))
 }
 
-// All fields of an account, on a line.
-fn show(rt: &impl Print, a: Account) {
-    cases_account::print_account(rt, a);
-    print(rt, b"\n");
-}
+impl Held {
+    pub(crate) fn new() -> Held {
+        Held {
+            lines: account::fresh(),
+            floats: account::fresh(),
+        }
+    }
 
-// What a command leaves.
-fn obeyed(rt: &impl Print, held: Held, command: &[u8]) -> Held {
-    if command.len() == 0 {
-        return held;
+    fn set_counted(&mut self, n: u16) {
+        self.lines.sums.counted = n;
+        self.floats.sums.counted = n;
     }
-    let rest = &command[1..];
-    let mut lines = held.lines;
-    let mut floats = held.floats;
-    match command[0] {
-        b'N' => {
-            lines = account::fresh();
-            floats = account::fresh();
-        }
-        b'C' => {
-            lines = counted(lines, u16_at(rest, 0));
-            floats = counted(floats, u16_at(rest, 0));
-        }
-        b'F' => {
-            lines = print_fed(rt, account::feed(lines, rest));
-            floats = print_fed(rt, account::feed(floats, rest));
-        }
-        b'L' => lines = print_fed(rt, account::feed(lines, rest)),
-        b'G' => floats = print_fed(
-            rt,
-            floats::feed_floats(floats, u16_at(rest, 0), u8_at(rest, 4), readings_at(rest)),
-        ),
-        b'A' => {
-            show(rt, lines);
-            show(rt, floats);
-        }
-        _ => {},
-    }
-    Held {
-        lines: lines,
-        floats: floats,
-    }
-}
 
-pub(crate) fn run_lines(rt: &impl Print, text: &[u8]) {
-    let mut held = Held {
-        lines: account::fresh(),
-        floats: account::fresh(),
-    };
-    let mut rest = text;
-    while 0 < rest.len() {
-        held = obeyed(rt, held, cases::line(rest));
-        let next = cases::after_line(rest);
-        rest = next;
+    fn feed_line(&mut self, rt: &impl Print, line: &[u8]) -> io::Result<()> {
+        let answer = account::feed(self.lines, line);
+        leave(rt, &mut self.lines, answer)
+    }
+
+    fn feed_both(&mut self, rt: &impl Print, line: &[u8]) -> io::Result<()> {
+        self.feed_line(rt, line)?;
+        let answer = account::feed(self.floats, line);
+        leave(rt, &mut self.floats, answer)
+    }
+
+    fn feed_floats(&mut self, rt: &impl Print, digits: &[u8]) -> io::Result<()> {
+        let day = u16_at(digits, 0);
+        let hour = u8_at(digits, 4);
+        let answer = floats::feed_floats(self.floats, day, hour, readings_at(digits));
+        leave(rt, &mut self.floats, answer)
+    }
+
+    fn show(&self, rt: &impl Print) -> io::Result<()> {
+        println!(rt; "{}", Fields(self.lines))?;
+        println!(rt; "{}", Fields(self.floats))
+    }
+
+    pub(crate) fn obey(&mut self, rt: &impl Print, command: &[u8]) -> io::Result<()> {
+        let Some((letter, rest)) = command.split_first() else {
+            return Ok(());
+        };
+        // Kept: an enum of commands would name each letter a second time.
+        match *letter {
+            b'N' => *self = Held::new(),
+            b'C' => self.set_counted(u16_at(rest, 0)),
+            b'F' => self.feed_both(rt, rest)?,
+            b'L' => self.feed_line(rt, rest)?,
+            b'G' => self.feed_floats(rt, rest)?,
+            b'A' => self.show(rt)?,
+            _ => (),
+        }
+        Ok(())
     }
 }

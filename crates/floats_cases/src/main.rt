@@ -1,12 +1,13 @@
 // Feeds one account lines and another floats, as the commands on standard input say. What it must print is made by tests/floats_cases.py.
 #![tactic(auto)]
 
-mod answers;
 mod bits;
 mod commands;
 
+use commands::Held;
+
+// A read or a write that fails ends it.
 fn main(rt: HostRuntime) {
-    let mut text = cases::buffer();
-    let n = cases::read(&rt, &mut text);
-    commands::run_lines(&rt, &text[..n]);
+    let mut held = Held::new();
+    let _ = cases::for_each_line(&rt, |command| held.obey(&rt, command));
 }

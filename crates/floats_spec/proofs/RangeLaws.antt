@@ -1,4 +1,5 @@
 -- Row 10 finds in a frame what it would find in the whole numbers that the frame says, numbers in range stand there as they are, and an hour says them.
+use Rattle.std.specs.Prelude.{Some, None}
 use mathlib.Core.Path.{◌≡◌, refl, sym, ap, ◌∙◌}
 use Prim.Native.Nat.{ℕ, ◌-◌, ◌≤◌, ◌<◌}
 use native.Mathlib.Omega.{arith}
@@ -7,7 +8,6 @@ use borrow.Author.Tests.{lt-ltb, le-ltb, ne_eqb, eqb-true, ltb-true, ltb-false}
 use lib.Dec.{ltb, eqb}
 use lib.IntN.{ℤ, pos, negsuc}
 use Rattle.trees.specs.declared.Measure.{Measure}
-use Rattle.records.specs.declared.Ozone.TheVariants.{Tenths, Missing}
 use Rattle.records.specs.declared.Hour.{Hour}
 use Rattle.records.specs.declared.Record.{Record}
 use Rattle.records.specs.Answers.{accepted, field}
@@ -33,7 +33,7 @@ ozone-out : (z : ℤ) → ozone_out (ozone_of (natural_bytes z)) ≡ ozone_numbe
 unfolding natural_bytes
 ozone-out (pos n) = go (ltb n 65536) refl
   where
-    held : (b : Bool) → ozone_out (cond b Missing (Tenths n)) ≡ (ltb 5000 n && not b)
+    held : (b : Bool) → ozone_out (cond b None (Some n)) ≡ (ltb 5000 n && not b)
     held true = sym (and-false (ltb 5000 n))
     held false = sym (and-true (ltb 5000 n))
 

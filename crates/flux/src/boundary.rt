@@ -1,10 +1,9 @@
 // √(leaf/wind), for Rb (document 01, "Factors").
 ghost use Rattle.std.specs.Prelude.{◌≡◌, ◌<◌, ◌≤◌, true};
 ghost use Rattle.exact.specs.Root.{square_root};
-ghost use Rattle.flux_spec.specs.BoundaryLayer.{wind_read};
 ghost use Rattle.flux_spec.specs.Pair.{root_low};
 
-// √n, rounded down: it lies from r to below r + gap, and each turn halves the gap.
+// √n, rounded down: it lies from r to below r + gap, and each turn halves the gap. Kept: the turns count no index.
 fn halving(n: u64) -> u64
     requires { n < 1125899906842624 }
     ensures { result ≡ square_root n }
@@ -75,17 +74,10 @@ fn root(n: u64) -> u64
     tested(n, r)
 }
 
-// A wind under 10 cm/s is read as 10.
-fn read(wind: u16) -> u16
-    ensures { result ≡ wind_read wind }
-{
-    if wind < 10 { 10 } else { wind }
-}
-
-// √(leaf/wind) in units of 10⁻⁷, rounded down, for a leaf in mm and a wind in cm/s.
+// √(leaf/wind) in units of 10⁻⁷, rounded down, for a leaf in mm and a wind in cm/s; one under 10 cm/s is read as 10.
 pub(crate) fn root_low(leaf: u16, wind: u16) -> u64
     requires { leaf ≤ 200 }
     ensures { result ≡ root_low leaf wind }
 {
-    root((leaf as u64) * 10000000000000 / (read(wind) as u64))
+    root((leaf as u64) * 10000000000000 / (u16::max(10, wind) as u64))
 }

@@ -1,5 +1,5 @@
 // exp(-n/10000) in units of 10⁻⁹, made by tools/decay_table.py: entry d of a place's table is that of n = d·place, with 65 terms, rounded
-// down. Past a table's end it is 0. A table is copied where it is read, so each is short.
+// down. Past a table's end it is 0.
 pub(crate) const ONES: [u32; 100] = [
     1000000000, 999900004, 999800019, 999700044, 999600079, 999500124, 999400179, 999300244,
     999200319, 999100404, 999000499, 998900604, 998800719, 998700844, 998600979, 998501124,

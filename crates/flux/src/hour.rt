@@ -18,8 +18,6 @@ use crate::{boundary, dose, ozone, scale, share};
 use exact::{Bounds, Fraction};
 use flux_spec::Stand;
 use frames::Hour;
-use power::Factor;
-use tables::Factored;
 use trees::{Curve, Deficits, Figures, Source};
 
 // f_temp out of a table, in units of 10⁻⁹; an hour that row 10 lets pass has no reading above 60.0 °C.
@@ -27,10 +25,7 @@ fn tabled(curve: Curve, t: u16) -> Bounds
     requires highest { t ≤ 1100 }
     ensures { result ≡ temperature_pair (owner_of curve) t }
 {
-    let Factored::Pair(pair) = tables::f_temp(curve, t) else {
-        return Bounds { lower: 0, upper: 0 };
-    };
-    pair
+    tables::f_temp(curve, t).unwrap_or(Bounds { lower: 0, upper: 0 })
 }
 
 // f_temp worked out from the figures.
@@ -38,10 +33,7 @@ fn worked(f: Figures, t: u16) -> Bounds
     requires sound { Sound f }
     ensures { result ≡ temperature_pair f t }
 {
-    let Factor::Pair(pair) = power::f_temp(f, t) else {
-        return Bounds { lower: 0, upper: 0 };
-    };
-    pair
+    power::f_temp(f, t).unwrap_or(Bounds { lower: 0, upper: 0 })
 }
 
 pub(crate) fn temperature(f: Figures, t: u16) -> Bounds
@@ -50,8 +42,7 @@ pub(crate) fn temperature(f: Figures, t: u16) -> Bounds
     requires highest { t ≤ 1100 }
     ensures { result ≡ temperature_pair f t }
 {
-    let source = f.source;
-    match source {
+    match f.source {
         Source::Tabled(curve) => tabled(curve, t),
         Source::Worked => worked(f, t),
     }
@@ -66,8 +57,7 @@ fn opening(f: Figures, t: Bounds, vpd: Deficits, h: Hour) -> Bounds
     ensures upper { result.upper ≡ opening_up f h }
 {
     let dry = trees::factors::f_vpd(f, vpd);
-    let soil = h.soil;
-    let sw = trees::factors::f_sw(f, scale::soil_number(soil));
+    let sw = trees::factors::f_sw(f, scale::soil_number(h.soil));
     Bounds {
         lower: share::opening_low(f.fmin, t.lower, dry.lower, sw),
         upper: share::opening_up(f.fmin, t.upper, dry.upper, sw),
@@ -79,13 +69,11 @@ fn phenology(stand: Stand, h: Hour, t: u16) -> Fraction
     requires { t ≡ above_of h.temperature }
     ensures { Is result (phenology_in stand h) }
 {
-    let f = stand.figures;
     let age = stand.age;
-    let warmth = age.warmth;
-    if measured::has_warmth(warmth) {
-        return trees::phen::f_phen_by_warmth(f, warmth, age.sum);
+    if measured::has_warmth(age.warmth) {
+        return trees::phen::f_phen_by_warmth(stand.figures, age.warmth, age.sum);
     }
-    trees::phen::f_phen(f, stand.first, stand.last, h.day, t)
+    trees::phen::f_phen(stand.figures, stand.first, stand.last, h.day, t)
 }
 
 // f_phen × f_light × the opening, in units of 10⁻⁷.
@@ -106,13 +94,6 @@ fn shares(stand: Stand, o: Bounds, l: Bounds, h: Hour, t: u16) -> Bounds
     }
 }
 
-// n less m, or 0 where m is the greater.
-fn less(n: u64, m: u64) -> u64
-    ensures { result ≡ n - m }
-{
-    if m < n { n - m } else { 0 }
-}
-
 // The pair from the concentration's and the share's, in nmol m⁻².
 fn pair(gmax: u16, leaf: u16, y: u16, wind: u16, c: Bounds, s: Bounds) -> Bounds
     requires gmax { gmax ≤ 500 }
@@ -126,8 +107,8 @@ fn pair(gmax: u16, leaf: u16, y: u16, wind: u16, c: Bounds, s: Bounds) -> Bounds
     let r = boundary::root_low(leaf, wind);
     let threshold = 3600 * (y as u64);
     Bounds {
-        lower: less(dose::quotient(g, c.lower, s.lower, r + 1, 1), threshold),
-        upper: less(dose::quotient(g, c.upper, s.upper, r, 0) + 1, threshold),
+        lower: dose::quotient(g, c.lower, s.lower, r + 1, 1).saturating_sub(threshold),
+        upper: (dose::quotient(g, c.upper, s.upper, r, 0) + 1).saturating_sub(threshold),
     }
 }
 

@@ -3,6 +3,7 @@ ghost use Rattle.std.specs.Prelude.{◌≡◌, ◌*◌, ◌<◌, ◌≤◌};
 ghost use Rattle.flux_spec.specs.Light.{decay_entry, decay_low, light_low_of, light_up_of};
 ghost use Rattle.flux_spec.specs.Steps.{IsDecayTable};
 
+use crate::decay::{HUNDREDS, MYRIADS, ONES};
 use exact::Bounds;
 
 // 1 in units of 10⁻⁹.
@@ -23,40 +24,30 @@ fn decay_entry(table: &[u32], place: usize, d: usize) -> u64
     table[d] as u64
 }
 
-// exp(-n/10000), rounded down at each digit; a table for each place is lent, since a constant array is copied wherever it is named.
-fn decay(n: u32, ones: &[u32], hundreds: &[u32], myriads: &[u32]) -> u64
+// exp(-n/10000), rounded down at each digit.
+fn decay(n: u32) -> u64
     requires small { n < 1000000 }
-    requires ones { IsDecayTable 1 ones.now }
-    requires hundreds { IsDecayTable 100 hundreds.now }
-    requires myriads { IsDecayTable 10000 myriads.now }
     ensures { result ≡ decay_low n }
 {
     let m = n as usize;
     let high = m / 100;
-    let a = decay_entry(ones, 1, m % 100);
-    let b = decay_entry(hundreds, 100, high % 100);
-    let c = decay_entry(myriads, 10000, high / 100);
+    let a = decay_entry(&ONES, 1, m % 100);
+    let b = decay_entry(&HUNDREDS, 100, high % 100);
+    let c = decay_entry(&MYRIADS, 10000, high / 100);
     a * b / ONE * c / ONE
 }
 
 // f_light of light_a, in ten-thousandths, and PPFD.
-pub(crate) fn factor(
-    lighta: u16,
-    ppfd: u16,
-    ones: &[u32],
-    hundreds: &[u32],
-    myriads: &[u32],
-) -> Bounds
+pub(crate) fn factor(lighta: u16, ppfd: u16) -> Bounds
     requires steep { lighta ≤ 200 }
     requires bright { ppfd ≤ 3000 }
-    requires ones { IsDecayTable 1 ones.now }
-    requires hundreds { IsDecayTable 100 hundreds.now }
-    requires myriads { IsDecayTable 10000 myriads.now }
     ensures lower { result.lower ≡ light_low_of (lighta * ppfd) }
     ensures upper { result.upper ≡ light_up_of (lighta * ppfd) }
 {
-    let e = decay((lighta as u32) * (ppfd as u32), ones, hundreds, myriads);
+    let e = decay((lighta as u32) * (ppfd as u32));
     let upper = ONE - e;
-    let lower = if SLACK < upper { upper - SLACK } else { 0 };
-    Bounds { lower, upper }
+    Bounds {
+        lower: upper.saturating_sub(SLACK),
+        upper,
+    }
 }

@@ -2,12 +2,12 @@
 ghost use Rattle.std.specs.Prelude.{◌≡◌, ◌*◌, ◌<◌};
 ghost use Rattle.exact.specs.Frac.{◌over◌};
 ghost use Rattle.exact.specs.Rounding.{round_up, round_down};
-ghost use Rattle.records.specs.Ozone.{tenths_or, with_ozone, read_as};
+ghost use Rattle.records.specs.Ozone.{with_ozone, read_as};
 ghost use Rattle.flux_spec.specs.Conductance.{above_of};
 ghost use Rattle.flux_spec.specs.Pair.{concentration_low, concentration_up};
 
 use exact::Bounds;
-use frames::{Air, Hour, Ozone};
+use frames::{Air, Hour};
 
 // A tenth of ppb where no pressure is read: 18000·4.156.
 const TENTH: u64 = 74808;
@@ -46,27 +46,13 @@ fn at(ozone: u16, h: Hour, t: u16) -> Bounds
     ensures lower { result.lower ≡ concentration_low (with_ozone ozone h) }
     ensures upper { result.upper ≡ concentration_up (with_ozone ozone h) }
 {
-    let air = h.air;
-    match air {
+    match h.air {
         Air::Deficit(_) => plain(ozone),
-        Air::Pressure {
-            deficit: _,
-            pressure: p,
-        } => rounded(
+        Air::Pressure { pressure: p, .. } => rounded(
             PRESSURE * (ozone as u64) * (p as u64),
             GAS * (2 * (t as u64) + COLDEST),
         ),
         Air::Humidity(_) => plain(ozone),
-    }
-}
-
-// Tenths of ppb; a number in the place of a missing reading.
-fn tenths_or(n: u16, ozone: Ozone) -> u16
-    ensures { result ≡ tenths_or n ozone }
-{
-    match ozone {
-        Ozone::Tenths(m) => m,
-        Ozone::Missing => n,
     }
 }
 
@@ -76,13 +62,9 @@ pub(crate) fn concentration(h: Hour, ceiling: u16, t: u16) -> Bounds
     ensures lower { result.lower ≡ concentration_low (read_as 0 h) }
     ensures upper { result.upper ≡ concentration_up (read_as ceiling h) }
 {
-    let ozone = h.ozone;
-    let c = at(tenths_or(ceiling, ozone), h, t);
-    match ozone {
-        Ozone::Tenths(_) => c,
-        Ozone::Missing => Bounds {
-            lower: 0,
-            upper: c.upper,
-        },
+    let c = at(h.ozone.unwrap_or(ceiling), h, t);
+    match h.ozone {
+        Some(_) => c,
+        None => Bounds { lower: 0, ..c },
     }
 }

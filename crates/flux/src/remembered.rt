@@ -45,15 +45,13 @@ pub(crate) fn remembered(stand: Stand, kind: u8, memory: &mut [u64], t: u16) -> 
 {
     let i = t as usize;
     if memory.len() <= i {
-        let f = stand.figures;
-        return worked(f, kind, t);
+        return worked(stand.figures, kind, t);
     }
     let found = memory[i];
     if found != 0 {
         return found;
     }
-    let f = stand.figures;
-    let m = worked(f, kind, t);
+    let m = worked(stand.figures, kind, t);
     memory[i] = m;
     m
 }
@@ -65,7 +63,7 @@ pub(crate) fn f_temp(m: u64) -> Bounds
     let sum = m % WORD;
     let lower = sum / 2;
     Bounds {
-        lower: lower,
+        lower,
         upper: sum - lower,
     }
 }

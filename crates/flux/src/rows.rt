@@ -10,41 +10,27 @@ use trees::{Figures, Measure};
 pub(crate) fn measured_out(tree: u8, parameters: Parameters) -> bool
     ensures { result ≡ (tree == 7 && parameter_out parameters) }
 {
-    if tree == 7 {
-        return records::parameters_out(parameters);
-    }
-    false
+    tree == 7 && records::parameters_out(parameters)
 }
 
 // Row 7 where the year is not known: no year has more than 366 days.
 pub(crate) fn days_out(f: Figures, first: u16, last: u16) -> bool
     ensures { result ≡ days_out f first last }
 {
-    if first < 1 {
-        return true;
-    }
-    if last < first {
-        return true;
-    }
-    if 366 < last {
-        return true;
-    }
-    ((last - first) as u32) < (f.f1 as u32) + (f.f4 as u32)
+    first < 1
+        || last < first
+        || 366 < last
+        || ((last - first) as u32) < (f.f1 as u32) + (f.f4 as u32)
 }
 
 // The soil is not in the tree's measure.
 fn other_measure(measure: Measure, soil: Soil) -> bool
     ensures { result ≡ other_measure measure soil }
 {
-    match measure {
-        Measure::Suction => match soil {
-            Soil::Suction(_) => false,
-            Soil::Water(_) => true,
-        },
-        Measure::Water => match soil {
-            Soil::Suction(_) => true,
-            Soil::Water(_) => false,
-        },
+    match (measure, soil) {
+        (Measure::Suction, Soil::Suction(_)) => false,
+        (Measure::Water, Soil::Water(_)) => false,
+        _ => true,
     }
 }
 
@@ -52,8 +38,5 @@ fn other_measure(measure: Measure, soil: Soil) -> bool
 pub(crate) fn soil_unfit(measure: Measure, soil: Soil) -> bool
     ensures { result ≡ soil_unfit measure soil }
 {
-    if records::soil_out(soil) {
-        return true;
-    }
-    other_measure(measure, soil)
+    records::soil_out(soil) || other_measure(measure, soil)
 }

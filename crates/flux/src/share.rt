@@ -84,8 +84,7 @@ fn deficit_up(n: u64, x: Fraction) -> u64
 fn at_least(fmin: u16, n: u64) -> u64
     ensures { result ≡ max (fmin * 10 ^ 7) n }
 {
-    let floor = (fmin as u64) * 10000000;
-    if floor < n { n } else { floor }
+    n.max((fmin as u64) * 10000000)
 }
 
 // max(f_min, f_temp·f_VPD·f_SW) from the lower bound of f_temp, rounded down.

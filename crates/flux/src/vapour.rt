@@ -47,10 +47,7 @@ pub(crate) fn deficits(air: Air, s: u64) -> Deficits
 {
     match air {
         Air::Deficit(n) => read(n),
-        Air::Pressure {
-            deficit: n,
-            pressure: _,
-        } => read(n),
+        Air::Pressure { deficit: n, .. } => read(n),
         Air::Humidity(n) => derived(n, s),
     }
 }

@@ -1,10 +1,10 @@
 // Rows of a call: tree (two hexadecimal digits), first and last day and the ceiling (four each), the soil's measure (S suction, W water), the hour's
 // line, with single spaces; for tree 7 that line filled up to 40 characters, a space and the line of its parameters, and for leaf age by warmth a space, the
 // line of its sums, a space and the temperature sum (eight digits). The answer for each row on a line of its own.
-use crate::answers::print_dosed;
-use cases::{i16_at, print, u8_at, u16_at, u32_at};
+use cases::{Row, i16_at, parameters_of, u8_at, u16_at, u32_at};
 use flux::Age;
-use frames::{Air, Hour, Parameters, Soil, Warmth};
+use frames::{Air, Hour, Soil, Warmth};
+use std::io;
 
 fn soil_of(measure: u8, n: u16) -> Soil {
     if measure == b'W' {
@@ -45,28 +45,6 @@ fn hour_of(row: &[u8], measure: u8) -> Hour {
     }
 }
 
-// All 0 where the row has none; their line starts with its kind.
-fn parameters_of(row: &[u8]) -> Parameters {
-    Parameters {
-        gmax: u16_at(row, 63),
-        fmin: u16_at(row, 67),
-        lighta: u16_at(row, 71),
-        tmin: u16_at(row, 75),
-        topt: u16_at(row, 79),
-        tmax: u16_at(row, 83),
-        vpdmax: u16_at(row, 87),
-        vpdmin: u16_at(row, 91),
-        soilmax: u16_at(row, 95),
-        soilmin: u16_at(row, 99),
-        leaf: u16_at(row, 103),
-        a: u16_at(row, 107),
-        e: u16_at(row, 111),
-        f1: u16_at(row, 115),
-        f4: u16_at(row, 119),
-        y: u16_at(row, 123),
-    }
-}
-
 // All 0 where the row has none; the line of the sums starts with its kind.
 fn age_of(row: &[u8]) -> Age {
     let warmth = Warmth {
@@ -80,33 +58,23 @@ fn age_of(row: &[u8]) -> Age {
     }
 }
 
-fn print_row(rt: &impl Print, row: &[u8]) {
+pub(crate) fn print_row(rt: &impl Print, row: &[u8]) -> io::Result<()> {
     if row.len() < 56 {
-        return;
+        return Ok(());
     }
-    let h = hour_of(row, row[18]);
-    let parameters = parameters_of(row);
-    let age = age_of(row);
-    print_dosed(
-        rt,
-        flux::hour_dose(
-            u8_at(row, 0),
-            parameters,
-            age,
-            u16_at(row, 3),
-            u16_at(row, 8),
-            u16_at(row, 13),
-            h,
-        ),
+    // All 0 where the row has none; their line starts with its kind.
+    let parameters = parameters_of(row.get(63..).unwrap_or_default());
+    let dosed = flux::hour_dose(
+        u8_at(row, 0),
+        parameters,
+        age_of(row),
+        u16_at(row, 3),
+        u16_at(row, 8),
+        u16_at(row, 13),
+        hour_of(row, row[18]),
     );
-    print(rt, b"\n");
-}
-
-pub(crate) fn print_rows(rt: &impl Print, text: &[u8]) {
-    let mut rest = text;
-    while 0 < rest.len() {
-        print_row(rt, cases::line(rest));
-        let next = cases::after_line(rest);
-        rest = next;
+    match dosed {
+        Ok(pair) => println!(rt; "{} {}", pair.lower, pair.upper),
+        Err(refusal) => println!(rt; "{}", Row(refusal)),
     }
 }

@@ -1,11 +1,11 @@
 -- What the hour's pair is worth: for any sound figures, for the six trees and for what `hour_dose` answers.
+use Rattle.std.specs.Prelude.{Some}
 use Prim.Native.Nat.{ℕ, ◌-◌, ◌≤◌}
 use mathlib.Core.Bool.{Bool, true, false, cond, false≢true, ◌&&◌}
 use lib.Dec.{eqb, ltb}
 use mathlib.Core.Path.{◌≡◌, refl, sym, ap, ◌∙◌}
 use native.Mathlib.Omega.{arith}
 use Rattle.trees.specs.declared.Figures.{Figures}
-use Rattle.trees.specs.declared.Choice.{Choice}
 use Rattle.trees.specs.Figures.{figures_of}
 use Rattle.trees.specs.Sound.{Sound}
 use Rattle.trees.proofs.SoundLaws.{figures-all, figures-sound}
@@ -28,7 +28,7 @@ use Rattle.flux_spec.proofs.FillingLaws.{pair-enclosed}
 
 -- ---- the six trees
 
-tree-limited : (tree : ℕ) (f : Figures) → figures_of tree ≡ Choice.Tree f → Limited f
+tree-limited : (tree : ℕ) (f : Figures) → figures_of tree ≡ Some f → Limited f
 tree-limited tree f e = record {
   sound = figures-sound tree f e;
   gmax =
@@ -56,7 +56,7 @@ measured-limited ps e =
 -- ---- any tree that has figures
 
 pub record TreeNamed (ps : Parameters) (tree : ℕ) (f : Figures) : Type 0 where
-  pub chosen : figures_in ps tree ≡ Choice.Tree f
+  pub chosen : figures_in ps tree ≡ Some f
   pub measured : eqb tree 7 ≡ true → parameter_out ps ≡ false
   pub sound : Sound f
 
@@ -70,7 +70,7 @@ tree-named ps tree f e =
     let passed = row-passed (eqb tree 7 && parameter_out ps) _ _ f e in
     let found = on_tree-passed (figures_in ps tree) _ f passed.1 in
     let measured = not-and (eqb tree 7) (parameter_out ps) passed.0 in
-    let chosen = found.1 ∙ ap Choice.Tree (accepted-same found.2) in
+    let chosen = found.1 ∙ ap Some (accepted-same found.2) in
     record { chosen = chosen; measured = measured; sound = figures-in-sound ps tree f chosen measured }
 
 answered :

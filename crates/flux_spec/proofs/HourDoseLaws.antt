@@ -1,4 +1,5 @@
 -- What the hour's dose is, by each of the tests before it; and what an hour that none of them refuses has passed.
+use Rattle.std.specs.Prelude.{Some, None}
 use Prim.Native.Nat.{ℕ, ◌+◌, ◌≤◌}
 use mathlib.Core.Path.{◌≡◌, refl}
 use mathlib.Core.Bool.{Bool, true, false, or-false, ◌&&◌, ◌||◌}
@@ -8,7 +9,6 @@ use lib.Dec.{eqb, ltb}
 use Rattle.exact.specs.declared.Bounds.{Bounds}
 use Rattle.trees.specs.declared.Measure.{Measure}
 use Rattle.trees.specs.declared.Figures.{Figures}
-use Rattle.trees.specs.declared.Choice.{Choice}
 use Rattle.measured.specs.declared.Parameters.{Parameters}
 use Rattle.measured.specs.Figures.{figures_in}
 use Rattle.records.specs.Parameters.{parameter_out}
@@ -37,11 +37,11 @@ module _ (ps : Parameters) (tree : ℕ) where
 
   -- row 24 lets it pass
   module _ (passed : eqb tree 7 && parameter_out ps ≡ false) where
-    pub tree_is : (f : Figures) → figures_in ps tree ≡ Choice.Tree f → accepted f ≡ tree_of ps tree
+    pub tree_is : (f : Figures) → figures_in ps tree ≡ Some f → accepted f ≡ tree_of ps tree
     unfolding tree_of
     tree_is f e = rw (passed, e)
 
-    pub no-figures-is : figures_in ps tree ≡ Choice.Unknown → refused (5, 0) ≡ tree_of ps tree
+    pub no-figures-is : figures_in ps tree ≡ None → refused (5, 0) ≡ tree_of ps tree
     unfolding tree_of
     no-figures-is e = rw (passed, e)
 

@@ -1,12 +1,11 @@
 -- The cases that document 01, "Bench cases", marks P, in its order. Temperatures are tenths above -50.0 °C: 5.0 °C is 550.
-use Rattle.std.specs.Prelude.{ℕ, ◌≡◌, true, false, List, [], ◌∷◌}
+use Rattle.std.specs.Prelude.{ℕ, ◌≡◌, true, false, List, [], ◌∷◌, Some}
 use Rattle.trees.specs.declared.Figures.{Figures}
 use Rattle.trees.specs.Figures.{boreal_spruce, continental_spruce, beech, evergreen}
 use Rattle.trees.specs.Temperature.{root_at, temperature_at}
 use Rattle.trees.specs.Deficit.{deficit_of}
 use Rattle.trees.specs.SoilWater.{soil_water_of}
 use Rattle.trees.specs.Phenology.{phenology_of}
-use Rattle.records.specs.declared.Ozone.TheVariants.{Tenths}
 use Rattle.records.specs.declared.Hour.{Hour}
 use Rattle.exact.specs.Frac.{Frac, ◌over◌, natural, ◌≈◌}
 use Rattle.flux_spec.specs.Dose.{is_counted, excess}
@@ -48,5 +47,5 @@ pub record BenchCases : Type 0 where
   pub readings : AllSame reading_cases
   pub radiation50 : (h : Hour) → h.radiation ≡ 50 → is_counted h ≡ false
   pub radiation51 : (h : Hour) → h.radiation ≡ 51 → is_counted h ≡ true
-  pub ozone400 : (h : Hour) → h.ozone ≡ Tenths 400 → excess h ≡ 0
-  pub ozone401 : (h : Hour) → h.ozone ≡ Tenths 401 → excess h ≡ 1
+  pub ozone400 : (h : Hour) → h.ozone ≡ Some 400 → excess h ≡ 0
+  pub ozone401 : (h : Hour) → h.ozone ≡ Some 401 → excess h ≡ 1

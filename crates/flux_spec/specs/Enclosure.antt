@@ -1,9 +1,8 @@
 -- What the hour's pair is worth (document 01, "The exact dose"), for any sound figures and any hour that row 10 lets pass.
-use Rattle.std.specs.Prelude.{ℕ, ◌+◌, ◌-◌, ◌*◌, ◌≤◌, ◌≡◌, true, false, cond, ltb}
+use Rattle.std.specs.Prelude.{ℕ, ◌+◌, ◌-◌, ◌*◌, ◌≤◌, ◌≡◌, true, false, cond, ltb, Some}
 use Rattle.exact.specs.declared.Bounds.{Bounds}
 use Rattle.exact.specs.Frac.{◌over◌, ◌≼◌}
 use Rattle.trees.specs.declared.Figures.{Figures}
-use Rattle.trees.specs.declared.Choice.{Choice}
 use Rattle.trees.specs.Figures.{figures_of}
 use Rattle.trees.specs.Sound.{Sound}
 use Rattle.measured.specs.declared.Parameters.{Parameters}
@@ -90,7 +89,7 @@ pub record Answered (ps : Parameters) (age : Age) (tree first last ceiling : ℕ
   pub filled : PairEnclosed (stand_of figures age first last ceiling) h
 
 pub record Enclosure : Type 0 where
-  pub trees : (tree : ℕ) (f : Figures) → figures_of tree ≡ Choice.Tree f → Limited f
+  pub trees : (tree : ℕ) (f : Figures) → figures_of tree ≡ Some f → Limited f
   pub measured : (ps : Parameters) → parameter_out ps ≡ false → MeasuredLimited (measured_figures ps)
   pub hour : (stand : Stand) → Sound stand.figures → (h : Hour) → checked (Record.Hour h) ≡ accepted tt → HourEnclosed stand h
   pub ozone : (stand : Stand) (h : Hour) → OzoneGrows stand h

@@ -1,6 +1,7 @@
 -- What an hour adds to POD1, as two whole numbers; rows 24, 5, 25, 7, 17, 18 and 10, in that order, for parameters of tree 7 that are out, a number that is no tree,
 -- warmth that is out, days that are no period, a ceiling out of range, a missing ozone with none and readings out of range.
 use Rattle.std.specs.Prelude.{ℕ, ◌+◌, Bool, true, false, cond, ◌&&◌, ◌||◌, eqb}
+use Rattle.records.specs.declared.Refusal.{Refusal}
 use Rattle.exact.specs.declared.Bounds.{Bounds}
 use Rattle.trees.specs.declared.Measure.{Measure}
 use Rattle.trees.specs.declared.Figures.{Figures}
@@ -13,18 +14,12 @@ use Rattle.records.specs.Parameters.{parameter_out}
 use Rattle.records.specs.Ranges.{on_tree, period_out, soil_out, hour_checked, ceiling_out, warmth_broken, lacks_ceiling}
 use Rattle.flux_spec.specs.declared.Age.{Age}
 use Rattle.flux_spec.specs.declared.Stand.{Stand}
-use Rattle.flux_spec.specs.declared.Dosed.{Dosed}
-use Rattle.flux_spec.specs.declared.Named.{Named}
 use Rattle.flux_spec.specs.Dose.{is_counted}
 use Rattle.flux_spec.specs.Pair.{hour_pair}
 
 -- the figures of the tree with a number, those of tree 7 by its parameters (W-212)
 unfoldable pub tree_of : Parameters → ℕ → Outcome Figures
 tree_of ps tree = row 24 (eqb tree 7 && parameter_out ps) (on_tree (figures_in ps tree) (λ f. accepted f))
-
-abbrev pub named_as : Named → Outcome Figures
-named_as (Named.Tree f) = accepted f
-named_as (Named.Refused r) = refused (row_of r)
 
 -- the tree's figures, leaf age by warmth, the first and the last day of the period, the ozone ceiling
 abbrev pub stand_of : Figures → Age → ℕ → ℕ → ℕ → Stand
@@ -63,7 +58,3 @@ added_pair stand h = cond (is_counted h) (hour_pair stand h) (record { lower = 0
 
 unfoldable pub hour_dose_of : Outcome Figures → Age → ℕ → ℕ → ℕ → Hour → Outcome Bounds
 hour_dose_of tree age first last ceiling h = onward (stand_for tree age first last ceiling h) (λ stand. accepted (added_pair stand h))
-
-abbrev pub dosed_as : Dosed → Outcome Bounds
-dosed_as (Dosed.Pair pair) = accepted pair
-dosed_as (Dosed.Refused r) = refused (row_of r)

@@ -21,17 +21,3 @@ pub struct Stand {
     pub last: u16,
     pub ceiling: u16,
 }
-
-// What an hour adds to POD1, in nmol m⁻².
-#[derive(Clone, Copy)]
-pub enum Dosed {
-    Pair(Bounds),
-    Refused(Refusal),
-}
-
-// What a tree's number names: its figures, those of tree 7 by its parameters; or the row that refuses it.
-#[derive(Clone, Copy)]
-pub enum Named {
-    Tree(Figures),
-    Refused(Refusal),
-}

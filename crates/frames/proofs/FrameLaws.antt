@@ -11,7 +11,6 @@ use lib.ListN.{length}
 use Rattle.measured.specs.Parameters.{no_parameters}
 use Rattle.measured.specs.Figures.{figures_in}
 use Rattle.trees.specs.declared.Figures.{Figures}
-use Rattle.trees.specs.declared.Choice.{Choice}
 use Rattle.trees.specs.declared.Measure.{Measure}
 use Rattle.records.specs.Answers.{Outcome, accepted, refused}
 use Rattle.records.specs.Temperature.{signed_of}
@@ -24,7 +23,6 @@ use Rattle.frames.specs.Frames.{parsed_of, sound_of, record_of}
 use Rattle.frames.proofs.KindLaws.{length-ge, kind-within}
 use Rattle.records.specs.declared.Air.{Air}
 use Rattle.records.specs.declared.Hour.{Hour}
-use Rattle.records.specs.declared.Ozone.{Ozone}
 use Rattle.records.specs.declared.Raw.{Raw}
 use Rattle.records.specs.declared.RawHour.{RawHour}
 use Rattle.records.specs.declared.Record.{Record}
@@ -82,33 +80,3 @@ module _ (l : List ℕ) (sized : Sized l) where
 
   pub sized-le : {kind : ℕ} → byte_at 0 l ≡ kind → length_of kind ≤ length l
   sized-le e = le_of_eq (ap length_of (sym e) ∙ sized.own)
-
--- ---- the hour that a frame's numbers say
-
-module _ (raw : RawHour) (m : Measure) where
-  pub hour-is :
-      {ozone : Ozone} {temperature : ℤ} {soil : Soil} → ozone ≡ ozone_of raw.ozone → temperature ≡ signed_of raw.temperature → soil ≡ soil_of m raw.soil →
-      record {
-        day = raw.day;
-        hour = raw.hour;
-        ozone = ozone;
-        ppfd = raw.ppfd;
-        radiation = raw.radiation;
-        temperature = temperature;
-        air = raw.air;
-        wind = raw.wind;
-        soil = soil;
-      } ≡ hour_of raw m
-  unfolding hour_of
-  hour-is e₁ e₂ e₃ = rw (e₁, e₂, e₃)
-
-module _ (tree : ℕ) (raw : RawHour) where
-  pub no-tree : figures_in no_parameters tree ≡ Choice.Unknown → refused (5, 0) ≡ record_of tree (Raw.Hour raw)
-  unfolding record_of
-  no-tree e = rw e
-
-  pub hour-recorded :
-      {f : Figures} → figures_in no_parameters tree ≡ Choice.Tree f → {h : Hour} {o : Outcome Record} → h ≡ hour_of raw f.measure → o ≡ sound_of (Record.Hour h) →
-      o ≡ record_of tree (Raw.Hour raw)
-  unfolding record_of
-  hour-recorded e eh eo = rw e (rw (eo, eh))

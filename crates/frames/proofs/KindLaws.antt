@@ -119,9 +119,6 @@ kind-cases (suc (suc (suc (suc (suc (suc (suc zero))))))) h = parameters refl
 kind-cases (suc (suc (suc (suc (suc (suc (suc (suc zero)))))))) h = warmth refl
 kind-cases (suc (suc (suc (suc (suc (suc (suc (suc (suc b))))))))) h = absurd (omega arith)
 
-pub kind-other : (b : ℕ) → (KindCase b → ⊥) → 0 ≡ length_of b
-kind-other b none = kind-none b (λ h. ⊎_elim (λ le. absurd (none (kind-cases b (h, le)))) (λ past. past) (le-or-lt b (length kinds)))
-
 pub hour-left : (b : ℕ) → KindCase b → (b ≡ 1 → ⊥) → (b ≡ 3 → ⊥) → (b ≡ 6 → ⊥) → (b ≡ 7 → ⊥) → (b ≡ 8 → ⊥) → IsHour b
 hour-left b (header e) p q r s t = absurd (p e)
 hour-left b (hour is) p q r s t = is
@@ -134,10 +131,3 @@ pub deficit-left : (b : ℕ) → IsHour b → (b ≡ 4 → ⊥) → (b ≡ 5 →
 deficit-left b (with_deficit e) p q = e
 deficit-left b (with_pressure e) p q = absurd (p e)
 deficit-left b (with_humidity e) p q = absurd (q e)
-
--- a line of any kind of hour has the places of kind 02's fields
-pub hour-ge : (b n : ℕ) → IsHour b → length_of b ≤ n → length_of 2 ≤ n
-unfolding length_of
-hour-ge b n (with_deficit e) h = omega (arith, rw e at h)
-hour-ge b n (with_pressure e) h = omega (arith, rw e at h)
-hour-ge b n (with_humidity e) h = omega (arith, rw e at h)

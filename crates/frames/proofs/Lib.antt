@@ -4,6 +4,5 @@ pub mod KindLaws
 pub mod FrameLaws
 pub mod RangeLaws
 pub mod TemperatureLaws
-pub mod ComplementLaws
 pub mod ReadLaws
 pub mod RowLaws

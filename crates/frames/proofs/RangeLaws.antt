@@ -1,4 +1,5 @@
 -- A record that rows 5 to 8, 10, 17, 24 and 25 let pass is in range.
+use Rattle.std.specs.Prelude.{Option, Some, None}
 use Prim.Native.Nat.{ℕ, zero, suc, ◌+◌, ◌≤◌, ◌<◌}
 use mathlib.Core.Path.{◌≡◌, sym, ◌∙◌}
 use mathlib.Core.Bool.{false, ◌||◌}
@@ -8,7 +9,6 @@ use borrow.Author.Tests.{ltb-false, ne_eqb}
 use lib.Dec.{ltb}
 use Rattle.exact.proofs.OrderLaws.{le-or-lt}
 use Rattle.trees.specs.declared.Figures.{Figures}
-use Rattle.trees.specs.declared.Choice.{Choice}
 use Rattle.trees.specs.declared.Warmth.{Warmth}
 use Rattle.trees.specs.Figures.{figures_of}
 use Rattle.trees.specs.Sound.{Sound}
@@ -23,8 +23,6 @@ use Rattle.records.specs.Numbers.{is_outside}
 use Rattle.records.specs.Ranges.{ozone_out, vapour_out, soil_out, pressure_out, period_out, warmth_out, checked}
 use Rattle.records.specs.Period.{period_hours}
 use Rattle.records.specs.declared.Header.{Header}
-use Rattle.records.specs.declared.Ozone.{Ozone}
-use Rattle.records.specs.declared.Ozone.TheVariants.{Tenths, Missing}
 use Rattle.records.specs.declared.Ceiling.{Ceiling}
 use Rattle.records.specs.declared.Air.{Air}
 use Rattle.records.specs.declared.Air.TheVariants.{Deficit, Pressure, Humidity}
@@ -80,9 +78,9 @@ InRange (Record.Ceiling c) = Inside 1 5000 c.ozone
 InRange (Record.Parameters p) = Sound (measured_figures p)
 InRange (Record.Warmth w) = WarmthIn w
 
-ozone-le : (o : Ozone) → ozone_out o ≡ false → tenths_or 0 o ≤ 5000
-ozone-le (Tenths n) e = ltb-false 5000 n e
-ozone-le Missing e = omega arith
+ozone-le : (o : Option ℕ) → ozone_out o ≡ false → tenths_or 0 o ≤ 5000
+ozone-le (Some n) e = ltb-false 5000 n e
+ozone-le None e = omega arith
 
 vapour-le : (a : Air) → vapour_out a ≡ false → vapour_number a ≤ 10000
 vapour-le (Deficit n) e = ltb-false 10000 n e
@@ -100,7 +98,7 @@ soil-le (Water n) e = omega (arith, ltb-false 1000 n e)
 
 -- a number that is a tree
 
-none-past : (ps : Parameters) (t : ℕ) → 7 < t → figures_in ps t ≡ Choice.Unknown
+none-past : (ps : Parameters) (t : ℕ) → 7 < t → figures_in ps t ≡ None
 unfolding figures_in figures_of
 none-past ps t h =
     simp (
@@ -113,10 +111,10 @@ none-past ps t h =
       ne_eqb t 7 (omega arith),
     )
 
-unknown-not-tree : {A : Type 0} {f : Figures} → Choice.Unknown ≡ Choice.Tree f → A
+unknown-not-tree : {A : Type 0} {f : Figures} → None ≡ Some f → A
 unknown-not-tree e = let z : ◌≡◌ {A = ℕ} 0 1 = cc in absurd (omega arith)
 
-tree-inside : (ps : Parameters) (t : ℕ) (f : Figures) → figures_in ps t ≡ Choice.Tree f → Inside 1 7 t
+tree-inside : (ps : Parameters) (t : ℕ) (f : Figures) → figures_in ps t ≡ Some f → Inside 1 7 t
 unfolding figures_in figures_of
 tree-inside ps zero f e = unknown-not-tree e
 tree-inside ps (suc t) f e =

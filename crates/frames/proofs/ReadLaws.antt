@@ -1,4 +1,5 @@
 -- A line that is read has passed rows 1 to 3, its record its own rows; an hour's soil is in the tree's measure.
+use Rattle.std.specs.Prelude.{Some}
 use Prim.Native.Nat.{ℕ}
 use mathlib.Core.Path.{◌≡◌, sym}
 use mathlib.Core.Bool.{true, not}
@@ -7,7 +8,6 @@ use borrow.Author.Tests.{not-false, eqb-true}
 use lib.Dec.{eqb}
 use lib.ListN.{length}
 use Rattle.trees.specs.declared.Figures.{Figures}
-use Rattle.trees.specs.declared.Choice.{Choice}
 use Rattle.measured.specs.Parameters.{no_parameters}
 use Rattle.measured.specs.Figures.{figures_in}
 use Rattle.records.specs.Answers.{accepted}
@@ -55,7 +55,7 @@ sound-read s r e =
 
 pub record HourRead (tree : ℕ) (raw : RawHour) (r : Record) : Type 0 where
   pub figures : Figures
-  pub named : figures_in no_parameters tree ≡ Choice.Tree figures
+  pub named : figures_in no_parameters tree ≡ Some figures
   pub is : SoundRead (Record.Hour (hour_of raw figures.measure)) r
 
 pub hour-read : (tree : ℕ) (raw : RawHour) (r : Record) → record_of tree (Raw.Hour raw) ≡ accepted r → HourRead tree raw r

@@ -1,4 +1,5 @@
 -- The reader answers rows 1 to 3, 5 to 8, 10, 17, 24 and 25 and no other.
+use Rattle.std.specs.Prelude.{Option, Some, None}
 use Prim.Native.Nat.{ℕ}
 use mathlib.Core.Path.{◌≡◌, refl, sym, subst}
 use mathlib.Core.Bool.{Bool, true, false, cond, ◌&&◌, or-true}
@@ -7,7 +8,6 @@ use mathlib.Core.List.{List}
 use lib.Dec.{eqb, ltb}
 use lib.ListN.{length}
 use Rattle.trees.specs.declared.Figures.{Figures}
-use Rattle.trees.specs.declared.Choice.{Choice}
 use Rattle.measured.specs.Parameters.{no_parameters}
 use Rattle.measured.specs.Figures.{figures_in}
 use Rattle.records.specs.Answers.{Outcome, accepted, refused, onward}
@@ -45,9 +45,9 @@ module _ {A : Type 0} {rows : List ℕ} where
   onward-only (accepted b) next p q = q b
   onward-only (refused w) next p q = refused-only w.0 w.1 (p.only w.0 w.1 refl)
 
-  on_tree-only : (choice : Choice) (next : Figures → Outcome A) → one_of rows 5 0 ≡ true → ((f : Figures) → Only rows (next f)) → Only rows (on_tree choice next)
-  on_tree-only (Choice.Tree f) next h o = o f
-  on_tree-only Choice.Unknown next h o = refused-only 5 0 h
+  on_tree-only : (choice : Option Figures) (next : Figures → Outcome A) → one_of rows 5 0 ≡ true → ((f : Figures) → Only rows (next f)) → Only rows (on_tree choice next)
+  on_tree-only (Some f) next h o = o f
+  on_tree-only None next h o = refused-only 5 0 h
 
 -- the rows of a list are among those of a longer one
 pub only_wider : {A : Type 0} {rows more : List ℕ} {o : Outcome A} → all_pass (among more) rows ≡ true → Only rows o → Only more o

@@ -1,5 +1,5 @@
 -- What a line says (document 01, "Frames"): each kind's fields as a record, the frame of a line, the line of a record.
-use Rattle.std.specs.Prelude.{ℕ, cond, List, [], ◌∷◌, get_or, eqb}
+use Rattle.std.specs.Prelude.{ℕ, cond, List, [], ◌∷◌, get_or, eqb, Option, Some, None}
 use Rattle.trees.specs.declared.Measure.{Measure}
 use Rattle.measured.specs.Parameters.{parameter_numbers, parameters_of}
 use Rattle.measured.specs.Warmth.{warmth_numbers, warmth_of}
@@ -8,8 +8,6 @@ use Rattle.frames.specs.Kinds.{one, widths_of}
 use Rattle.frames.specs.Fields.{digits_of, fields_at}
 use Rattle.records.specs.Temperature.{signed_of, complement_of}
 use Rattle.records.specs.declared.Header.{Header}
-use Rattle.records.specs.declared.Ozone.{Ozone}
-use Rattle.records.specs.declared.Ozone.TheVariants.{Tenths, Missing}
 use Rattle.records.specs.declared.Air.{Air}
 use Rattle.records.specs.declared.Air.TheVariants.{Deficit, Pressure, Humidity}
 use Rattle.records.specs.declared.Soil.{Soil}
@@ -34,12 +32,12 @@ soil_number (Suction n) = n
 soil_number (Water n) = n
 
 -- FFFF is missing (W-207)
-abbrev pub ozone_number : Ozone → ℕ
-ozone_number (Tenths n) = n
-ozone_number Missing = 65535
+abbrev pub ozone_number : Option ℕ → ℕ
+ozone_number (Some n) = n
+ozone_number None = 65535
 
-abbrev pub ozone_of : ℕ → Ozone
-ozone_of n = cond (eqb n 65535) Missing (Tenths n)
+abbrev pub ozone_of : ℕ → Option ℕ
+ozone_of n = cond (eqb n 65535) None (Some n)
 
 -- what the air says in VPD's place, and past soil
 abbrev pub vapour_number : Air → ℕ

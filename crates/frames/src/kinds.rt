@@ -6,7 +6,9 @@ use crate::widths::{
     CeilingLine, EndLine, HeaderLine, HourLine, KINDS, ParameterLine, PressureLine, WarmthLine,
 };
 
-// The digits of a line of a kind, 0 where there is no such kind. No array: it would be copied at each call.
+// The digits of a line of a kind, 0 where there is no such kind. Kept: a kind is a line's byte, and an
+// enum of kinds would be this match and one from the byte besides.
+#[tactic(auto, unfolding(crate::specs::Kinds::length_of))]
 pub(crate) fn length_of(kind: u8) -> usize
     ensures { result ≡ length_of kind }
 {
@@ -27,12 +29,10 @@ pub(crate) fn length_of(kind: u8) -> usize
 pub(crate) fn is_length(digits: usize) -> bool
     ensures { result ≡ is_length digits }
 {
-    let mut kind: u8 = 1;
-    while kind <= KINDS {
+    for kind in 1..KINDS + 1 {
         if length_of(kind) == digits {
             return true;
         }
-        kind += 1;
     }
     false
 }

@@ -2,131 +2,128 @@
 ghost use Rattle.std.specs.Prelude.{◌≡◌, List, ℕ};
 ghost use Rattle.measured.specs.Parameters.{parameters_of};
 ghost use Rattle.measured.specs.Warmth.{warmth_of};
-ghost use Rattle.frames.specs.Steps.{Values, Says, IsHour, Makes, Sized};
+ghost use Rattle.frames.specs.Steps.{Says, IsHour, Makes, Sized};
 ghost use Rattle.frames.specs.Layout.{ozone_number, ozone_of, vapour_number, soil_number, header_of, air_of, raw_hour_of, end_of, ceiling_of, frame_at, air_kind, soil_of, hour_of};
 
-use crate::digits::{byte_at, number_at};
+use crate::digits::Line;
 use crate::widths::{
     CeilingLine, EndLine, HeaderLine, HourLine, KIND, ParameterLine, PressureLine, WarmthLine,
 };
-use crate::{
-    Air, Ceiling, End, Header, Hour, Ozone, Parameters, Raw, RawHour, Soil, Warmth, temperature,
-};
+use crate::{Air, Ceiling, End, Header, Hour, Parameters, Raw, RawHour, Soil, Warmth, temperature};
 use trees::Measure;
 
-fn header_at(values: &[u8]) -> Header
-    requires { Values values.now }
-    ensures { Makes values.now 1 result header_of }
+#[tactic(auto, unfolding(crate::specs::Kinds::length_of))]
+fn header_at(line: &Line) -> Header
+    ensures { Makes line.now.values 1 result header_of }
 {
     Header {
-        tree: byte_at(values, HeaderLine::TREE),
-        days: number_at(values, HeaderLine::DAYS),
-        first: number_at(values, HeaderLine::FIRST),
-        last: number_at(values, HeaderLine::LAST),
-        level: number_at(values, HeaderLine::LEVEL),
+        tree: line.byte_at(HeaderLine::TREE),
+        days: line.number_at(HeaderLine::DAYS),
+        first: line.number_at(HeaderLine::FIRST),
+        last: line.number_at(HeaderLine::LAST),
+        level: line.number_at(HeaderLine::LEVEL),
     }
 }
 
 // An hour's air, by the kind of its frame. The pressure's place is read whatever the kind: no branch before it.
-fn air_at(kind: u8, values: &[u8]) -> Air
-    requires { Values values.now }
-    ensures { IsHour kind → Makes values.now kind result (air_of kind) }
+#[tactic(auto, unfolding(crate::specs::Kinds::length_of))]
+fn air_at(kind: u8, line: &Line) -> Air
+    ensures { IsHour kind → Makes line.now.values kind result (air_of kind) }
 {
-    let vapour = number_at(values, HourLine::VAPOUR);
-    let pressure = number_at(values, PressureLine::PRESSURE);
+    let vapour = line.number_at(HourLine::VAPOUR);
+    let pressure = line.number_at(PressureLine::PRESSURE);
     match kind {
         4 => Air::Pressure {
             deficit: vapour,
-            pressure: pressure,
+            pressure,
         },
         5 => Air::Humidity(vapour),
         _ => Air::Deficit(vapour),
     }
 }
 
-fn hour_at(kind: u8, values: &[u8]) -> RawHour
-    requires { Values values.now }
-    ensures { IsHour kind → Makes values.now kind result (λ ns. raw_hour_of (air_of kind ns) ns) }
+#[tactic(auto, unfolding(crate::specs::Kinds::length_of))]
+fn hour_at(kind: u8, line: &Line) -> RawHour
+    ensures { IsHour kind → Makes line.now.values kind result (λ ns. raw_hour_of (air_of kind ns) ns) }
 {
     RawHour {
-        day: number_at(values, HourLine::DAY),
-        hour: byte_at(values, HourLine::HOUR),
-        ozone: number_at(values, HourLine::OZONE),
-        ppfd: number_at(values, HourLine::PPFD),
-        radiation: number_at(values, HourLine::RADIATION),
-        temperature: number_at(values, HourLine::TEMPERATURE),
-        air: air_at(kind, values),
-        wind: number_at(values, HourLine::WIND),
-        soil: number_at(values, HourLine::SOIL),
+        day: line.number_at(HourLine::DAY),
+        hour: line.byte_at(HourLine::HOUR),
+        ozone: line.number_at(HourLine::OZONE),
+        ppfd: line.number_at(HourLine::PPFD),
+        radiation: line.number_at(HourLine::RADIATION),
+        temperature: line.number_at(HourLine::TEMPERATURE),
+        air: air_at(kind, line),
+        wind: line.number_at(HourLine::WIND),
+        soil: line.number_at(HourLine::SOIL),
     }
 }
 
-fn end_at(values: &[u8]) -> End
-    requires { Values values.now }
-    ensures { Makes values.now 3 result end_of }
+#[tactic(auto, unfolding(crate::specs::Kinds::length_of))]
+fn end_at(line: &Line) -> End
+    ensures { Makes line.now.values 3 result end_of }
 {
     End {
-        hours: number_at(values, EndLine::HOURS),
+        hours: line.number_at(EndLine::HOURS),
     }
 }
 
-fn ceiling_at(values: &[u8]) -> Ceiling
-    requires { Values values.now }
-    ensures { Makes values.now 6 result ceiling_of }
+#[tactic(auto, unfolding(crate::specs::Kinds::length_of))]
+fn ceiling_at(line: &Line) -> Ceiling
+    ensures { Makes line.now.values 6 result ceiling_of }
 {
     Ceiling {
-        ozone: number_at(values, CeilingLine::OZONE),
+        ozone: line.number_at(CeilingLine::OZONE),
     }
 }
 
-fn parameters_at(values: &[u8]) -> Parameters
-    requires { Values values.now }
-    ensures { Makes values.now 7 result parameters_of }
+#[tactic(auto, unfolding(crate::specs::Kinds::length_of))]
+fn parameters_at(line: &Line) -> Parameters
+    ensures { Makes line.now.values 7 result parameters_of }
 {
     Parameters {
-        gmax: number_at(values, ParameterLine::GMAX),
-        fmin: number_at(values, ParameterLine::FMIN),
-        lighta: number_at(values, ParameterLine::LIGHTA),
-        tmin: number_at(values, ParameterLine::TMIN),
-        topt: number_at(values, ParameterLine::TOPT),
-        tmax: number_at(values, ParameterLine::TMAX),
-        vpdmax: number_at(values, ParameterLine::VPDMAX),
-        vpdmin: number_at(values, ParameterLine::VPDMIN),
-        soilmax: number_at(values, ParameterLine::SOILMAX),
-        soilmin: number_at(values, ParameterLine::SOILMIN),
-        leaf: number_at(values, ParameterLine::LEAF),
-        a: number_at(values, ParameterLine::A),
-        e: number_at(values, ParameterLine::E),
-        f1: number_at(values, ParameterLine::F1),
-        f4: number_at(values, ParameterLine::F4),
-        y: number_at(values, ParameterLine::Y),
+        gmax: line.number_at(ParameterLine::GMAX),
+        fmin: line.number_at(ParameterLine::FMIN),
+        lighta: line.number_at(ParameterLine::LIGHTA),
+        tmin: line.number_at(ParameterLine::TMIN),
+        topt: line.number_at(ParameterLine::TOPT),
+        tmax: line.number_at(ParameterLine::TMAX),
+        vpdmax: line.number_at(ParameterLine::VPDMAX),
+        vpdmin: line.number_at(ParameterLine::VPDMIN),
+        soilmax: line.number_at(ParameterLine::SOILMAX),
+        soilmin: line.number_at(ParameterLine::SOILMIN),
+        leaf: line.number_at(ParameterLine::LEAF),
+        a: line.number_at(ParameterLine::A),
+        e: line.number_at(ParameterLine::E),
+        f1: line.number_at(ParameterLine::F1),
+        f4: line.number_at(ParameterLine::F4),
+        y: line.number_at(ParameterLine::Y),
     }
 }
 
-fn warmth_at(values: &[u8]) -> Warmth
-    requires { Values values.now }
-    ensures { Makes values.now 8 result warmth_of }
+#[tactic(auto, unfolding(crate::specs::Kinds::length_of))]
+fn warmth_at(line: &Line) -> Warmth
+    ensures { Makes line.now.values 8 result warmth_of }
 {
     Warmth {
-        rise: number_at(values, WarmthLine::RISE),
-        fall: number_at(values, WarmthLine::FALL),
-        end: number_at(values, WarmthLine::END),
+        rise: line.number_at(WarmthLine::RISE),
+        fall: line.number_at(WarmthLine::FALL),
+        end: line.number_at(WarmthLine::END),
     }
 }
 
 // The frame of a line that rows 1 to 3 let pass, by its kind. One call of `hour_at` for every kind of hour: called once it costs no call.
-pub(crate) fn frame_at(values: &[u8]) -> Raw
-    requires { Values values.now }
-    ensures { (l : List ℕ) → Says values.now l → Sized l → result ≡ frame_at l }
+pub(crate) fn frame_at(line: &Line) -> Raw
+    ensures { (l : List ℕ) → Says line.now.values l → Sized l → result ≡ frame_at l }
 {
-    let kind = byte_at(values, KIND);
+    let kind = line.byte_at(KIND);
     match kind {
-        1 => Raw::Header(header_at(values)),
-        3 => Raw::End(end_at(values)),
-        6 => Raw::Ceiling(ceiling_at(values)),
-        7 => Raw::Parameters(parameters_at(values)),
-        8 => Raw::Warmth(warmth_at(values)),
-        _ => Raw::Hour(hour_at(kind, values)),
+        1 => Raw::Header(header_at(line)),
+        3 => Raw::End(end_at(line)),
+        6 => Raw::Ceiling(ceiling_at(line)),
+        7 => Raw::Parameters(parameters_at(line)),
+        8 => Raw::Warmth(warmth_at(line)),
+        _ => Raw::Hour(hour_at(kind, line)),
     }
 }
 
@@ -141,24 +138,17 @@ fn soil_of(measure: Measure, n: u16) -> Soil
 }
 
 // A reading of ozone, out of the number in its place.
-pub fn ozone_of(n: u16) -> Ozone
+pub fn ozone_of(n: u16) -> Option<u16>
     ensures { result ≡ ozone_of n }
 {
-    if n == 65535 {
-        Ozone::Missing
-    } else {
-        Ozone::Tenths(n)
-    }
+    (n != 65535).then_some(n)
 }
 
 // The number in ozone's place.
-pub fn ozone_number(ozone: Ozone) -> u16
+pub fn ozone_number(ozone: Option<u16>) -> u16
     ensures { result ≡ ozone_number ozone }
 {
-    match ozone {
-        Ozone::Tenths(n) => n,
-        Ozone::Missing => 65535,
-    }
+    ozone.unwrap_or(65535)
 }
 
 // The number in VPD's place.
@@ -166,25 +156,17 @@ pub fn vapour_number(air: Air) -> u16
     ensures { result ≡ vapour_number air }
 {
     match air {
-        Air::Deficit(n) => n,
-        Air::Pressure {
-            deficit: n,
-            pressure: _,
-        } => n,
-        Air::Humidity(n) => n,
+        Air::Deficit(n) | Air::Pressure { deficit: n, .. } | Air::Humidity(n) => n,
     }
 }
 
-// The kind of an hour's frame, by its air.
+// The kind of an hour's frame, by its air. Kept: the byte itself is written and compared.
 pub fn air_kind(air: Air) -> u8
     ensures { result ≡ air_kind air }
 {
     match air {
         Air::Deficit(_) => 2,
-        Air::Pressure {
-            deficit: _,
-            pressure: _,
-        } => 4,
+        Air::Pressure { .. } => 4,
         Air::Humidity(_) => 5,
     }
 }
@@ -194,27 +176,24 @@ pub fn soil_number(soil: Soil) -> u16
     ensures { result ≡ soil_number soil }
 {
     match soil {
-        Soil::Suction(n) => n,
-        Soil::Water(n) => n,
+        Soil::Suction(n) | Soil::Water(n) => n,
     }
 }
 
 // The hour of a frame's numbers, its soil in a measure.
+#[tactic(auto, unfolding(crate::specs::Layout::hour_of))]
 pub fn hour_of(raw: RawHour, measure: Measure) -> Hour
     ensures { result ≡ hour_of raw measure }
 {
-    let air = raw.air;
-    let ozone = ozone_of(raw.ozone);
-    let soil = soil_of(measure, raw.soil);
     Hour {
         day: raw.day,
         hour: raw.hour,
-        ozone: ozone,
+        ozone: ozone_of(raw.ozone),
         ppfd: raw.ppfd,
         radiation: raw.radiation,
         temperature: temperature::signed(raw.temperature),
-        air: air,
+        air: raw.air,
         wind: raw.wind,
-        soil: soil,
+        soil: soil_of(measure, raw.soil),
     }
 }

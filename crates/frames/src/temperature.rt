@@ -6,20 +6,12 @@ ghost use Rattle.records.specs.Temperature.{signed_of, complement_of};
 pub fn signed(n: u16) -> i16
     ensures { result ≡ signed_of n }
 {
-    if n < 32768 {
-        n as i16
-    } else {
-        -((65535 - n) as i16) - 1
-    }
+    n.cast_signed()
 }
 
 // The two bytes that say a temperature.
 pub fn complement(t: i16) -> u16
     ensures { result ≡ complement_of t }
 {
-    if t < 0 {
-        65535 - ((-(t + 1)) as u16)
-    } else {
-        t as u16
-    }
+    t.cast_unsigned()
 }

@@ -1,34 +1,27 @@
 // Every change of one character of a line.
 use crate::answers::mark;
-use cases::print;
 use frames::widths::LONGEST;
+use std::io;
 
-// The mark of the line with the byte b at a place, by way of a buffer; `?` past the line's end, and for a line that the buffer does not hold.
-fn mark_in(tree: u8, line: &[u8], place: usize, b: u8, buf: &mut [u8]) -> u8 {
-    if buf.len() < line.len() {
-        return b'?';
-    }
-    if line.len() <= place {
-        return b'?';
-    }
-    let copy = &mut buf[0..line.len()];
-    copy.copy_from_slice(line);
-    copy[place] = b;
-    mark(frames::read_frame(tree, &copy[..]))
-}
-
-fn print_mark(rt: &impl Print, tree: u8, line: &[u8], place: usize, b: u8) {
+// The mark of the line with the byte b at a place; `?` past the line's end, and for a line longer than any frame's.
+fn changed_mark(tree: u8, line: &[u8], place: usize, b: u8) -> u8 {
     let mut buf = [0; LONGEST];
-    let one = [mark_in(tree, line, place, b, &mut buf)];
-    print(rt, &one);
+    let Some(changed) = buf.get_mut(..line.len()) else {
+        return b'?';
+    };
+    changed.copy_from_slice(line);
+    let Some(byte) = changed.get_mut(place) else {
+        return b'?';
+    };
+    *byte = b;
+    mark(frames::read_frame(tree, changed))
 }
-
-const BYTES: usize = 256;
 
 // A mark for each byte from 0 to 255 at the place.
-pub(crate) fn print_marks(rt: &impl Print, tree: u8, line: &[u8], place: usize) {
-    print(rt, b" ");
-    for b in 0..BYTES {
-        print_mark(rt, tree, line, place, b as u8);
+pub(crate) fn print_marks(rt: &impl Print, tree: u8, line: &[u8], place: usize) -> io::Result<()> {
+    rt.write_all(b" ")?;
+    for b in 0..=u8::MAX {
+        rt.write_all(&[changed_mark(tree, line, place, b)])?;
     }
+    Ok(())
 }

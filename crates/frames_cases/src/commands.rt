@@ -4,37 +4,22 @@
 use crate::answers::print_reading;
 use crate::changes::print_marks;
 use crate::writing::print_writing;
-use cases::{print, u8_at};
+use cases::u8_at;
+use std::io;
 
-fn answer(rt: &impl Print, letter: u8, tree: u8, n: u8, line: &[u8]) {
-    match letter {
-        b'R' => print_reading(rt, tree, line),
-        b'C' => print_marks(rt, tree, line, n as usize),
-        b'T' => print_writing(rt, tree, true, line, n as usize),
-        _ => print_writing(rt, tree, false, line, n as usize),
-    }
-}
-
-fn obey(rt: &impl Print, command: &[u8]) {
+pub(crate) fn obey(rt: &impl Print, command: &[u8]) -> io::Result<()> {
     if command.len() < 5 {
-        return;
+        return Ok(());
     }
-    print(rt, command);
-    answer(
-        rt,
-        command[0],
-        u8_at(command, 1),
-        u8_at(command, 3),
-        &command[5..],
-    );
-    print(rt, b"\n");
-}
-
-pub(crate) fn run_lines(rt: &impl Print, text: &[u8]) {
-    let mut rest = text;
-    while 0 < rest.len() {
-        obey(rt, cases::line(rest));
-        let next = cases::after_line(rest);
-        rest = next;
+    let (head, line) = command.split_at(5);
+    let tree = u8_at(head, 1);
+    let n = u8_at(head, 3) as usize;
+    rt.write_all(command)?;
+    // Kept: an enum of commands would name each letter a second time.
+    match head[0] {
+        b'R' => print_reading(rt, tree, line)?,
+        b'C' => print_marks(rt, tree, line, n)?,
+        letter => print_writing(rt, tree, letter == b'T', line, n)?,
     }
+    println!(rt; "")
 }

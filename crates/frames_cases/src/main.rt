@@ -4,12 +4,10 @@
 mod answers;
 mod changes;
 mod commands;
-mod text;
 mod unchecked;
 mod writing;
 
+// A read or a write that fails ends it.
 fn main(rt: HostRuntime) {
-    let mut text = cases::buffer();
-    let n = cases::read(&rt, &mut text);
-    commands::run_lines(&rt, &text[..n]);
+    let _ = cases::for_each_line(&rt, |command| commands::obey(&rt, command));
 }

@@ -1,5 +1,5 @@
 // A frame's numbers as a record that nothing has checked; its ozone, where `numeric`, a number even if that is FFFF.
-use frames::{Hour, Ozone, Raw, RawHour, Record, Soil};
+use frames::{Hour, Raw, RawHour, Record, Soil};
 
 // Trees 1 and 2 are measured in available water.
 fn soil_of(tree: u8, n: u16) -> Soil {
@@ -10,16 +10,15 @@ fn soil_of(tree: u8, n: u16) -> Soil {
     }
 }
 
-fn ozone_of(numeric: bool, n: u16) -> Ozone {
+fn ozone_of(numeric: bool, n: u16) -> Option<u16> {
     if numeric {
-        Ozone::Tenths(n)
+        Some(n)
     } else {
         frames::ozone_of(n)
     }
 }
 
 fn hour_of(tree: u8, numeric: bool, raw: RawHour) -> Hour {
-    let air = raw.air;
     Hour {
         day: raw.day,
         hour: raw.hour,
@@ -27,7 +26,7 @@ fn hour_of(tree: u8, numeric: bool, raw: RawHour) -> Hour {
         ppfd: raw.ppfd,
         radiation: raw.radiation,
         temperature: frames::signed(raw.temperature),
-        air: air,
+        air: raw.air,
         wind: raw.wind,
         soil: soil_of(tree, raw.soil),
     }

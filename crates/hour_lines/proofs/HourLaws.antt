@@ -1,4 +1,5 @@
 -- A line of an hour's kind: what its three chunks hold is its hour, and the line is read as that hour.
+use Rattle.std.specs.Prelude.{Some}
 use Prim.Native.Nat.{ℕ, ◌+◌, ◌-◌, ◌*◌, ◌≤◌}
 use mathlib.Core.Path.{◌≡◌, sym, ap, ◌∙◌}
 use mathlib.Core.Bool.{Bool, true, ◌&&◌}
@@ -22,7 +23,6 @@ use Rattle.frames.specs.Steps.{IsHour, with_deficit, with_pressure, with_humidit
 use Rattle.frames.proofs.FrameLaws.{kind-in, hour-same, hour-framed}
 use Rattle.hour_lines.specs.Steps.{ReadTo, LengthOf, HourIn, hour_in}
 use Rattle.hour_lines.specs.Read.{read_of}
-use Rattle.hour_lines.specs.declared.HourRead.{HourRead}
 use Rattle.hour_lines.proofs.ChunkLaws.{chunks-digits, read-says, number-says}
 use Rattle.hour_lines.proofs.ReadLaws.{read_is}
 
@@ -112,7 +112,7 @@ module _ (kind : ℕ) (l a b c : List ℕ) (d e f last : Bool) (s : LengthOf kin
   module _ (x : ReadTo l 0 16 d a) (y : ReadTo l 16 16 e b) (z : ReadTo l (length l - 17) 16 f c) (end : last ≡ is_digit (get_or l (length l - 1) 0)) where
     pub hour-read :
         (r : RawHour) → (d && e && f && last && eqb (get_or a 0 0) kind) ≡ true → (HourIn kind l a b c → r ≡ hour_in kind l)
-        → HourRead.Hour r ≡ read_of kind (parsed_of l)
+        → Some r ≡ read_of kind (parsed_of l)
     hour-read r tests hour =
         let t₁ = and_both (d && e && f && last) (eqb (get_or a 0 0) kind) tests in
         let t₂ = and_both (d && e && f) last t₁.0 in

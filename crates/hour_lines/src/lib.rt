@@ -4,46 +4,25 @@
 
 ghost use Rattle.std.specs.Prelude.{◌≡◌, List, ℕ, ◌+◌, ◌*◌, ◌≤◌, ◌<◌, length, get_or};
 ghost use Rattle.frames.specs.Frames.{parsed_of};
-ghost use Rattle.frames.specs.Steps.{bits_of};
 ghost use Rattle.hour_lines.specs.Read.{read_of};
 ghost use Rattle.hour_lines.specs.Steps.{ReadTo, HourIn, LengthOf, hour_in};
 
 use frames::widths::{HourLine, PressureLine};
-use frames::{Air, Parsed, Raw, RawHour};
-
-// What reading a line as an hour of a kind gives.
-#[derive(Clone, Copy)]
-pub enum HourRead {
-    Hour(RawHour),
-    Other,
-}
-
-// A digit's value is its low four bits, and 9 more for a letter.
-fn value(c: u8) -> u8
-    ensures { (result ≡ bits_of c) × (result < 16) }
-{
-    (c % 16 + 9 * (c / 64)) % 16
-}
+use frames::{Air, Raw, RawHour, Refusal};
 
 // Of the 16 characters from a place on: whether all are digits, and the byte that each says with the character after it.
 fn chunk(line: &[u8], from: usize, bytes: &mut [u8; 16]) -> bool
-    requires { (from + 17 ≤ length line.now) × (length bytes.old ≡ 16) }
+    requires { from + 17 ≤ length line.now }
     ensures { ReadTo line.now from 16 result bytes.new }
 {
     let mut digits = true;
-    let mut i = 0;
-    while i < 16 {
+    for i in 0..16 {
         digits = digits & frames::is_digit(line[from + i]);
-        bytes[i] = value(line[from + i]) * 16 + value(line[from + i + 1]);
-        i += 1;
+        let high = frames::digit_value(line[from + i]);
+        let low = frames::digit_value(line[from + i + 1]);
+        bytes[i] = high * 16 + low;
     }
     digits
-}
-
-fn wide(b: u8) -> u16
-    ensures { (result ≡ b) × (result < 256) }
-{
-    b as u16
 }
 
 // The two-byte number whose digits begin at a place of a chunk.
@@ -51,28 +30,18 @@ fn number(bytes: &[u8; 16], at: usize) -> u16
     requires { at + 2 < 16 }
     ensures { result ≡ get_or bytes.now at 0 * 256 + get_or bytes.now (at + 2) 0 }
 {
-    wide(bytes[at]) * 256 + wide(bytes[at + 2])
+    (bytes[at] as u16) * 256 + bytes[at + 2] as u16
 }
 
 // The way that reads every line.
-fn by_parse(kind: u8, line: &[u8]) -> HourRead
+#[tactic(auto, unfolding(crate::specs::Read::read_of))]
+fn by_parse(kind: u8, line: &[u8]) -> Option<RawHour>
     ensures { result ≡ read_of kind (parsed_of line.now) }
 {
-    let parsed = frames::parse(line);
-    match parsed {
-        Parsed::Frame(raw) => match raw {
-            Raw::Hour(h) => {
-                let air = h.air;
-                if frames::air_kind(air) == kind {
-                    HourRead::Hour(h)
-                } else {
-                    HourRead::Other
-                }
-            },
-            _ => HourRead::Other,
-        },
-        Parsed::Refused(_) => HourRead::Other,
-    }
+    let Ok(Raw::Hour(h)) = frames::parse(line) else {
+        return None;
+    };
+    (frames::air_kind(h.air) == kind).then_some(h)
 }
 
 // The hour of a line of an hour's kind: its first chunk, the one after it, and the one that ends at its last digit but one.
@@ -89,6 +58,7 @@ fn hour_at(kind: u8, a: &[u8; 16], b: &[u8; 16], c: &[u8; 16]) -> RawHour
         5 => Air::Humidity(vapour),
         _ => Air::Deficit(vapour),
     };
+    let soil = if kind == 4 { number(c, 9) } else { last };
     RawHour {
         day: number(a, 2),
         hour: a[6],
@@ -96,26 +66,26 @@ fn hour_at(kind: u8, a: &[u8; 16], b: &[u8; 16], c: &[u8; 16]) -> RawHour
         ppfd: number(a, 12),
         radiation: number(b, 0),
         temperature: number(b, 4),
-        air: air,
+        air,
         wind: number(b, 12),
-        soil: if kind == 4 { number(c, 9) } else { last },
+        soil,
     }
 }
 
-// The digits of a line of an hour's kind, 0 for any other kind.
+// The digits of a line of an hour's kind, 0 for any other kind. Kept for speed: one comparison with a line's length.
+#[tactic(auto, unfolding(frames::specs::Kinds::length_of))]
 fn length_of(kind: u8) -> usize
     ensures { 0 < result → LengthOf kind result }
 {
     match kind {
-        2 => HourLine::DIGITS,
+        2 | 5 => HourLine::DIGITS,
         4 => PressureLine::DIGITS,
-        5 => HourLine::DIGITS,
         _ => 0,
     }
 }
 
 // The hour that a line says, where its kind is the one given.
-pub fn read(kind: u8, line: &[u8]) -> HourRead
+pub fn read(kind: u8, line: &[u8]) -> Option<RawHour>
     ensures { result ≡ read_of kind (parsed_of line.now) }
 {
     let n = line.len();
@@ -127,7 +97,7 @@ pub fn read(kind: u8, line: &[u8]) -> HourRead
         let e = chunk(line, 16, &mut b);
         let f = chunk(line, n - 17, &mut c);
         if d & e & f & frames::is_digit(line[n - 1]) & (a[0] == kind) {
-            return HourRead::Hour(hour_at(kind, &a, &b, &c));
+            return Some(hour_at(kind, &a, &b, &c));
         }
     }
     by_parse(kind, line)

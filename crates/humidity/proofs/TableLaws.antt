@@ -1,4 +1,4 @@
--- An array that passes one computed test has the table's entry at each of its readings.
+-- An array that passes one computed test is the table.
 use Prim.Native.Nat.{ℕ, zero, suc, ◌+◌, ◌-◌, ◌<◌, ◌≤◌}
 use mathlib.Core.Path.{◌≡◌, ◌∙◌, subst, sym}
 use mathlib.Core.Bool.{Bool, true, ◌&&◌}
@@ -30,8 +30,7 @@ tested x (t ∷ ts) h (suc i) l =
     subst (λ (m : ℕ). get_or ts i 0 ≡ computed m) (suc-add x i ∙ sym (add-suc x i))
     (tested (suc x) ts (and_r (eqb t (computed x)) (table_test (suc x) ts) h) i (le_of_suc-le-suc l))
 
-pub entry_read : {from x r : ℕ} {ts : List ℕ} → EntryRead ts from x r → x ≤ 1100 → T (table_test from ts) → r ≡ entry_of x
-entry_read {from} {x} {r} {ts} h highest test =
-    let first = h.asked.first in
-    let e : from + (x - from) ≡ x = omega arith in
-    h.entry ∙ subst (λ (m : ℕ). get_or ts (x - from) 0 ≡ computed m) e (tested from ts test (x - from) (omega (arith, h.asked.last))) ∙ sym (entry_of-is x highest)
+pub entry_read : {x r : ℕ} {ts : List ℕ} → EntryRead ts x r → x ≤ 1100 → T (table_test 0 ts) → r ≡ entry_of x
+entry_read {x} {r} {ts} h highest test =
+    let e : 0 + x ≡ x = omega arith in
+    h.entry ∙ subst (λ (m : ℕ). get_or ts x 0 ≡ computed m) e (tested 0 ts test x h.within) ∙ sym (entry_of-is x highest)

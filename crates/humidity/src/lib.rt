@@ -1,18 +1,18 @@
 // The vapour pressure deficit out of humidity and temperature (W-205), by a table of saturation pressures.
 #![tactic(auto)]
 
-mod entries;
-mod lookups;
 mod values;
 
-ghost use Rattle.std.specs.Prelude.{◌≡◌};
+ghost use Rattle.std.specs.Prelude.{◌≡◌, ◌<◌, ◌≤◌, length};
+ghost use Rattle.records.specs.Answers.{outcome_of};
 ghost use Rattle.humidity_spec.specs.Facts.{HumidityFacts};
-ghost use Rattle.humidity_spec.specs.Pair.{derived_as, deficits_of};
+ghost use Rattle.humidity_spec.specs.Pair.{deficits_of, entry_of};
 ghost use Rattle.humidity.specs.Saturation.{saturation_of};
+ghost use Rattle.humidity.specs.Steps.{EntryRead};
 
-pub use humidity_spec::Derived;
 use records::Refusal;
 use trees::Deficits;
+use values::SATURATION;
 
 // 60.0 °C, the highest temperature.
 const HIGHEST: u16 = 1100;
@@ -23,31 +23,47 @@ const WETTEST: u16 = 1000;
 // The table's units in 1 kPa.
 const UNITS: u32 = 200000000;
 
+fn entry_in(table: &[u32], x: u16) -> u32
+    requires { x < length table.now }
+    ensures { EntryRead table.now x result }
+{
+    table[x as usize]
+}
+
+// The table's entry at a reading that it has.
+fn entry_at(x: u16) -> u32
+    requires { x ≤ 1100 }
+    ensures { result ≡ entry_of x }
+{
+    entry_in(&SATURATION, x)
+}
+
 // The table's entry: the saturation pressure at a temperature in tenths of a degree above -50.0 °C, rounded down; 0 above 60.0 °C.
+#[tactic(auto, unfolding(crate::specs::Saturation::saturation_of))]
 pub fn saturation(x: u16) -> u32
     ensures { result ≡ saturation_of x }
 {
     if HIGHEST < x {
         return 0;
     }
-    lookups::saturation(x)
+    entry_at(x)
 }
 
 // The deficit at a humidity in tenths of a percent and a temperature in tenths of a degree above -50.0 °C; row 10 with field 4 for a temperature above
 // 60.0 °C, with field 5 for a humidity above 100.0 percent.
-pub fn deficit(h: u16, x: u16) -> Derived
-    ensures result_value { derived_as result ≡ deficits_of h x }
+pub fn deficit(h: u16, x: u16) -> Result<Deficits, Refusal>
+    ensures result_value { outcome_of result ≡ deficits_of h x }
     ensures facts { HumidityFacts }
 {
     if HIGHEST < x {
-        return Derived::Refused(Refusal::Range(4));
+        return Err(Refusal::Range(4));
     }
     if WETTEST < h {
-        return Derived::Refused(Refusal::Range(5));
+        return Err(Refusal::Range(5));
     }
     let dry = (WETTEST - h) as u64;
-    let s = lookups::saturation(x) as u64;
-    Derived::Between(Deficits {
+    let s = entry_at(x) as u64;
+    Ok(Deficits {
         lower: dry * s,
         upper: dry * (s + 1),
         den: UNITS,

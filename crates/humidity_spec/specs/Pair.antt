@@ -1,9 +1,9 @@
 -- Two deficits that enclose VPD, out of a table of saturation pressures; rows 10.4 and 10.5 for a reading out of range.
 use Rattle.std.specs.Prelude.{ℕ, ◌+◌, ◌-◌, ◌*◌, ◌^◌, ltb}
+use Rattle.records.specs.declared.Refusal.{Refusal}
 use Rattle.exact.specs.Rounding.{times_down}
 use Rattle.trees.specs.declared.Deficits.{Deficits}
 use Rattle.records.specs.Answers.{Outcome, accepted, refused, field, row_of}
-use Rattle.humidity_spec.specs.declared.Derived.{Derived}
 use Rattle.humidity_spec.specs.Vapour.{saturation_at}
 
 -- the k at which an entry is worked out: what it falls by from there on shows in no entry
@@ -21,10 +21,6 @@ entry_of x = times_down units_per_kpa (saturation_at entry_k x)
 -- (1 - h) times the entry and times the next number: 1000 tenths of a percent, and 1000 Pa a kPa
 abbrev pub deficit_pair : ℕ → ℕ → Deficits
 deficit_pair h x = record { lower = (1000 - h) * entry_of x; upper = (1000 - h) * (entry_of x + 1); den = units_per_kpa }
-
-abbrev pub derived_as : Derived → Outcome Deficits
-derived_as (Derived.Between pair) = accepted pair
-derived_as (Derived.Refused r) = refused (row_of r)
 
 -- no temperature is above 60.0 °C and no humidity above 100.0 percent; the first field out of range is named
 unfoldable pub deficits_of : ℕ → ℕ → Outcome Deficits

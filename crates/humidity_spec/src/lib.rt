@@ -3,10 +3,3 @@
 
 use records::Refusal;
 use trees::Deficits;
-
-// The deficit between two numbers, or why a reading is refused.
-#[derive(Clone, Copy)]
-pub enum Derived {
-    Between(Deficits),
-    Refused(Refusal),
-}

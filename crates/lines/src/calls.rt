@@ -1,7 +1,7 @@
 // The lines of the other calls' answers.
 ghost use Rattle.std.specs.Prelude.{◌≡◌, ◌+◌, ◌≤◌, [], ◌∷◌, length};
 ghost use Rattle.walk_spec.specs.Lines.{line_feed};
-ghost use Rattle.report_spec.specs.Steps.{text_in, Whole};
+ghost use Rattle.report_spec.specs.Steps.{text_in};
 ghost use Rattle.lines.specs.Calls.{phrase, pair_line, none_yet_line, refused_line, header_refused_line, text_refused_line};
 
 use crate::line::{column_before, word_before};
@@ -11,16 +11,16 @@ use report_spec::Text;
 // A line feed.
 fn end() -> Text
     ensures text { text_in result ≡ line_feed ∷ [] }
-    ensures room { Whole result × (result.at ≡ 159) }
+    ensures room { result.at ≡ 159 }
 {
     byte_before(empty(), b'\n')
 }
 
 // A word and a number before the text.
 fn phrase_before(t: Text, word: &[u8], n: u64) -> Text
-    requires room { Whole t × (20 + length word.now ≤ t.at) }
+    requires room { 20 + length word.now ≤ t.at }
     ensures text { text_in result ≡ phrase word.now n (text_in t) }
-    ensures room { Whole result × (t.at ≤ result.at + 20 + length word.now) }
+    ensures room { t.at ≤ result.at + 20 + length word.now }
 {
     word_before(number_before(t, n), word)
 }
@@ -28,7 +28,6 @@ fn phrase_before(t: Text, word: &[u8], n: u64) -> Text
 // `A B`
 pub(crate) fn of_pair(a: u64, b: u64) -> Text
     ensures text { text_in result ≡ pair_line a b }
-    ensures room { Whole result }
 {
     column_before(number_before(end(), b), a)
 }
@@ -36,7 +35,6 @@ pub(crate) fn of_pair(a: u64, b: u64) -> Text
 // `none yet`
 pub(crate) fn of_none_yet() -> Text
     ensures text { text_in result ≡ none_yet_line }
-    ensures room { Whole result }
 {
     word_before(end(), b"none yet")
 }
@@ -44,7 +42,6 @@ pub(crate) fn of_none_yet() -> Text
 // `refused N`
 pub(crate) fn of_refused(row: u8) -> Text
     ensures text { text_in result ≡ refused_line row }
-    ensures room { Whole result }
 {
     phrase_before(end(), b"refused ", row as u64)
 }
@@ -52,7 +49,6 @@ pub(crate) fn of_refused(row: u8) -> Text
 // `refused N header H`
 pub(crate) fn of_header_refused(row: u8, header: u64) -> Text
     ensures text { text_in result ≡ header_refused_line row header }
-    ensures room { Whole result }
 {
     phrase_before(
         phrase_before(end(), b" header ", header),
@@ -64,7 +60,6 @@ pub(crate) fn of_header_refused(row: u8, header: u64) -> Text
 // `text T refused N line L`
 pub(crate) fn of_text_refused(text: u8, row: u8, line: u64) -> Text
     ensures text { text_in result ≡ text_refused_line text row line }
-    ensures room { Whole result }
 {
     let place = phrase_before(end(), b" line ", line);
     let refused = phrase_before(place, b"refused ", row as u64);

@@ -6,7 +6,7 @@ ghost use Rattle.account_spec.specs.Reading.{word_of};
 ghost use Rattle.report_spec.specs.Line.{totals_line};
 ghost use Rattle.report_spec.specs.Months.{month_line};
 ghost use Rattle.report_spec.specs.Season.{refusal_line};
-ghost use Rattle.report_spec.specs.Steps.{text_in, Whole, figures_before};
+ghost use Rattle.report_spec.specs.Steps.{text_in, figures_before};
 
 use crate::text::{byte_before, empty, number_before};
 use account_spec::{Sums, Totals, Verdict};
@@ -14,9 +14,9 @@ use report_spec::Text;
 
 // A word before the text.
 pub(crate) fn word_before(t: Text, word: &[u8]) -> Text
-    requires room { Whole t × (length word.now ≤ t.at) }
+    requires room { length word.now ≤ t.at }
     ensures text { text_in result ≡ word.now ++ text_in t }
-    ensures room { Whole result × (result.at + length word.now ≡ t.at) }
+    ensures room { result.at + length word.now ≡ t.at }
 {
     let mut made = t;
     let mut left = word.len();
@@ -30,7 +30,7 @@ pub(crate) fn word_before(t: Text, word: &[u8]) -> Text
 // The verdict's word, and the line feed.
 fn of_verdict(verdict: Verdict) -> Text
     ensures text { text_in result ≡ word_of verdict ++ line_feed ∷ [] }
-    ensures room { Whole result × (150 ≤ result.at) }
+    ensures room { 150 ≤ result.at }
 {
     let end = byte_before(empty(), b'\n');
     match verdict {
@@ -43,18 +43,18 @@ fn of_verdict(verdict: Verdict) -> Text
 
 // A number and a space before the text.
 pub(crate) fn column_before(t: Text, n: u64) -> Text
-    requires room { Whole t × (21 ≤ t.at) }
+    requires room { 21 ≤ t.at }
     ensures text { text_in result ≡ decimal n (space ∷ text_in t) }
-    ensures room { Whole result × (t.at ≤ result.at + 21) }
+    ensures room { t.at ≤ result.at + 21 }
 {
     number_before(byte_before(t, b' '), n)
 }
 
 // Counted hours, lower, upper and AOT40's lower number before the text.
 fn figures_before(t: Text, sums: Sums) -> Text
-    requires room { Whole t × (84 ≤ t.at) }
+    requires room { 84 ≤ t.at }
     ensures text { text_in result ≡ figures_before sums (text_in t) }
-    ensures room { Whole result × (t.at ≤ result.at + 84) }
+    ensures room { t.at ≤ result.at + 84 }
 {
     let least = column_before(t, sums.least as u64);
     let upper = column_before(least, sums.upper);
@@ -65,7 +65,6 @@ fn figures_before(t: Text, sums: Sums) -> Text
 // Hours, counted hours, lower, upper, AOT40's lower and upper, and verdict.
 pub(crate) fn of_totals(t: Totals) -> Text
     ensures text { text_in result ≡ totals_line t }
-    ensures room { Whole result }
 {
     let verdict = t.verdict;
     let sums = t.sums;
@@ -77,7 +76,6 @@ pub(crate) fn of_totals(t: Totals) -> Text
 // Month number, counted hours, lower, upper, AOT40's lower and upper.
 pub(crate) fn of_month(month: u16, sums: Sums) -> Text
     ensures text { text_in result ≡ month_line month sums }
-    ensures room { Whole result }
 {
     let end = byte_before(empty(), b'\n');
     let most = number_before(end, sums.most as u64);
@@ -87,7 +85,6 @@ pub(crate) fn of_month(month: u16, sums: Sums) -> Text
 // `refused N line L`
 pub(crate) fn of_refusal(row: u8, line: u64) -> Text
     ensures text { text_in result ≡ refusal_line row line }
-    ensures room { Whole result }
 {
     let end = number_before(byte_before(empty(), b'\n'), line);
     let place = number_before(word_before(end, b" line "), row as u64);

@@ -4,14 +4,14 @@ ghost use Rattle.std.proofs.Math.Seq.{paste};
 ghost use Rattle.records.specs.Answers.{accepted};
 ghost use Rattle.records.specs.Buffer.{Prints};
 ghost use Rattle.report_spec.specs.Text.{decimal};
-ghost use Rattle.report_spec.specs.Steps.{text_in, Whole};
+ghost use Rattle.report_spec.specs.Steps.{text_in};
 
-use frames::{Refusal, Written};
+use frames::Refusal;
 use report_spec::Text;
 
 pub(crate) fn empty() -> Text
     ensures text { text_in result ≡ [] }
-    ensures room { Whole result × (result.at ≡ 160) }
+    ensures room { result.at ≡ 160 }
 {
     Text {
         bytes: [0; 160],
@@ -21,24 +21,21 @@ pub(crate) fn empty() -> Text
 
 // A byte before the text.
 pub(crate) fn byte_before(t: Text, c: u8) -> Text
-    requires room { Whole t × (1 ≤ t.at) }
+    requires room { 1 ≤ t.at }
     ensures text { text_in result ≡ c ∷ text_in t }
-    ensures room { Whole result × (result.at + 1 ≡ t.at) }
+    ensures room { result.at + 1 ≡ t.at }
 {
     let mut bytes = t.bytes;
     let at = t.at - 1;
     bytes[at] = c;
-    Text {
-        bytes: bytes,
-        at: at,
-    }
+    Text { bytes, at }
 }
 
 // A number's digits before the text, the last digit first.
 pub(crate) fn number_before(t: Text, n: u64) -> Text
-    requires room { Whole t × (20 ≤ t.at) }
+    requires room { 20 ≤ t.at }
     ensures text { text_in result ≡ decimal n (text_in t) }
-    ensures room { Whole result × (t.at ≤ result.at + 20) }
+    ensures room { t.at ≤ result.at + 20 }
 {
     let mut made = t;
     let mut left = n;
@@ -50,21 +47,16 @@ pub(crate) fn number_before(t: Text, n: u64) -> Text
 }
 
 // The text into a lent buffer: row 12 where it is too short, and then nothing is written.
-pub(crate) fn put(t: Text, buf: &mut [u8]) -> Written
-    requires room { Whole t }
+pub(crate) fn put(t: Text, buf: &mut [u8]) -> Result<usize, Refusal>
     ensures { Prints (accepted (text_in t)) buf.old result buf.new }
 {
     let n = 160 - t.at;
     if buf.len() < n {
-        return Written::Refused(Refusal::Buffer);
+        return Err(Refusal::Buffer);
     }
     let bytes = t.bytes;
-    let mut i = 0;
-    while i < n {
-        buf[i] = bytes[t.at + i];
-        i += 1;
-    }
-    Written::Bytes(n)
+    buf[..n].copy_from_slice(&bytes[t.at..]);
+    Ok(n)
 }
 
 // Bytes into a buffer, from a place on.
@@ -72,26 +64,21 @@ fn copy(bytes: &[u8], buf: &mut [u8], at: usize)
     requires room { at + length bytes.now ≤ length buf.old }
     ensures { buf.new ≡ paste buf.old at bytes.now (length bytes.now) }
 {
-    let mut i = 0;
-    while i < bytes.len() {
-        buf[at + i] = bytes[i];
-        i += 1;
-    }
+    buf[at..at + bytes.len()].copy_from_slice(bytes);
 }
 
 // The text and more after it into a lent buffer: row 12 where it is too short for both, and then nothing is written.
-pub(crate) fn put_both(t: Text, more: &[u8], buf: &mut [u8]) -> Written
-    requires room { Whole t }
+pub(crate) fn put_both(t: Text, more: &[u8], buf: &mut [u8]) -> Result<usize, Refusal>
     ensures { Prints (accepted (text_in t ++ more.now)) buf.old result buf.new }
 {
     let at = t.at;
     let n = 160 - at;
     let all = n + more.len();
     if buf.len() < all {
-        return Written::Refused(Refusal::Buffer);
+        return Err(Refusal::Buffer);
     }
     let bytes = t.bytes;
     copy(&bytes[at..], buf, 0);
     copy(more, buf, n);
-    Written::Bytes(all)
+    Ok(all)
 }

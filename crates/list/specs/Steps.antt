@@ -1,12 +1,14 @@
 -- Serves the code's own steps; no reader need believe it.
 -- A list is seen account by account; what is known so far is a tally.
-use Rattle.std.specs.Prelude.{ℕ, ◌≡◌, Bool, true, false, not, cond, ◌||◌, List, [], ◌∷◌, ltb}
+use Rattle.std.specs.Prelude.{ℕ, ◌≡◌, Bool, true, false, not, cond, ◌||◌, List, [], ◌∷◌, ltb, Option, Some, None, is_none}
+use Rattle.trees.specs.declared.Measure.{Measure}
 use Rattle.records.specs.declared.Raw.{Raw}
 use Rattle.records.specs.declared.Record.{Record}
-use Rattle.records.specs.Answers.{Outcome, accepted, refused, row, onward, reply, decoded_as}
+use Rattle.records.specs.Answers.{Outcome, accepted, refused, row, onward, reply, outcome_of}
 use Rattle.records.specs.Numbers.{same_numbers}
 use Rattle.account_spec.specs.declared.Account.{Account}
-use Rattle.account_spec.specs.Account.{impossible}
+use Rattle.account_spec.specs.HourKinds.{kind_number}
+use Rattle.account_spec.specs.Account.{phase_number, impossible}
 use Rattle.account_spec.specs.Rules.{out_of_turn, turn_of, state_of, unread_row, feed_frame_of}
 use Rattle.account.specs.Entering.{NextBy}
 use Rattle.list_spec.specs.Alike.{common_numbers}
@@ -21,8 +23,20 @@ fed_by (refused w) a = refused (unread_row a w)
 
 -- ---- the tally
 
+abbrev measure_as : Option Measure → ℕ
+measure_as (Some Measure.Suction) = 1
+measure_as (Some Measure.Water) = 2
+measure_as None = 0
+
 abbrev pub common_as : Common → List ℕ
-common_as c = c.days ∷ c.first ∷ c.last ∷ c.hours ∷ c.phase ∷ c.ceiling ∷ c.kind ∷ c.measure ∷ []
+common_as c = c.days ∷ c.first ∷ c.last ∷ c.hours ∷ phase_number c.phase ∷ c.ceiling ∷ kind_number c.kind ∷ measure_as c.measure ∷ []
+
+abbrev no_numbers : List ℕ
+no_numbers = 0 ∷ 0 ∷ 0 ∷ 0 ∷ 0 ∷ 0 ∷ 0 ∷ 0 ∷ []
+
+abbrev pub first_as : Option Common → List ℕ
+first_as (Some c) = common_as c
+first_as None = no_numbers
 
 -- what a tally says, the line's answer as document 01 numbers it
 pub record Tallied : Type 0 where
@@ -38,13 +52,10 @@ tallied_as t = record {
   size_is_out = t.outside;
   an_impossible = t.impossible;
   an_unlike = t.unlike;
-  none = t.empty;
-  first = common_as t.first;
-  line = decoded_as t.line;
+  none = is_none t.first;
+  first = first_as t.first;
+  line = outcome_of t.line;
 }
-
-abbrev no_numbers : List ℕ
-no_numbers = 0 ∷ 0 ∷ 0 ∷ 0 ∷ 0 ∷ 0 ∷ 0 ∷ 0 ∷ []
 
 abbrev pub start_of : ℕ → Tallied
 start_of n = record { size_is_out = size_out n; an_impossible = false; an_unlike = false; none = true; first = no_numbers; line = refused (22, 0) }

@@ -1,124 +1,89 @@
 // Commands, one a line, over six accounts, of which the first ones are the list. `N` takes six fresh ones, `C` says in two digits how many are listed. Two
 // digits after `H` and `F` are a place: `H` sets a field of that account, `F` feeds it alone a line. `L` feeds a line to the list, `P` prints every account.
 use account::Account;
-use cases::{print, u8_at};
-use cases_account::{print_account, print_fed, print_refusal, with_field};
-use list::FedAll;
+use cases::{Refused, u8_at};
+use cases_account::{Answer, Fields, with_field};
+use std::io;
 
 #[derive(Clone, Copy)]
-struct Held {
+pub(crate) struct Held {
     accounts: [Account; 6],
     count: usize,
 }
 
-fn fresh() -> Held {
-    Held {
-        accounts: [account::fresh(); 6],
-        count: 0,
-    }
-}
-
-fn counted(held: Held, digits: &[u8]) -> Held {
-    let accounts = held.accounts;
-    let count = u8_at(digits, 0) as usize;
-    Held { accounts, count }
-}
-
-// The rest of a command after the two digits of its place.
-fn after_place(digits: &[u8]) -> &[u8] {
-    if digits.len() < 2 {
-        return digits;
-    }
-    &digits[2..]
-}
-
-fn with_account(held: Held, place: usize, account: Account) -> Held {
-    let mut accounts = held.accounts;
-    let count = held.count;
-    if place < 6 {
-        accounts[place] = account;
-    }
-    Held { accounts, count }
-}
-
-fn account_at(held: Held, place: usize) -> Account {
-    let accounts = held.accounts;
-    if place < 6 {
-        return accounts[place];
-    }
-    account::fresh()
-}
-
-fn set(held: Held, digits: &[u8]) -> Held {
+// The place that two digits say, and the rest of a command after them.
+fn placed(digits: &[u8]) -> (usize, &[u8]) {
     let place = u8_at(digits, 0) as usize;
-    let account = account_at(held, place);
-    with_account(held, place, with_field(account, after_place(digits)))
+    (place, digits.get(2..).unwrap_or(digits))
 }
 
-fn fed(rt: &impl Print, held: Held, digits: &[u8]) -> Held {
-    let place = u8_at(digits, 0) as usize;
-    let account = account_at(held, place);
-    let left = print_fed(rt, account::feed(account, after_place(digits)));
-    print(rt, b"\n");
-    with_account(held, place, left)
-}
-
-fn print_answer(rt: &impl Print, answer: FedAll) {
-    match answer {
-        FedAll::Accepted => print(rt, b"accepted"),
-        FedAll::Refused(refusal) => print_refusal(rt, refusal),
+impl Held {
+    pub(crate) fn new() -> Held {
+        Held {
+            accounts: [account::fresh(); 6],
+            count: 0,
+        }
     }
-    print(rt, b"\n");
-}
 
-fn listed(rt: &impl Print, held: Held, line: &[u8]) -> Held {
-    let before = held.accounts;
-    let count = held.count;
-    let six = list::feed_six(before, count, line);
-    let answer = six.answer;
-    print_answer(rt, answer);
-    let accounts = six.accounts;
-    Held { accounts, count }
-}
-
-fn print_at(rt: &impl Print, held: Held, place: usize) {
-    print_account(rt, account_at(held, place));
-    print(rt, b"\n");
-}
-
-fn shown(rt: &impl Print, held: Held) -> Held {
-    print_at(rt, held, 0);
-    print_at(rt, held, 1);
-    print_at(rt, held, 2);
-    print_at(rt, held, 3);
-    print_at(rt, held, 4);
-    print_at(rt, held, 5);
-    held
-}
-
-// What a command leaves.
-fn obeyed(rt: &impl Print, held: Held, command: &[u8]) -> Held {
-    if command.len() == 0 {
-        return held;
+    // A place past the last account changes none.
+    fn put(&mut self, place: usize, account: Account) {
+        if let Some(held) = self.accounts.get_mut(place) {
+            *held = account;
+        }
     }
-    let rest = &command[1..];
-    match command[0] {
-        b'N' => fresh(),
-        b'C' => counted(held, rest),
-        b'H' => set(held, rest),
-        b'F' => fed(rt, held, rest),
-        b'L' => listed(rt, held, rest),
-        b'P' => shown(rt, held),
-        _ => held,
-    }
-}
 
-pub(crate) fn run_lines(rt: &impl Print, text: &[u8]) {
-    let mut held = fresh();
-    let mut rest = text;
-    while 0 < rest.len() {
-        held = obeyed(rt, held, cases::line(rest));
-        let next = cases::after_line(rest);
-        rest = next;
+    // A fresh account past the last one.
+    fn account_at(&self, place: usize) -> Account {
+        self.accounts
+            .get(place)
+            .copied()
+            .unwrap_or(account::fresh())
+    }
+
+    fn set(&mut self, digits: &[u8]) {
+        let (place, field) = placed(digits);
+        self.put(place, with_field(self.account_at(place), field));
+    }
+
+    fn feed_one(&mut self, rt: &impl Print, digits: &[u8]) -> io::Result<()> {
+        let (place, line) = placed(digits);
+        let answer = account::feed(self.account_at(place), line);
+        let left = answer.unwrap_or_else(|(_, same)| same);
+        self.put(place, left);
+        println!(rt; "{}: {}", Answer(answer), Fields(left))
+    }
+
+    fn feed_list(&mut self, rt: &impl Print, line: &[u8]) -> io::Result<()> {
+        let six = list::feed_six(self.accounts, self.count, line);
+        let accounts = six.accounts;
+        self.accounts = accounts;
+        match six.answer {
+            Ok(()) => println!(rt; "accepted"),
+            Err(refusal) => println!(rt; "{}", Refused(refusal)),
+        }
+    }
+
+    fn show(&self, rt: &impl Print) -> io::Result<()> {
+        for account in &self.accounts {
+            println!(rt; "{}", Fields(*account))?;
+        }
+        Ok(())
+    }
+
+    pub(crate) fn obey(&mut self, rt: &impl Print, command: &[u8]) -> io::Result<()> {
+        let Some((letter, rest)) = command.split_first() else {
+            return Ok(());
+        };
+        // Kept: an enum of commands would name each letter a second time.
+        match *letter {
+            b'N' => *self = Held::new(),
+            b'C' => self.count = u8_at(rest, 0) as usize,
+            b'H' => self.set(rest),
+            b'F' => self.feed_one(rt, rest)?,
+            b'L' => self.feed_list(rt, rest)?,
+            b'P' => self.show(rt)?,
+            _ => (),
+        }
+        Ok(())
     }
 }

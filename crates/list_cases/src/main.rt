@@ -3,8 +3,10 @@
 
 mod commands;
 
+use commands::Held;
+
+// A read or a write that fails ends it.
 fn main(rt: HostRuntime) {
-    let mut text = cases::buffer();
-    let n = cases::read(&rt, &mut text);
-    commands::run_lines(&rt, &text[..n]);
+    let mut held = Held::new();
+    let _ = cases::for_each_line(&rt, |command| held.obey(&rt, command));
 }

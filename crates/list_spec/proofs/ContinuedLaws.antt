@@ -1,12 +1,13 @@
 -- An account of a list keeps demand 3: its own run goes on with the lines that the list accepted, and the season's promise holds of the whole.
+use Rattle.records.specs.declared.Refusal.{Refusal}
+use Rattle.account_spec.specs.declared.Totals.{Totals}
+use Rattle.std.specs.Prelude.{Result, Ok}
 use Prim.Native.Nat.{ℕ}
 use mathlib.Core.Path.{◌≡◌, refl, sym, ap, subst, ◌∙◌}
 use mathlib.Core.List.{List, [], ◌∷◌, ◌++◌, map}
 use lib.ListN.{length}
 use Rattle.records.specs.Answers.{Outcome, accepted}
 use Rattle.account_spec.specs.declared.Account.{Account}
-use Rattle.account_spec.specs.declared.Fed.{Fed}
-use Rattle.account_spec.specs.declared.Reading.{Reading}
 use Rattle.account_spec.specs.Account.{fresh_account}
 use Rattle.account_spec.specs.Rules.{feed_of, left_of, left_by, Feeds}
 use Rattle.account_spec.specs.Reading.{Reads}
@@ -29,7 +30,7 @@ end-append a (taken r ∷ es) fs = end-append a es fs
 
 -- ---- lines that are taken, as a run
 
-taken-feeds : (a b : Account) (l : List ℕ) → feed_of a l ≡ accepted b → Feeds a l (Fed.Accepted b)
+taken-feeds : (a b : Account) (l : List ℕ) → feed_of a l ≡ accepted b → Feeds a l (Ok b)
 taken-feeds a b l e = record { answers = sym e; leaves = ap (left_of a) (sym e) }
 
 record LinesRun (a : Account) (ls : List (List ℕ)) (b : Account) : Type 0 where
@@ -44,7 +45,7 @@ lines-run a b ls TakesAll.none = record { events = []; calls = refl; replies = r
 lines-run a b ls (TakesAll.line {b = next} {l = l} {ls = more} e alone) =
     let rest = lines-run next b more alone in
     record {
-      events = fed l (Fed.Accepted next) ∷ rest.events;
+      events = fed l (Ok next) ∷ rest.events;
       calls = ap (λ (cs : List Call). line l ∷ cs) rest.calls;
       replies = ap (λ (os : List (Outcome Unit)). accepted tt ∷ os) rest.replies;
       run = feeds (taken-feeds a next l e) rest.run;
@@ -66,7 +67,7 @@ module _ (a : Account) (own : Begun a) (ls : List (List ℕ)) (b : Account) (mor
   whole-ends : account_after fresh_account all ≡ b
   whole-ends = end-append fresh_account own.events more.events ∙ ap (λ (x : Account). account_after x more.events) own.ends ∙ more.ends
 
-  read : (r : Reading) → Reads b r → Run fresh_account (all ++ taken r ∷ [])
+  read : (r : Result Totals Refusal) → Reads b r → Run fresh_account (all ++ taken r ∷ [])
   read r k = run-append fresh_account all (taken r ∷ []) whole (reads (subst (λ (x : Account). Reads x r) (sym whole-ends) k) stop)
 
   continued : Continued a own ls b

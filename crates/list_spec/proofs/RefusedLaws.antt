@@ -1,17 +1,18 @@
 -- A line refused by one account is refused for all; past rows 22, 13 and 23 by the first one's row, and a line that each takes is accepted.
+use Rattle.records.specs.declared.Refusal.{Refusal}
+use Rattle.std.specs.Prelude.{Result, Ok, Err}
 use Prim.Native.Nat.{ℕ}
 use mathlib.Core.Path.{◌≡◌, refl, sym, ap, ◌∙◌}
 use mathlib.Core.Bool.{true, false}
 use mathlib.Core.List.{List}
 use lib.ListN.{length}
-use Rattle.records.specs.Answers.{Outcome, accepted, refused, row_of, reply}
+use Rattle.records.specs.Answers.{Outcome, accepted, refused, row_of, reply, outcome_of}
 use Rattle.records.proofs.AnswerLaws.{refused-not-accepted}
 use Rattle.account_spec.specs.declared.Account.{Account}
 use Rattle.account_spec.specs.Rules.{feed_of}
-use Rattle.list_spec.specs.declared.FedAll.{FedAll}
 use Rattle.list_spec.specs.Together.{together, left_together, Each, FirstRefuses}
 use Rattle.list_spec.specs.Alike.{unlike}
-use Rattle.list_spec.specs.Feeding.{size_out, any_impossible, feed_all_of, fed_all_as, FeedsAll}
+use Rattle.list_spec.specs.Feeding.{size_out, any_impossible, feed_all_of, FeedsAll}
 use Rattle.list_spec.specs.Promise.{In, LineTogether}
 use Rattle.list_spec.proofs.RunLaws.{accepted-fed, refused-same}
 
@@ -34,23 +35,23 @@ module _ {A : Type 0} (step : A → Outcome A) where
 
 -- ---- a line
 
-module _ (xs ys : List Account) (l : List ℕ) (r : FedAll) (k : FeedsAll xs l r ys) where
-  one-refused : (a : Account) → In a xs → (w : ℕ × ℕ) → feed_of a l ≡ refused w → (v : ℕ × ℕ) × (fed_all_as r ≡ refused v)
+module _ (xs ys : List Account) (l : List ℕ) (r : Result Unit Refusal) (k : FeedsAll xs l r ys) where
+  one-refused : (a : Account) → In a xs → (w : ℕ × ℕ) → feed_of a l ≡ refused w → (v : ℕ × ℕ) × (outcome_of r ≡ refused v)
   one-refused a at w e = by-reply r k
     where
-      by-reply : (s : FedAll) → FeedsAll xs l s ys → (v : ℕ × ℕ) × (fed_all_as s ≡ refused v)
-      by-reply FedAll.Accepted j = absurd (one-not-all (λ b. feed_of b l) at e (accepted-fed xs ys l j))
-      by-reply (FedAll.Refused s) j = (row_of s, refl)
+      by-reply : (s : Result Unit Refusal) → FeedsAll xs l s ys → (v : ℕ × ℕ) × (outcome_of s ≡ refused v)
+      by-reply (Ok tt) j = absurd (one-not-all (λ b. feed_of b l) at e (accepted-fed xs ys l j))
+      by-reply (Err s) j = (row_of s, refl)
 
-  size-row : size_out (length xs) ≡ true → fed_all_as r ≡ refused (22, 0)
+  size-row : size_out (length xs) ≡ true → outcome_of r ≡ refused (22, 0)
   unfolding feed_all_of
   size-row size = k.answers ∙ rw size refl
 
-  possible-row : size_out (length xs) ≡ false → any_impossible xs ≡ true → fed_all_as r ≡ refused (13, 0)
+  possible-row : size_out (length xs) ≡ false → any_impossible xs ≡ true → outcome_of r ≡ refused (13, 0)
   unfolding feed_all_of
   possible-row sized impossible = k.answers ∙ rw (sized, impossible) refl
 
-  alike-row : size_out (length xs) ≡ false → any_impossible xs ≡ false → unlike xs ≡ true → fed_all_as r ≡ refused (23, 0)
+  alike-row : size_out (length xs) ≡ false → any_impossible xs ≡ false → unlike xs ≡ true → outcome_of r ≡ refused (23, 0)
   unfolding feed_all_of
   alike-row sized possible differ = k.answers ∙ rw (sized, possible, differ) refl
 
@@ -59,10 +60,10 @@ module _ (xs ys : List Account) (l : List ℕ) (r : FedAll) (k : FeedsAll xs l r
     unfolding feed_all_of
     passed = rw (sized, possible, alike) refl
 
-    first-refused : (w : ℕ × ℕ) → FirstRefuses (λ a. feed_of a l) w xs → fed_all_as r ≡ refused w
+    first-refused : (w : ℕ × ℕ) → FirstRefuses (λ a. feed_of a l) w xs → outcome_of r ≡ refused w
     first-refused w first = k.answers ∙ ap reply (passed ∙ first-together (λ a. feed_of a l) w xs first)
 
-    each-accepted : (zs : List Account) → Each (λ a b. feed_of a l ≡ accepted b) xs zs → (fed_all_as r ≡ accepted tt) × (ys ≡ zs)
+    each-accepted : (zs : List Account) → Each (λ a b. feed_of a l ≡ accepted b) xs zs → (outcome_of r ≡ accepted tt) × (ys ≡ zs)
     each-accepted zs each =
         let is = passed ∙ each-together (λ a. feed_of a l) xs zs each in
         (k.answers ∙ ap reply is, k.leaves ∙ ap (left_together xs) is)

@@ -1,18 +1,19 @@
 -- Every account of a list ends as if it alone had been fed the lines that the list accepted, whatever trees share the list.
+use Rattle.records.specs.declared.Refusal.{Refusal}
+use Rattle.std.specs.Prelude.{Result, Ok, Err}
 use Prim.Native.Nat.{ℕ}
 use mathlib.Core.Path.{◌≡◌, refl, sym, ap, subst, ◌∙◌}
 use mathlib.Core.List.{List, ◌∷◌}
 use lib.ListN.{length}
-use Rattle.records.specs.Answers.{Outcome, accepted, refused, row_of, reply}
+use Rattle.records.specs.Answers.{Outcome, accepted, refused, row_of, reply, outcome_of}
 use Rattle.records.proofs.AnswerLaws.{refused-not-accepted, accepted-same, row-passed}
 use Rattle.account_spec.specs.declared.Account.{Account}
 use Rattle.account_spec.specs.Rules.{feed_of}
 use Rattle.account_spec.specs.Reading.{read_of}
 use Rattle.account_spec.specs.Runs.{TakesAll}
-use Rattle.list_spec.specs.declared.FedAll.{FedAll}
 use Rattle.list_spec.specs.Together.{left_together, Each}
 use Rattle.list_spec.specs.Alike.{unlike}
-use Rattle.list_spec.specs.Feeding.{size_out, any_impossible, feed_all_of, fed_all_as, FeedsAll}
+use Rattle.list_spec.specs.Feeding.{size_out, any_impossible, feed_all_of, FeedsAll}
 use Rattle.list_spec.specs.Runs.{LineFed, ListRun, stop, feeds, accepted_in}
 use Rattle.list_spec.specs.Promise.{At}
 use Rattle.list_spec.proofs.TogetherLaws.{each_same, each-through, together-is}
@@ -39,22 +40,22 @@ refused-left : (xs : List Account) (o : Outcome (List Account)) (w : ℕ × ℕ)
 refused-left xs (accepted ys) w e = refused-not-accepted (sym e)
 refused-left xs (refused v) w e = refl
 
-pub accepted-fed : (xs ys : List Account) (l : List ℕ) → FeedsAll xs l FedAll.Accepted ys → AllFed l xs ys
+pub accepted-fed : (xs ys : List Account) (l : List ℕ) → FeedsAll xs l (Ok tt) ys → AllFed l xs ys
 accepted-fed xs ys l k = accepted-left xs ys l (feed_all_of xs l) refl k.answers k.leaves
 
-pub refused-same : (xs ys : List Account) (l : List ℕ) (r : FedAll) → FeedsAll xs l r ys → (w : ℕ × ℕ) → fed_all_as r ≡ refused w → ys ≡ xs
+pub refused-same : (xs ys : List Account) (l : List ℕ) (r : Result Unit Refusal) → FeedsAll xs l r ys → (w : ℕ × ℕ) → outcome_of r ≡ refused w → ys ≡ xs
 refused-same xs ys l r k w e = k.leaves ∙ refused-left xs (feed_all_of xs l) w (sym k.answers ∙ e)
 
 -- ---- a run
 
 -- one line, before the rest
 line-alone :
-    (xs ys zs : List Account) (l : List ℕ) (es : List LineFed) (r : FedAll) → FeedsAll xs l r ys → Each (λ a b. TakesAll a (accepted_in es) b) ys zs →
+    (xs ys zs : List Account) (l : List ℕ) (es : List LineFed) (r : Result Unit Refusal) → FeedsAll xs l r ys → Each (λ a b. TakesAll a (accepted_in es) b) ys zs →
     Each (λ a b. TakesAll a (accepted_in (record { line = l; reply = r } ∷ es)) b) xs zs
 unfolding accepted_in
-line-alone xs ys zs l es FedAll.Accepted k rest = each-through (λ a b c fed more. TakesAll.line fed more) (accepted-fed xs ys l k) rest
-line-alone xs ys zs l es (FedAll.Refused r) k rest =
-    subst (λ (ws : List Account). Each (λ a b. TakesAll a (accepted_in es) b) ws zs) (refused-same xs ys l (FedAll.Refused r) k (row_of r) refl) rest
+line-alone xs ys zs l es (Ok tt) k rest = each-through (λ a b c fed more. TakesAll.line fed more) (accepted-fed xs ys l k) rest
+line-alone xs ys zs l es (Err r) k rest =
+    subst (λ (ws : List Account). Each (λ a b. TakesAll a (accepted_in es) b) ws zs) (refused-same xs ys l (Err r) k (row_of r) refl) rest
 
 pub run_alone : (xs ys : List Account) (es : List LineFed) → ListRun xs es ys → Each (λ a b. TakesAll a (accepted_in es) b) xs ys
 unfolding accepted_in

@@ -1,7 +1,7 @@
 -- What the accounts of a list have in common (W-210, row 23): year, period, hour count, phase, ceiling, hour kind and soil measure.
-use Rattle.std.specs.Prelude.{ℕ, Bool, false, not, ◌||◌, List, [], ◌∷◌}
+use Rattle.std.specs.Prelude.{ℕ, Bool, false, not, ◌||◌, List, [], ◌∷◌, Option, Some, None}
+use Rattle.trees.specs.declared.Figures.{Figures}
 use Rattle.trees.specs.declared.Measure.{Measure}
-use Rattle.trees.specs.declared.Choice.{Choice}
 use Rattle.measured.specs.Parameters.{no_parameters}
 use Rattle.measured.specs.Figures.{figures_in}
 use Rattle.records.specs.Numbers.{same_numbers}
@@ -14,9 +14,9 @@ abbrev by_measure : Measure → ℕ
 by_measure Measure.Suction = 1
 by_measure Measure.Water = 2
 
-abbrev pub measure_number : Choice → ℕ
-measure_number (Choice.Tree f) = by_measure f.measure
-measure_number Choice.Unknown = 0
+abbrev pub measure_number : Option Figures → ℕ
+measure_number (Some f) = by_measure f.measure
+measure_number None = 0
 
 abbrev pub common_numbers : Account → List ℕ
 common_numbers a =

@@ -1,10 +1,10 @@
 -- Feeding a list of accounts a line (W-210): rows 22, 13 and 23, then every account takes it or none.
-use Rattle.std.specs.Prelude.{ℕ, ◌≡◌, Bool, false, ◌||◌, List, [], ◌∷◌, eqb, ltb, length}
-use Rattle.records.specs.Answers.{Outcome, accepted, refused, row, row_of, reply}
+use Rattle.std.specs.Prelude.{ℕ, ◌≡◌, Bool, false, ◌||◌, List, [], ◌∷◌, eqb, ltb, length, Result}
+use Rattle.records.specs.declared.Refusal.{Refusal}
+use Rattle.records.specs.Answers.{Outcome, accepted, refused, row, row_of, reply, outcome_of}
 use Rattle.account_spec.specs.declared.Account.{Account}
 use Rattle.account_spec.specs.Account.{impossible}
 use Rattle.account_spec.specs.Rules.{feed_of}
-use Rattle.list_spec.specs.declared.FedAll.{FedAll}
 use Rattle.list_spec.specs.Together.{together, left_together}
 use Rattle.list_spec.specs.Alike.{unlike}
 
@@ -24,11 +24,7 @@ feed_all_of xs l =
     (row 23 (unlike xs)
     (together (λ a. feed_of a l) xs)))
 
-abbrev pub fed_all_as : FedAll → Outcome Unit
-fed_all_as FedAll.Accepted = accepted tt
-fed_all_as (FedAll.Refused r) = refused (row_of r)
-
 -- what `feed_all` promises of the list before and after
-pub record FeedsAll (before : List Account) (l : List ℕ) (r : FedAll) (after : List Account) : Type 0 where
-  pub answers : fed_all_as r ≡ reply (feed_all_of before l)
+pub record FeedsAll (before : List Account) (l : List ℕ) (r : Result Unit Refusal) (after : List Account) : Type 0 where
+  pub answers : outcome_of r ≡ reply (feed_all_of before l)
   pub leaves : after ≡ left_together before (feed_all_of before l)

@@ -1,18 +1,18 @@
 -- What holds of every list of lines fed to a list of accounts (W-210).
-use Rattle.std.specs.Prelude.{ℕ, ◌≡◌, true, false, List, [], ◌∷◌, ◌++◌, map, ◌↔◌, length}
-use Rattle.records.specs.Answers.{Outcome, accepted, refused}
+use Rattle.std.specs.Prelude.{ℕ, ◌≡◌, true, false, List, [], ◌∷◌, ◌++◌, map, ◌↔◌, length, Result}
+use Rattle.account_spec.specs.declared.Totals.{Totals}
+use Rattle.records.specs.declared.Refusal.{Refusal}
+use Rattle.records.specs.Answers.{Outcome, accepted, refused, outcome_of}
 use Rattle.account_spec.specs.declared.Account.{Account}
-use Rattle.account_spec.specs.declared.Reading.{Reading}
 use Rattle.account_spec.specs.Account.{fresh_account}
 use Rattle.account_spec.specs.Rules.{feed_of}
 use Rattle.account_spec.specs.Reading.{read_of, Reads}
 use Rattle.account_spec.specs.Book.{empty_book}
 use Rattle.account_spec.specs.Runs.{Event, taken, Run, line, calls_of, replies_of, account_after, TakesAll}
 use Rattle.account_spec.specs.Promise.{Kept, acceptances}
-use Rattle.list_spec.specs.declared.FedAll.{FedAll}
 use Rattle.list_spec.specs.Together.{Each, FirstRefuses, Together}
 use Rattle.list_spec.specs.Alike.{common_numbers, unlike}
-use Rattle.list_spec.specs.Feeding.{size_out, any_impossible, fed_all_as, FeedsAll}
+use Rattle.list_spec.specs.Feeding.{size_out, any_impossible, FeedsAll}
 use Rattle.list_spec.specs.Runs.{LineFed, ListRun, accepted_in}
 
 -- an account at a place of a list before, and at the same place after
@@ -27,21 +27,21 @@ pub data In {A : Type 0} (a : A) : List A → Type 0 where
 
 -- ---- one line
 
-pub record LineTogether (xs : List Account) (l : List ℕ) (r : FedAll) (ys : List Account) : Type 0 where
+pub record LineTogether (xs : List Account) (l : List ℕ) (r : Result Unit Refusal) (ys : List Account) : Type 0 where
   -- rows 22, 13 and 23, in that order
-  pub size : size_out (length xs) ≡ true → fed_all_as r ≡ refused (22, 0)
-  pub possible : size_out (length xs) ≡ false → any_impossible xs ≡ true → fed_all_as r ≡ refused (13, 0)
-  pub alike : size_out (length xs) ≡ false → any_impossible xs ≡ false → unlike xs ≡ true → fed_all_as r ≡ refused (23, 0)
+  pub size : size_out (length xs) ≡ true → outcome_of r ≡ refused (22, 0)
+  pub possible : size_out (length xs) ≡ false → any_impossible xs ≡ true → outcome_of r ≡ refused (13, 0)
+  pub alike : size_out (length xs) ≡ false → any_impossible xs ≡ false → unlike xs ≡ true → outcome_of r ≡ refused (23, 0)
   -- past them a line that each takes is accepted, and each is what it alone would be
   pub all : size_out (length xs) ≡ false → any_impossible xs ≡ false → unlike xs ≡ false → (zs : List Account) → Each (λ a b. feed_of a l ≡ accepted b) xs zs →
-      (fed_all_as r ≡ accepted tt) × (ys ≡ zs)
+      (outcome_of r ≡ accepted tt) × (ys ≡ zs)
   -- else the first that refuses gives its number
   pub first : size_out (length xs) ≡ false → any_impossible xs ≡ false → unlike xs ≡ false → (w : ℕ × ℕ) → FirstRefuses (λ a. feed_of a l) w xs →
-      fed_all_as r ≡ refused w
+      outcome_of r ≡ refused w
   -- refused by one it is refused for all
-  pub one : (a : Account) → In a xs → (w : ℕ × ℕ) → feed_of a l ≡ refused w → (v : ℕ × ℕ) × (fed_all_as r ≡ refused v)
+  pub one : (a : Account) → In a xs → (w : ℕ × ℕ) → feed_of a l ≡ refused w → (v : ℕ × ℕ) × (outcome_of r ≡ refused v)
   -- and none changes
-  pub unchanged : (w : ℕ × ℕ) → fed_all_as r ≡ refused w → ys ≡ xs
+  pub unchanged : (w : ℕ × ℕ) → outcome_of r ≡ refused w → ys ≡ xs
 
 -- ---- demand 3 for an account of a list
 
@@ -63,14 +63,14 @@ pub record Continued (a : Account) (own : Begun a) (ls : List (List ℕ)) (b : A
   pub replies : replies_of more ≡ acceptances (length ls)
   pub ends : account_after fresh_account (own.events ++ more) ≡ b
   pub kept : RunKept (own.events ++ more)
-  pub read : (r : Reading) → Reads b r → RunKept (own.events ++ more ++ taken r ∷ [])
+  pub read : (r : Result Totals Refusal) → Reads b r → RunKept (own.events ++ more ++ taken r ∷ [])
 
 pub record ListPromise : Type 0 where
   -- a list and any step: all take it, or the first that refuses answers
   pub step : (step : Account → Outcome Account) (xs : List Account) → Together step xs
   -- row 23 comes up exactly where two accounts differ in one of the seven things
   pub alike : (xs : List Account) → (unlike xs ≡ false) ↔ ((a b : Account) → In a xs → In b xs → common_numbers a ≡ common_numbers b)
-  pub line : (xs ys : List Account) (l : List ℕ) (r : FedAll) → FeedsAll xs l r ys → LineTogether xs l r ys
+  pub line : (xs ys : List Account) (l : List ℕ) (r : Result Unit Refusal) → FeedsAll xs l r ys → LineTogether xs l r ys
   -- every account ends as if it alone had been fed the lines that the list accepted
   pub alone : (xs ys : List Account) (es : List LineFed) → ListRun xs es ys → Each (λ a b. TakesAll a (accepted_in es) b) xs ys
   -- its reading does not depend on which trees share the list, for the same accepted lines

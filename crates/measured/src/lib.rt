@@ -5,14 +5,14 @@ ghost use Rattle.std.specs.Prelude.{◌≡◌};
 ghost use Rattle.trees.specs.Figures.{choice_row};
 ghost use Rattle.measured.specs.Parameters.{no_parameters, is_fed, degrees_of};
 ghost use Rattle.measured.specs.Warmth.{no_warmth, has_warmth};
-ghost use Rattle.measured.specs.Figures.{p_in, q_in, powers_in, measured_figures, figures_in, number_row};
+ghost use Rattle.measured.specs.Figures.{powers_in, measured_figures, figures_in, number_row};
 ghost use Rattle.measured.specs.Facts.{MeasuredFacts};
 
-use power::Reduced;
-use trees::{Choice, Figures, Measure, Phenology, Source, Warmth};
+use power::Ratio;
+use trees::{Figures, Measure, Phenology, Source, Warmth};
 
 // The sixteen numbers of a frame of kind 07, as they stand in its line; all 0 where none was fed. Units as in `Figures`, but for the temperatures: whole °C, two's complement.
-#[derive(Clone, Copy)]
+#[derive(Clone, Copy, Default, PartialEq, Eq)]
 pub struct Parameters {
     pub gmax: u16,
     pub fmin: u16,
@@ -39,103 +39,50 @@ const MEASURED: u8 = 7;
 pub fn no_parameters() -> Parameters
     ensures { result ≡ no_parameters }
 {
-    Parameters {
-        gmax: 0,
-        fmin: 0,
-        lighta: 0,
-        tmin: 0,
-        topt: 0,
-        tmax: 0,
-        vpdmax: 0,
-        vpdmin: 0,
-        soilmax: 0,
-        soilmin: 0,
-        leaf: 0,
-        a: 0,
-        e: 0,
-        f1: 0,
-        f4: 0,
-        y: 0,
-    }
+    Parameters::default()
 }
 
 // Some number is not 0.
 pub fn is_fed(p: Parameters) -> bool
     ensures { result ≡ is_fed p }
 {
-    !((p.gmax == 0)
-        & (p.fmin == 0)
-        & (p.lighta == 0)
-        & (p.tmin == 0)
-        & (p.topt == 0)
-        & (p.tmax == 0)
-        & (p.vpdmax == 0)
-        & (p.vpdmin == 0)
-        & (p.soilmax == 0)
-        & (p.soilmin == 0)
-        & (p.leaf == 0)
-        & (p.a == 0)
-        & (p.e == 0)
-        & (p.f1 == 0)
-        & (p.f4 == 0)
-        & (p.y == 0))
+    p != Parameters::default()
 }
 
 // Leaf age of a season whose frame of kind 08 was not fed.
 pub fn no_warmth() -> Warmth
     ensures { result ≡ no_warmth }
 {
-    Warmth {
-        rise: 0,
-        fall: 0,
-        end: 0,
-    }
+    Warmth::default()
 }
 
 // Some number is not 0.
 pub fn has_warmth(w: Warmth) -> bool
     ensures { result ≡ has_warmth w }
 {
-    !((w.rise == 0) & (w.fall == 0) & (w.end == 0))
+    w != Warmth::default()
 }
 
 // Whole degrees above -50 °C, out of two bytes in two's complement.
 pub fn degrees(n: u16) -> u16
     ensures { result ≡ degrees_of n }
 {
-    ((n as u32 + 50) % 65536) as u16
+    n.wrapping_add(50)
 }
 
 // p and q out of the three temperatures, both at most 22; none where there are no such, or the temperatures do not rise.
-pub fn powers(p: Parameters) -> Reduced
+pub fn powers(p: Parameters) -> Option<Ratio>
     ensures { result ≡ powers_in p }
 {
     power::powers(degrees(p.tmin), degrees(p.topt), degrees(p.tmax))
 }
 
-fn p_in(powers: Reduced) -> u16
-    ensures { result ≡ p_in powers }
-{
-    match powers {
-        Reduced::Of { p, q: _ } => p,
-        Reduced::None => 0,
-    }
-}
-
-fn q_in(powers: Reduced) -> u16
-    ensures { result ≡ q_in powers }
-{
-    match powers {
-        Reduced::Of { p: _, q } => q,
-        Reduced::None => 0,
-    }
-}
-
 // The figures that parameters make, their powers given.
-fn figures_by(p: Parameters, found: Reduced) -> Figures
+fn figures_by(p: Parameters, found: Option<Ratio>) -> Figures
     requires { found ≡ powers_in p }
     ensures { result ≡ measured_figures p }
 {
+    let ratio = found.unwrap_or(Ratio { p: 0, q: 0 });
     Figures {
         gmax: p.gmax,
         fmin: p.fmin,
@@ -143,8 +90,8 @@ fn figures_by(p: Parameters, found: Reduced) -> Figures
         tmin: degrees(p.tmin),
         topt: degrees(p.topt),
         tmax: degrees(p.tmax),
-        p: p_in(found),
-        q: q_in(found),
+        p: ratio.p,
+        q: ratio.q,
         source: Source::Worked,
         vpdmax: p.vpdmax,
         vpdmin: p.vpdmin,
@@ -170,22 +117,24 @@ pub fn figures(p: Parameters) -> Figures
 }
 
 // The figures of the tree with a number, 1 to 7; those of tree 7 before its parameters are fed. No powers are worked out, so that the compiler writes it out.
-pub fn figures_before(tree: u8) -> Choice
+#[tactic(auto, unfolding(crate::specs::Figures::figures_in, power::specs::Powers::powers_of))]
+pub fn figures_before(tree: u8) -> Option<Figures>
     ensures { result ≡ figures_in no_parameters tree }
 {
     if tree == MEASURED {
-        return Choice::Tree(figures_by(no_parameters(), Reduced::None));
+        return Some(figures_by(no_parameters(), None));
     }
     trees::figures_of(tree)
 }
 
 // The figures of the tree with a number, 1 to 7; those of tree 7 by its parameters.
-pub fn figures_in(parameters: Parameters, tree: u8) -> Choice
+#[tactic(auto, unfolding(crate::specs::Figures::figures_in))]
+pub fn figures_in(parameters: Parameters, tree: u8) -> Option<Figures>
     ensures value { result ≡ figures_in parameters tree }
     ensures row { choice_row result ≡ number_row tree }
 {
     if tree == MEASURED {
-        return Choice::Tree(figures(parameters));
+        return Some(figures(parameters));
     }
     trees::figures_of(tree)
 }

@@ -15,21 +15,20 @@ fn soil_from(water: u8, n: u16) -> Soil
     }
 }
 
+// Kept: the types of both ends are of other crates, so no From can stand here
 pub(crate) fn hour_from(readings: HourReadings, air: Air) -> Hour
     ensures { result ≡ hour_from readings air }
 {
-    let ozone = frames::ozone_of(readings.ozone);
-    let soil = soil_from(readings.water, readings.soil);
     Hour {
         day: readings.day,
         hour: readings.hour,
-        ozone: ozone,
+        ozone: frames::ozone_of(readings.ozone),
         ppfd: readings.ppfd,
         radiation: readings.radiation,
         temperature: readings.temperature,
-        air: air,
+        air,
         wind: readings.wind,
-        soil: soil,
+        soil: soil_from(readings.water, readings.soil),
     }
 }
 

@@ -1,21 +1,29 @@
 // The account that an answer gives, over the bytes of the one before.
-ghost use Rattle.std.specs.Prelude.{◌≤◌, length};
+ghost use Rattle.std.specs.Prelude.{◌≡◌, ◌≤◌, length};
+ghost use Rattle.std.specs.Result.{ForOk};
+ghost use Rattle.records.specs.Answers.{outcome_of};
 ghost use Rattle.account_spec.specs.Rules.{fed_as};
 ghost use Rattle.stored.specs.Packing.{total_width};
 ghost use Rattle.stored.specs.Layout.{widths};
 ghost use Rattle.part_spec.specs.Calls.{LeavesBytes};
 
-use account_spec::Fed;
+use account_spec::{Account, Fed};
+use frames::Refusal;
 
-pub(crate) fn leave(fed: Fed, account: &mut [u8]) -> u32
-    requires { total_width widths ≤ length account.old }
-    ensures { LeavesBytes account.old (fed_as fed) result account.new }
+// The next account that an answer gives.
+pub(crate) fn next_by(fed: Fed) -> Result<Account, Refusal>
+    ensures { outcome_of result ≡ fed_as fed }
 {
-    match fed {
-        Fed::Accepted(next) => {
-            let written = stored::store(next, account);
-            answers::of_written(written)
-        },
-        Fed::Refused(refusal, _) => answers::code_of(refusal),
+    fed.map_err(|(refusal, _)| refusal)
+}
+
+// The next account, stored over the one in a buffer that has room for it, or the code of a refusal.
+pub(crate) fn leave(next: Result<Account, Refusal>, account: &mut [u8]) -> u32
+    requires { ForOk next (λ _. total_width widths ≤ length account.old) }
+    ensures { LeavesBytes account.old (outcome_of next) result account.new }
+{
+    match next {
+        Ok(a) => answers::of_answer(stored::store(a, account)),
+        Err(refusal) => answers::code_of(refusal),
     }
 }

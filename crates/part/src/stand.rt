@@ -8,6 +8,5 @@ pub fn pod1_feed_all(accounts: &mut [u8], line: &[u8]) -> u32
     ensures feeds_all_bytes { FeedsAllBytes accounts.old line.now result accounts.new }
     ensures promise { ListedPromise }
 {
-    let answer = stored_list::feed_all(accounts, line);
-    answers::of_fed_all(answer)
+    answers::of_answer(stored_list::feed_all(accounts, line))
 }

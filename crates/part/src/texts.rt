@@ -18,8 +18,7 @@ pub fn pod1_report(text: &[u8], buffer: &mut [u8]) -> Printed
     ensures prints_bytes { PrintsBytes (accepted (report_of text.now)) buffer.old result buffer.new }
     ensures promise { ReportPromise }
 {
-    let written = report::season_report(text, buffer);
-    answers::printed_of(written)
+    answers::printed_of(report::season_report(text, buffer))
 }
 
 // Two texts that are alike but for ozone: the row and line of the first, then of the second, then row 19.

@@ -9,8 +9,7 @@ ghost use Rattle.part_spec.specs.Frames.{hour_from, parameters_from, placed_text
 
 use crate::given::{hour_from, parameters_from};
 use answers::Printed;
-use dates::Placed;
-use frames::{Air, Ceiling, End, Header, Record, Warmth, Written};
+use frames::{Air, Ceiling, End, Header, Record, Refusal, Warmth};
 use part_spec::{HourReadings, TreeParameters};
 
 // A record's line.
@@ -18,8 +17,7 @@ fn write(record: Record, buffer: &mut [u8]) -> Printed
     ensures prints_bytes { PrintsBytes (text_of «record») buffer.old result buffer.new }
     ensures round_trip { RoundTrip }
 {
-    let written = writer::write_frame(record, buffer);
-    answers::printed_of(written)
+    answers::printed_of(writer::write_frame(record, buffer))
 }
 
 // An hour's line, its kind by the air.
@@ -64,13 +62,9 @@ pub fn pod1_write_place(
     ensures prints_bytes { PrintsBytes (placed_text tree days level latitude height) buffer.old result buffer.new }
     ensures promise { PlacePromise }
 {
-    let placed = dates::header_at(tree, days, level, latitude, height);
-    match placed {
-        Placed::Header(header) => write(Record::Header(header), buffer),
-        Placed::Refused(refusal) => {
-            let written = Written::Refused(refusal);
-            answers::printed_of(written)
-        },
+    match dates::header_at(tree, days, level, latitude, height) {
+        Ok(header) => write(Record::Header(header), buffer),
+        Err(refusal) => answers::printed_of(Err(refusal)),
     }
 }
 
@@ -79,8 +73,7 @@ pub fn pod1_write_hour(hour: HourReadings, buffer: &mut [u8]) -> Printed
     ensures prints_bytes { PrintsBytes (text_of (Record.Hour (hour_from hour (Air.Deficit hour.vapour)))) buffer.old result buffer.new }
     ensures round_trip { RoundTrip }
 {
-    let air = Air::Deficit(hour.vapour);
-    write_hour(hour, air, buffer)
+    write_hour(hour, Air::Deficit(hour.vapour), buffer)
 }
 
 // Kind 04: an hour with the deficit and the pressure. Row 10.
@@ -90,7 +83,7 @@ pub fn pod1_write_hour_pressure(hour: HourReadings, pressure: u16, buffer: &mut 
 {
     let air = Air::Pressure {
         deficit: hour.vapour,
-        pressure: pressure,
+        pressure,
     };
     write_hour(hour, air, buffer)
 }
@@ -100,8 +93,7 @@ pub fn pod1_write_hour_humidity(hour: HourReadings, buffer: &mut [u8]) -> Printe
     ensures prints_bytes { PrintsBytes (text_of (Record.Hour (hour_from hour (Air.Humidity hour.vapour)))) buffer.old result buffer.new }
     ensures round_trip { RoundTrip }
 {
-    let air = Air::Humidity(hour.vapour);
-    write_hour(hour, air, buffer)
+    write_hour(hour, Air::Humidity(hour.vapour), buffer)
 }
 
 // Kind 03: the season's end.

@@ -1,4 +1,5 @@
 // The part as C links it: each export calls the function of its name in `part`, with the same clauses.
+// Kept for the C interface: each signature of `part` stands here again, as an export.
 // A code is 0, or the row that refuses the call plus 256 times the field that rows 10 and 26 name.
 #![tactic(auto)]
 

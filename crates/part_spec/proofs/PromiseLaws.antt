@@ -3,11 +3,11 @@ use Prim.Native.Nat.{ℕ}
 use mathlib.Core.Path.{◌≡◌, refl, sym, ap, ◌∙◌}
 use mathlib.Core.List.{List, [], ◌∷◌}
 use native.Mathlib.Omega.{arith}
-use Rattle.records.specs.Answers.{Outcome, accepted, refused}
+use Rattle.records.specs.Answers.{Outcome, accepted, refused, outcome_of}
 use Rattle.account_spec.specs.declared.Account.{Account}
 use Rattle.account_spec.specs.Account.{fresh_account}
 use Rattle.account_spec.specs.Rules.{feed_of, fed_as, left_by, left_of}
-use Rattle.account_spec.specs.Reading.{read_of, reading_as}
+use Rattle.account_spec.specs.Reading.{read_of}
 use Rattle.account_spec.specs.Runs.{Event, fed, taken, Run, Call, line, reading, calls_of}
 use Rattle.account_spec.specs.Promise.{SeasonPromise}
 use Rattle.stored.specs.Layout.{take_up_of}
@@ -53,7 +53,7 @@ told_same a b (fed m r ∷ es) (reading_told f ∷ ts) held (Run.feeds j more) r
 told_same a b (taken r ∷ es) [] held (Run.reads j more) run e = let z : ◌≡◌ {A = ℕ} 0 1 = cc in absurd (omega arith)
 told_same a b (taken r ∷ es) (line_told l code ∷ ts) held (Run.reads j more) run e = let z : ◌≡◌ {A = ℕ} 0 1 = cc in absurd (omega arith)
 told_same a b (taken r ∷ es) (reading_told f ∷ ts) held (Run.reads j more) (BytesRun.reads k run) e =
-    let read : readout_of (reading_as r) ≡ f = ap readout_of (j.answers ∙ sym (read_is a b held)) ∙ sym k in
+    let read : readout_of (outcome_of r) ≡ f = ap readout_of (j.answers ∙ sym (read_is a b held)) ∙ sym k in
     ap (λ (x : Readout). reading_told x ∷ told_of es) read
     ∙ ap (λ (xs : List Told). reading_told f ∷ xs) (told_same a b es ts held more run cc)
 

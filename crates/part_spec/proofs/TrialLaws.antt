@@ -1,4 +1,5 @@
 -- Trials in bytes, by what the calls below them answer.
+use Rattle.std.specs.Prelude.{Result, Ok, Err}
 use Prim.Native.Nat.{ℕ}
 use mathlib.Core.Path.{◌≡◌, refl, sym, ap, ◌∙◌}
 use mathlib.Core.Bool.{Bool, true, false}
@@ -6,23 +7,18 @@ use mathlib.Core.List.{List, ◌++◌}
 use lib.Dec.{ltb}
 use lib.ListN.{length, drop}
 use Rattle.records.specs.declared.Refusal.{Refusal}
-use Rattle.records.specs.declared.Written.{Written}
-use Rattle.records.specs.Answers.{Outcome, accepted, refused, row_of, written_as}
+use Rattle.records.specs.Answers.{Outcome, accepted, refused, row_of, outcome_of}
 use Rattle.records.specs.Buffer.{Prints}
 use Rattle.records.proofs.AnswerLaws.{accepted-same, refused-not-accepted}
 use Rattle.account_spec.specs.declared.Account.{Account}
-use Rattle.account_spec.specs.declared.Fed.{Fed}
-use Rattle.account_spec.specs.Rules.{fed_as, left_of, Answers}
-use Rattle.account_spec.specs.Reading.{reading_as}
-use Rattle.stored.specs.declared.Held.{Held}
-use Rattle.stored.specs.Layout.{take_up_of, held_as}
+use Rattle.account_spec.specs.Rules.{fed_as, Fed}
+use Rattle.stored.specs.Layout.{take_up_of}
 use Rattle.answers.specs.declared.Tried.{Tried}
 use Rattle.answers.specs.Code.{code_of, code_of_row}
 use Rattle.answers.specs.Reading.{readout_of, no_trial}
 use Rattle.trial_spec.specs.declared.Trial.{Trial}
 use Rattle.trial_spec.specs.Trial.{Tries}
 use Rattle.trial_spec.specs.Taking.{take_of, TakesTrial}
-use Rattle.stored_trial.specs.declared.HeldTrial.{HeldTrial}
 use Rattle.stored_trial.specs.Layout.{Contents, contents_of, carried_by, trial_width, trial_bytes, contents_in, Holds}
 use Rattle.stored_trial.specs.Layout.{held_as as trial_held_as}
 use Rattle.stored_trial.specs.RoundTrip.{TrialTakenUp}
@@ -46,30 +42,30 @@ tries-row account line before after answer r q is same = record {
   carries = λ c e. refused-not-accepted (sym q ∙ e);
 }
 
-pub tries-none : (account line before : List ℕ) (held : Held) (why : Refusal) (answer : Tried) → held_as held ≡ take_up_of account → held ≡ Held.Refused why
+pub tries-none : (account line before : List ℕ) (held : Result Account Refusal) (why : Refusal) (answer : Tried) → outcome_of held ≡ take_up_of account → held ≡ Err why
     → answer ≡ no_trial (code_of_row (row_of why)) → TriesBytes account line before answer before
 unfolding tried_in
-tries-none account line before held why answer taken e is = tries-row account line before before answer (row_of why) (rw (sym taken ∙ ap held_as e) refl) is refl
+tries-none account line before held why answer taken e is = tries-row account line before before answer (row_of why) (rw (sym taken ∙ ap outcome_of e) refl) is refl
 
-module _ (account line before after : List ℕ) (a : Account) (t : Trial) (w : Written) (has : take_up_of account ≡ accepted a) (made : Tries a line t)
-    (p : Prints (accepted (trial_bytes (contents_of t))) before w after) (back : written_as w ≡ accepted trial_width → TrialTakenUp t) where
+module _ (account line before after : List ℕ) (a : Account) (t : Trial) (w : Result ℕ Refusal) (has : take_up_of account ≡ accepted a) (made : Tries a line t)
+    (p : Prints (accepted (trial_bytes (contents_of t))) before w after) (back : outcome_of w ≡ accepted trial_width → TrialTakenUp t) where
   same : contents_of t ≡ contents_by a line
   same = contents-same (ap code_of made.answer.answers) made.tried made.answer.leaves
 
   test-is : (b : Bool) → ltb (length before) trial_width ≡ b → ltb (length before) (length (trial_bytes (contents_of t))) ≡ b
   test-is b f = ap (λ (n : ℕ). ltb (length before) n) (trial-length (contents_of t)) ∙ f
 
-  short-by : (b : Bool) → ltb (length before) trial_width ≡ b → (why : Refusal) (answer : Tried) → w ≡ Written.Refused why → answer ≡ no_trial (code_of_row (row_of why))
+  short-by : (b : Bool) → ltb (length before) trial_width ≡ b → (why : Refusal) (answer : Tried) → w ≡ Err why → answer ≡ no_trial (code_of_row (row_of why))
       → TriesBytes account line before answer after
   unfolding tried_in
   short-by true f why answer e is =
-      let row_is : row_of why ≡ (12, 0) = refused-same (ap written_as (sym e) ∙ p.answers ∙ rw (test-is true f) refl) in
+      let row_is : row_of why ≡ (12, 0) = refused-same (ap outcome_of (sym e) ∙ p.answers ∙ rw (test-is true f) refl) in
       tries-row account line before after answer (12, 0) (rw (has, f) refl) (is ∙ ap (λ (r : ℕ × ℕ). no_trial (code_of_row r)) row_is) (p.leaves ∙ rw (test-is true f) refl)
   short-by false f why answer e is =
-      let q : refused (row_of why) ≡ accepted (length (trial_bytes (contents_of t))) = ap written_as (sym e) ∙ p.answers ∙ rw (test-is false f) refl in
+      let q : refused (row_of why) ≡ accepted (length (trial_bytes (contents_of t))) = ap outcome_of (sym e) ∙ p.answers ∙ rw (test-is false f) refl in
       refused-not-accepted q
 
-  pub tries-short : (why : Refusal) (answer : Tried) → w ≡ Written.Refused why → answer ≡ no_trial (code_of_row (row_of why)) → TriesBytes account line before answer after
+  pub tries-short : (why : Refusal) (answer : Tried) → w ≡ Err why → answer ≡ no_trial (code_of_row (row_of why)) → TriesBytes account line before answer after
   tries-short = short-by (ltb (length before) trial_width) refl
 
   made_bytes : ltb (length before) trial_width ≡ false → after ≡ trial_bytes (contents_by a line) ++ drop trial_width before
@@ -88,15 +84,15 @@ module _ (account line before after : List ℕ) (a : Account) (t : Trial) (w : W
   carried = ap carried_by (sym same) ∙ fed-answer t.answer ∙ made.answer.answers ∙ sym (fed-is a account has line)
 
   abbrev told : Tried
-  told = record { code = 0; answer = code_of (fed_as t.answer); reading = readout_of (reading_as t.reading) }
+  told = record { code = 0; answer = code_of (fed_as t.answer); reading = readout_of (outcome_of t.reading) }
 
   told_is : told ≡ tried_of (accepted (contents_by a line))
   told_is = rw (made.answer.answers, made.reading.answers) refl
 
-  made-by-test : (b : Bool) → ltb (length before) trial_width ≡ b → (n : ℕ) (answer : Tried) → w ≡ Written.Bytes n → answer ≡ told → TriesBytes account line before answer after
+  made-by-test : (b : Bool) → ltb (length before) trial_width ≡ b → (n : ℕ) (answer : Tried) → w ≡ Ok n → answer ≡ told → TriesBytes account line before answer after
   unfolding tried_in
   made-by-test true f n answer e is =
-      let q : accepted n ≡ refused (12, 0) = ap written_as (sym e) ∙ p.answers ∙ rw (test-is true f) refl in
+      let q : accepted n ≡ refused (12, 0) = ap outcome_of (sym e) ∙ p.answers ∙ rw (test-is true f) refl in
       refused-not-accepted (sym q)
   made-by-test false f n answer e is =
       let q : tried_in account line (length before) ≡ accepted (contents_by a line) = rw (has, f) refl in
@@ -107,20 +103,20 @@ module _ (account line before after : List ℕ) (a : Account) (t : Trial) (w : W
         carries = λ c g. ap carried_by (accepted-same (sym g ∙ q)) ∙ carried;
       }
 
-  pub tries-made : (n : ℕ) (answer : Tried) → w ≡ Written.Bytes n → answer ≡ told → TriesBytes account line before answer after
+  pub tries-made : (n : ℕ) (answer : Tried) → w ≡ Ok n → answer ≡ told → TriesBytes account line before answer after
   tries-made = made-by-test (ltb (length before) trial_width) refl
 
 -- ---- taking
 
-module _ (a : Account) (trial : List ℕ) (found : HeldTrial) (holds : Holds (contents_in trial) found) where
-  pub taken_none : (why : Refusal) → found ≡ HeldTrial.Refused why → Answers a (taken_from trial a) (Fed.Refused why a)
+module _ (a : Account) (trial : List ℕ) (found : Result Trial Refusal) (holds : Holds (contents_in trial) found) where
+  pub taken_none : (why : Refusal) → found ≡ Err why → refused (row_of why) ≡ taken_from trial a
   taken_none why e =
       let q : contents_in trial ≡ refused (row_of why) = sym holds.answers ∙ ap trial_held_as e in
-      record { answers = rw q refl; leaves = rw q refl }
+      rw q refl
 
-  pub taken-trial : (t : Trial) → found ≡ HeldTrial.Trial t → (fed : Fed) → TakesTrial a t fed → Answers a (taken_from trial a) fed
+  pub taken-trial : (t : Trial) → found ≡ Ok t → (fed : Fed) → TakesTrial a t fed → fed_as fed ≡ taken_from trial a
   unfolding take_of
   taken-trial t e fed takes =
       let q : contents_in trial ≡ accepted (contents_of t) = sym holds.answers ∙ ap trial_held_as e in
       let is : taken_from trial a ≡ take_of a t = rw (q, fed-answer t.answer) refl in
-      record { answers = takes.answers ∙ sym is; leaves = takes.leaves ∙ ap (left_of a) (sym is) }
+      takes.answers ∙ sym is

@@ -1,7 +1,7 @@
 -- What each exported call answers and leaves.
-use Rattle.std.specs.Prelude.{ℕ, ◌≡◌, List, ◌++◌, length, drop}
-use Rattle.records.specs.declared.Written.{Written}
-use Rattle.records.specs.Answers.{Outcome, accepted, refused, onward, written_as}
+use Rattle.std.specs.Prelude.{ℕ, ◌≡◌, List, ◌++◌, length, drop, Result}
+use Rattle.records.specs.declared.Refusal.{Refusal}
+use Rattle.records.specs.Answers.{Outcome, accepted, refused, onward, outcome_of}
 use Rattle.records.specs.Buffer.{put_of, buffer_after, Prints}
 use Rattle.account_spec.specs.declared.Account.{Account}
 use Rattle.account_spec.specs.declared.Totals.{Totals}
@@ -54,9 +54,9 @@ read_in before = onward (take_up_of before) read_of
 
 -- what `Prints` answers, as numbers, and leaves
 pub record PrintsBytes (text : Outcome (List ℕ)) (before : List ℕ) (answer : Printed) (after : List ℕ) : Type 0 where
-  pub written : Written
+  pub written : Result ℕ Refusal
   pub prints : Prints text before written after
-  pub answers : answer ≡ printed_of (written_as written)
+  pub answers : answer ≡ printed_of (outcome_of written)
 
 unfoldable pub line_in : List ℕ → Outcome (List ℕ)
 line_in before = onward (take_up_of before) format_of

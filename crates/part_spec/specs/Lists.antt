@@ -1,11 +1,11 @@
 -- One line to several accounts that stand in bytes one after the other (W-210).
-use Rattle.std.specs.Prelude.{ℕ, ◌≡◌, List}
-use Rattle.list_spec.specs.declared.FedAll.{FedAll}
+use Rattle.std.specs.Prelude.{ℕ, ◌≡◌, List, Result}
+use Rattle.records.specs.declared.Refusal.{Refusal}
 use Rattle.stored_list.specs.Feeding.{fed_listed_of, FeedsListed}
 use Rattle.answers.specs.Code.{code_of}
 
 -- the code of what `FeedsListed` replies; the bytes as it leaves them
 pub record FeedsAllBytes (before line : List ℕ) (answer : ℕ) (after : List ℕ) : Type 0 where
   pub answers : answer ≡ code_of (fed_listed_of before line)
-  pub reply : FedAll
+  pub reply : Result Unit Refusal
   pub feeds : FeedsListed before line reply after

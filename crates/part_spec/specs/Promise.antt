@@ -1,9 +1,8 @@
 -- Demand 3 for the part: one claim about every list of calls on bytes that hold a fresh account.
 use Rattle.std.specs.Prelude.{ℕ, ◌≡◌, List, [], ◌∷◌}
-use Rattle.records.specs.Answers.{accepted}
+use Rattle.records.specs.Answers.{accepted, outcome_of}
 use Rattle.account_spec.specs.Account.{fresh_account}
 use Rattle.account_spec.specs.Rules.{fed_as}
-use Rattle.account_spec.specs.Reading.{reading_as}
 use Rattle.account_spec.specs.Book.{empty_book}
 use Rattle.account_spec.specs.Runs.{Event, fed, taken, Run}
 use Rattle.account_spec.specs.Promise.{Kept}
@@ -28,7 +27,7 @@ pub data BytesRun : List ℕ → List Told → Type 0 where
 abbrev pub told_of : List Event → List Told
 told_of [] = []
 told_of (fed l r ∷ es) = line_told l (code_of (fed_as r)) ∷ told_of es
-told_of (taken r ∷ es) = reading_told (readout_of (reading_as r)) ∷ told_of es
+told_of (taken r ∷ es) = reading_told (readout_of (outcome_of r)) ∷ told_of es
 
 pub record SeasonTold (ts : List Told) : Type 0 where
   pub events : List Event

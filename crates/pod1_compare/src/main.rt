@@ -7,65 +7,72 @@ ghost use Rattle.records.specs.Buffer.{Prints};
 ghost use Rattle.compare_spec.specs.Comparison.{comparison_as};
 ghost use Rattle.pod1_compare.specs.Answer.{comparison_line};
 
-use compare::Comparison;
-use frames::{Refusal, Written};
+use compare::{Differences, NotCompared};
+use frames::Refusal;
 use std::env::Env;
+use std::io;
 use std::rt::Files;
-use words::{Got, Said};
 
 // The first line of an answer.
-fn put_comparison(answer: Comparison, buf: &mut [u8]) -> Written
+#[tactic(auto, unfolding(crate::specs::Answer::comparison_line))]
+fn put_comparison(
+    answer: Result<Differences, NotCompared>,
+    buf: &mut [u8],
+) -> Result<usize, Refusal>
     ensures { Prints (accepted (comparison_line (comparison_as answer))) buf.old result buf.new }
 {
     match answer {
-        Comparison::Compared(found) => {
-            lines::put_pair(found.hours as u64, found.sum as u64, buf)
+        Ok(found) => lines::put_pair(found.hours as u64, found.sum as u64, buf),
+        Err(NotCompared::First(stop)) => {
+            lines::put_text_refused(1, frames::row_of(stop.refusal), stop.line, buf)
         },
-        Comparison::Stopped { text, row, line } => lines::put_text_refused(text, row, line, buf),
-        Comparison::Unlike => lines::put_refused(frames::row_of(Refusal::Unlike), buf),
+        Err(NotCompared::Second(stop)) => {
+            lines::put_text_refused(2, frames::row_of(stop.refusal), stop.line, buf)
+        },
+        Err(NotCompared::Unlike) => lines::put_refused(frames::row_of(Refusal::Unlike), buf),
     }
 }
 
 // The second line: an hour's line out of the second text, where there is one.
-fn print_difference(rt: &impl Print, line: &[u8]) {
-    if 0 < line.len() {
-        words::print(rt, line);
-        words::print(rt, b"\n");
+fn print_difference(rt: &impl Print, line: &[u8]) -> io::Result<()> {
+    if line.is_empty() {
+        return Ok(());
     }
+    rt.write_all(line)?;
+    println!(rt; "")
 }
 
-fn print_comparison(rt: &impl Print, first: &[u8], second: &[u8], tolerance: u16) {
+fn print_comparison(
+    rt: &impl Print,
+    first: &[u8],
+    second: &[u8],
+    tolerance: u16,
+) -> io::Result<()> {
     let mut line = [0; 160];
     let written = put_comparison(compare::compare(first, second, tolerance), &mut line);
-    words::print_written(rt, &line, written);
-    print_difference(rt, compare::first_difference(first, second, tolerance));
+    words::print_written(rt, &line, written)?;
+    print_difference(rt, compare::first_difference(first, second, tolerance))
 }
 
-// A word that is no number and a file that cannot be read print nothing.
-fn print_answer(rt: &(impl Env + Files + Print), first: &mut [u8], second: &mut [u8]) {
-    let Said::Number(tolerance) = words::number_at(rt, 3) else {
-        return;
-    };
-    let Got::Bytes(n) = words::read_named(rt, 1, first) else {
-        return;
-    };
-    let Got::Bytes(m) = words::read_named(rt, 2, second) else {
-        return;
-    };
-    print_comparison(
-        rt,
-        words::front(first, n),
-        words::front(second, m),
-        tolerance,
-    );
-}
-
-// A text longer than what is read of it is refused by the same row at the same line (`text_buffer`), so it has no line to hand back.
-fn main(rt: HostRuntime) {
-    if words::word_count(&rt) != 4 {
-        return;
+// A word that is no number and a file that cannot be read print nothing. A text longer than what is read of it is refused by the same row at the same line, so
+// it has no line to hand back.
+fn print_answer(rt: &(impl Env + Files + Print + AllocGlobal)) -> io::Result<()> {
+    if words::word_count(rt) != 4 {
+        return Ok(());
     }
-    let mut first = words::text_buffer();
-    let mut second = words::text_buffer();
-    print_answer(&rt, &mut first, &mut second);
+    let Some(tolerance) = words::number_at(rt, 3) else {
+        return Ok(());
+    };
+    let Some(first) = words::read_named(rt, 1) else {
+        return Ok(());
+    };
+    let Some(second) = words::read_named(rt, 2) else {
+        return Ok(());
+    };
+    print_comparison(rt, first.as_slice(), second.as_slice(), tolerance)
+}
+
+// A write that fails ends it.
+fn main(rt: HostRuntime) {
+    let _ = print_answer(&rt);
 }

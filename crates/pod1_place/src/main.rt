@@ -1,57 +1,67 @@
 // The header of a place (W-202): `pod1_place TREE YEAR LEVEL LATITUDE HEIGHT` prints its line, or the row that refuses it.
 #![tactic(auto)]
 
-use dates::Placed;
 use frames::{Header, Record, Refusal};
-use words::Said;
+use std::env::Env;
+use std::io;
 
-fn print_header(rt: &impl Print, header: Header) {
+// The words' numbers.
+#[derive(Clone, Copy)]
+struct Place {
+    tree: u8,
+    year: u16,
+    level: u16,
+    latitude: u16,
+    height: u16,
+}
+
+// A tree's number is the greatest of 8 bits for any that is greater. None where a word is no number.
+fn place_of(rt: &impl Env) -> Option<Place> {
+    let tree = words::number_at(rt, 1)?;
+    Some(Place {
+        tree: u8::try_from(tree).unwrap_or(u8::MAX),
+        year: words::number_at(rt, 2)?,
+        level: words::number_at(rt, 3)?,
+        latitude: words::number_at(rt, 4)?,
+        height: words::number_at(rt, 5)?,
+    })
+}
+
+fn print_header(rt: &impl Print, header: Header) -> io::Result<()> {
     let mut line = [0; 160];
     let written = writer::write_frame(Record::Header(header), &mut line);
-    words::print_written(rt, &line, written);
-    words::print(rt, b"\n");
+    words::print_written(rt, &line, written)?;
+    println!(rt; "")
 }
 
-fn print_refused(rt: &impl Print, refusal: Refusal) {
+fn print_refused(rt: &impl Print, refusal: Refusal) -> io::Result<()> {
     let mut line = [0; 160];
     let written = lines::put_refused(frames::row_of(refusal), &mut line);
-    words::print_written(rt, &line, written);
-}
-
-fn print_placed(rt: &impl Print, answer: Placed) {
-    match answer {
-        Placed::Header(header) => print_header(rt, header),
-        Placed::Refused(refusal) => print_refused(rt, refusal),
-    }
-}
-
-// A tree's number, the greatest of 8 bits for any that is greater.
-fn tree_of(n: u16) -> u8 {
-    if n < 255 { n as u8 } else { 255 }
+    words::print_written(rt, &line, written)
 }
 
 // A word that is no number prints nothing.
-fn main(rt: HostRuntime) {
-    if words::word_count(&rt) != 6 {
-        return;
+fn print_answer(rt: &(impl Env + Print)) -> io::Result<()> {
+    if words::word_count(rt) != 6 {
+        return Ok(());
     }
-    let Said::Number(tree) = words::number_at(&rt, 1) else {
-        return;
+    let Some(place) = place_of(rt) else {
+        return Ok(());
     };
-    let Said::Number(year) = words::number_at(&rt, 2) else {
-        return;
-    };
-    let Said::Number(level) = words::number_at(&rt, 3) else {
-        return;
-    };
-    let Said::Number(latitude) = words::number_at(&rt, 4) else {
-        return;
-    };
-    let Said::Number(height) = words::number_at(&rt, 5) else {
-        return;
-    };
-    print_placed(
-        &rt,
-        dates::header_at(tree_of(tree), year, level, latitude, height),
+    let answer = dates::header_at(
+        place.tree,
+        place.year,
+        place.level,
+        place.latitude,
+        place.height,
     );
+    match answer {
+        Ok(header) => print_header(rt, header),
+        Err(refusal) => print_refused(rt, refusal),
+    }
+}
+
+// A write that fails ends it.
+fn main(rt: HostRuntime) {
+    let _ = print_answer(&rt);
 }

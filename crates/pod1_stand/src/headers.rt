@@ -1,59 +1,31 @@
 // An account for each header.
-use crate::season::find;
-use crate::stand::{Stand, Stopped};
-use account::Fed;
+use crate::stopped::Stopped;
+use account::Account;
+use frames::Refusal;
 use std::env::Env;
 
 // A header's line, and behind commas those that belong to it, fed to a fresh account.
-fn open_by(word: &[u8]) -> Fed {
+fn open_by(word: &[u8]) -> Result<Account, Refusal> {
     let mut held = account::fresh();
-    let mut at = 0;
-    loop {
-        let end = find(word, at, b',');
-        let answer = account::feed(held, &word[at..end]);
-        let Fed::Accepted(next) = answer else {
-            return answer;
-        };
-        if word.len() <= end {
-            return answer;
-        }
-        held = next;
-        at = end + 1;
+    for line in word.split(|b| *b == b',') {
+        held = account::feed(held, line).map_err(|(refusal, _)| refusal)?;
     }
+    Ok(held)
 }
 
 // By the program's word at a place.
-fn open_at(rt: &impl Env, place: usize) -> Fed {
-    let mut word = words::word_buffer();
-    let n = words::word_at(rt, place, &mut word);
-    open_by(words::front(&word, n))
+fn open_at(rt: &impl Env, place: usize) -> Result<Account, Refusal> {
+    let mut buf = words::word_buffer();
+    open_by(words::word_at(rt, place, &mut buf))
 }
 
-// The program's words from place 2 on are the headers.
-pub(crate) fn open_all(rt: &impl Env, count: usize) -> Stand {
-    let mut accounts = [account::fresh(); 6];
-    let mut i = 0;
-    while i < 6 {
-        if count <= i {
-            break;
-        }
-        let answer = open_at(rt, i + 2);
-        match answer {
-            Fed::Accepted(next) => accounts[i] = next,
-            Fed::Refused(refusal, _) => {
-                return Stand {
-                    accounts: accounts,
-                    stopped: Stopped::Header {
-                        row: frames::row_of(refusal),
-                        header: i as u64 + 1,
-                    },
-                };
-            },
-        }
-        i += 1;
+// The program's words from place 2 on are the headers, six at most.
+pub(crate) fn open_all(rt: &impl Env, accounts: &mut [Account]) -> Result<(), Stopped> {
+    for (header, account) in (1u8..=6).zip(accounts.iter_mut()) {
+        *account = open_at(rt, usize::from(header) + 1).map_err(|refusal| Stopped::Header {
+            refusal,
+            header: u64::from(header),
+        })?;
     }
-    Stand {
-        accounts: accounts,
-        stopped: Stopped::Not,
-    }
+    Ok(())
 }

@@ -4,83 +4,74 @@
 
 mod headers;
 mod season;
-mod stand;
+mod stopped;
 
 use account::Account;
 use frames::Refusal;
-use stand::Stopped;
 use std::env::Env;
+use std::io;
 use std::rt::Files;
-use words::Got;
+use stopped::Stopped;
 
-fn print_account(rt: &impl Print, held: Account) {
+fn print_account(rt: &impl Print, held: Account) -> io::Result<()> {
     let mut line = [0; 160];
     let written = report::format(held, &mut line);
-    words::print_written(rt, &line, written);
+    words::print_written(rt, &line, written)
 }
 
-fn print_accounts(rt: &impl Print, accounts: [Account; 6], count: usize) {
-    let mut i = 0;
-    while i < count {
-        if i < 6 {
-            print_account(rt, accounts[i]);
+fn print_accounts(rt: &impl Print, accounts: &[Account]) -> io::Result<()> {
+    for account in accounts {
+        print_account(rt, *account)?;
+    }
+    Ok(())
+}
+
+fn print_stopped(rt: &impl Print, stopped: Stopped) -> io::Result<()> {
+    let mut buf = [0; 160];
+    let written = match stopped {
+        Stopped::Call(refusal) => lines::put_refused(frames::row_of(refusal), &mut buf),
+        Stopped::Header { refusal, header } => {
+            lines::put_header_refused(frames::row_of(refusal), header, &mut buf)
         }
-        i += 1;
-    }
+        Stopped::Line { refusal, line } => {
+            lines::put_refusal(frames::row_of(refusal), line, &mut buf)
+        }
+    };
+    words::print_written(rt, &buf, written)
 }
 
-fn print_stopped(rt: &impl Print, stopped: Stopped) {
-    let mut line = [0; 160];
-    match stopped {
-        Stopped::Not => (),
-        Stopped::Call(row) => {
-            let written = lines::put_refused(row, &mut line);
-            words::print_written(rt, &line, written);
-        },
-        Stopped::Header { row, header } => {
-            let written = lines::put_header_refused(row, header, &mut line);
-            words::print_written(rt, &line, written);
-        },
-        Stopped::Line { row, line: at } => {
-            let written = lines::put_refusal(row, at, &mut line);
-            words::print_written(rt, &line, written);
-        },
+// An account for each header, fed the text.
+fn feed(rt: &impl Env, text: &[u8], accounts: &mut [Account]) -> Result<(), Stopped> {
+    if accounts.is_empty() {
+        return Err(Stopped::Call(Refusal::ListSize));
     }
+    headers::open_all(rt, accounts)?;
+    season::feed_all(text, accounts)
 }
 
-// The accounts of some headers, fed a text.
-fn print_stand(rt: &(impl Env + Print), text: &[u8], count: usize) {
-    if (count == 0) | (6 < count) {
-        return print_stopped(rt, Stopped::Call(frames::row_of(Refusal::ListSize)));
+fn print_stand(rt: &(impl Env + Print), text: &[u8], count: usize) -> io::Result<()> {
+    let mut six = [account::fresh(); 6];
+    let Some(accounts) = six.get_mut(..count) else {
+        return print_stopped(rt, Stopped::Call(Refusal::ListSize));
+    };
+    match feed(rt, text, accounts) {
+        Ok(()) => print_accounts(rt, accounts),
+        Err(stopped) => print_stopped(rt, stopped),
     }
-    let opened = headers::open_all(rt, count);
-    let unopened = opened.stopped;
-    let Stopped::Not = unopened else {
-        return print_stopped(rt, unopened);
-    };
-    let accounts = opened.accounts;
-    let stood = season::feed_all(text, accounts, count);
-    let stopped = stood.stopped;
-    let Stopped::Not = stopped else {
-        return print_stopped(rt, stopped);
-    };
-    let fed = stood.accounts;
-    print_accounts(rt, fed, count);
 }
 
 // A file that cannot be read prints nothing.
-fn print_answer(rt: &(impl Env + Files + Print), text: &mut [u8], count: usize) {
-    let Got::Bytes(n) = words::read_named(rt, 1, text) else {
-        return;
+fn print_answer(rt: &(impl Env + Files + Print + AllocGlobal)) -> io::Result<()> {
+    let Some(count) = words::word_count(rt).checked_sub(2) else {
+        return Ok(());
     };
-    print_stand(rt, words::front(text, n), count);
+    let Some(text) = words::read_named(rt, 1) else {
+        return Ok(());
+    };
+    print_stand(rt, text.as_slice(), count)
 }
 
+// A write that fails ends it.
 fn main(rt: HostRuntime) {
-    let given = words::word_count(&rt);
-    if given < 2 {
-        return;
-    }
-    let mut text = words::text_buffer();
-    print_answer(&rt, &mut text, given - 2);
+    let _ = print_answer(&rt);
 }

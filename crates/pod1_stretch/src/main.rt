@@ -6,48 +6,53 @@ ghost use Rattle.records.specs.Buffer.{Prints};
 ghost use Rattle.stretch_spec.specs.Worst.{stretch_as};
 ghost use Rattle.pod1_stretch.specs.Answer.{stretch_line};
 
-use frames::Written;
+use frames::Refusal;
 use std::env::Env;
+use std::io;
 use std::rt::Files;
-use stretch::Stretch;
-use words::{Got, Said};
+use stretch::{NoStretch, WorstDays};
 
-fn put_stretch(answer: Stretch, buf: &mut [u8]) -> Written
+#[tactic(auto, unfolding(crate::specs::Answer::stretch_line))]
+fn put_stretch(
+    answer: Result<Option<WorstDays>, NoStretch>,
+    buf: &mut [u8],
+) -> Result<usize, Refusal>
     ensures { Prints (accepted (stretch_line (stretch_as answer))) buf.old result buf.new }
 {
     match answer {
-        Stretch::Found { sum, day } => lines::put_pair(sum as u64, day as u64, buf),
-        Stretch::NoneYet => lines::put_none_yet(buf),
-        Stretch::Stopped { row, line } => lines::put_refusal(row, line, buf),
-        Stretch::Refused(refusal) => lines::put_refused(frames::row_of(refusal), buf),
+        Ok(Some(worst)) => lines::put_pair(worst.sum as u64, worst.day as u64, buf),
+        Ok(None) => lines::put_none_yet(buf),
+        Err(NoStretch::Stopped(stop)) => {
+            lines::put_refusal(frames::row_of(stop.refusal), stop.line, buf)
+        },
+        Err(NoStretch::Refused(refusal)) => lines::put_refused(frames::row_of(refusal), buf),
     }
 }
 
 // The scratch has room for the most days, so row 21 does not come up.
-fn print_stretch(rt: &impl Print, text: &[u8], days: u16) {
+fn print_stretch(rt: &impl Print, text: &[u8], days: u16) -> io::Result<()> {
     let mut scratch = [0; 1098];
     let mut line = [0; 160];
     let answer = stretch::worst_stretch(text, days, &mut scratch);
     let written = put_stretch(answer, &mut line);
-    words::print_written(rt, &line, written);
+    words::print_written(rt, &line, written)
 }
 
-// A word that is no number and a file that cannot be read print nothing.
-fn print_answer(rt: &(impl Env + Files + Print), text: &mut [u8]) {
-    let Said::Number(days) = words::number_at(rt, 1) else {
-        return;
-    };
-    let Got::Bytes(n) = words::read_named(rt, 2, text) else {
-        return;
-    };
-    print_stretch(rt, words::front(text, n), days);
-}
-
-// A text longer than what is read of it is refused by the same row at the same line (`text_buffer`).
-fn main(rt: HostRuntime) {
-    if words::word_count(&rt) != 3 {
-        return;
+// A word that is no number and a file that cannot be read print nothing. A text longer than what is read of it is refused by the same row at the same line.
+fn print_answer(rt: &(impl Env + Files + Print + AllocGlobal)) -> io::Result<()> {
+    if words::word_count(rt) != 3 {
+        return Ok(());
     }
-    let mut text = words::text_buffer();
-    print_answer(&rt, &mut text);
+    let Some(days) = words::number_at(rt, 1) else {
+        return Ok(());
+    };
+    let Some(text) = words::read_named(rt, 2) else {
+        return Ok(());
+    };
+    print_stretch(rt, text.as_slice(), days)
+}
+
+// A write that fails ends it.
+fn main(rt: HostRuntime) {
+    let _ = print_answer(&rt);
 }

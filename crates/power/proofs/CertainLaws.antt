@@ -4,7 +4,7 @@ use mathlib.Core.Path.{subst⁻¹}
 use native.Mathlib.Nat.{one-le-pow}
 use Rattle.exact.proofs.MeanLaws.{bernoulli}
 use Rattle.exact.proofs.PowerLaws.{mul-pow}
-use Rattle.power.specs.declared.Terms.{Terms}
+use Rattle.power.specs.declared.terms.Terms.{Terms}
 use Rattle.power.specs.declared.rounded.Rounded.{Rounded}
 use Rattle.power.specs.Steps.{full, StandsFor, left, right, Decided, Certain}
 use Rattle.power.proofs.RoundedLaws.{full-pos}

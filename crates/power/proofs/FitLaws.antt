@@ -1,10 +1,10 @@
 -- Figures fit exactly where their temperatures and powers are those of `Sound`; sound figures do.
-use Rattle.std.proofs.Common.{◌≡◌, ℕ, ◌-◌, ◌*◌, ◌<◌, ◌≤◌, Bool, true, ◌&&◌, T, ltb, leb, mul-le-mul, arith, eqb→eq, ltb→lt, leb→le, lt-ltb, eq-eqb, le-leb}
+use Rattle.std.specs.Prelude.{Some}
+use Rattle.std.proofs.Common.{◌≡◌, ℕ, ◌-◌, ◌*◌, ◌<◌, ◌≤◌, Bool, true, ◌&&◌, T, ltb, leb, eqb→eq, ltb→lt, leb→le, lt-ltb, eq-eqb, le-leb}
 use store.Enc.{and_l, and_r}
 use Rattle.trees.specs.declared.Figures.{Figures}
 use Rattle.trees.specs.Sound.{Sound}
 use Rattle.trees.specs.Temperature.{temperature_pair}
-use Rattle.power.specs.declared.Factor.TheVariants.{Pair}
 use Rattle.power.specs.Answers.{rising, is_power, in_ratio, fit, factor_of}
 use Rattle.power.specs.Steps.{Fits}
 
@@ -53,9 +53,6 @@ sound-fit f s =
       eq-eqb (f.p * (f.topt - f.tmin)) (f.q * (f.tmax - f.topt)) s.ratio,
     )
 
-pub sound-factor : (f : Figures) → Sound f → (x : ℕ) → factor_of f x ≡ Pair (temperature_pair f x)
+pub sound-factor : (f : Figures) → Sound f → (x : ℕ) → factor_of f x ≡ Some (temperature_pair f x)
 unfolding factor_of
 sound-factor f s x = rw (sound-fit f s)
-
-pub product-u32 : (n d : ℕ) → n < 65536 → d ≤ 250 → n * d < 4294967296
-product-u32 n d hn hd = let h : n ≤ 65535 = omega arith in omega (arith, mul-le-mul h hd)

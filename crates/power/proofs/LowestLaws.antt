@@ -6,8 +6,8 @@ use store.Enc.{and_l, and_r}
 use borrow.Author.Tests.{lt-leb}
 use Rattle.exact.proofs.OrderLaws.{le-or-lt}
 use Rattle.exact.proofs.LeastLaws.{least-passes, least_under}
-use Rattle.power.specs.declared.Reduced.{Reduced}
-use Rattle.power.specs.declared.Reduced.TheVariants.{Of, None}
+use Rattle.std.specs.Prelude.{Option, Some, None}
+use Rattle.power.specs.declared.Ratio.{Ratio}
 use Rattle.power.specs.Powers.{lowest_q, lowest_p, both_small, powers_of, InLowestTerms, PowersFacts}
 
 module _ (rise fall : ℕ) where
@@ -64,7 +64,10 @@ none-next rise fall p q r pos lt e none u s h f =
 
 -- ---- both at most 22
 
-small_is : (p q : ℕ) → p ≤ 22 → q ≤ 22 → both_small p q ≡ Of p q
+abbrev ratio_of : ℕ → ℕ → Option Ratio
+ratio_of p q = Some (record { p = p; q = q })
+
+small_is : (p q : ℕ) → p ≤ 22 → q ≤ 22 → both_small p q ≡ ratio_of p q
 small_is p q hp hq = rw (le-leb p 22 hp, le-leb q 22 hq)
 
 large-p : (p q : ℕ) → 22 < p → both_small p q ≡ None
@@ -74,7 +77,7 @@ large-q : (p q : ℕ) → 22 < q → both_small p q ≡ None
 large-q p q h = ⊎_elim (λ l. rw (le-leb p 22 l, lt-leb q 22 h)) (λ l. large-p p q l) (le-or-lt p 22)
 
 module _ (rise fall p q : ℕ) (rise-pos : 0 < rise) where
-  pub lowest-small : InLowestTerms rise fall p q → p ≤ 22 → q ≤ 22 → Of p q ≡ both_small (lowest_p rise fall) (lowest_q rise fall)
+  pub lowest-small : InLowestTerms rise fall p q → p ≤ 22 → q ≤ 22 → ratio_of p q ≡ both_small (lowest_p rise fall) (lowest_q rise fall)
   lowest-small h hp hq =
       let u = lowest-unique rise fall rise-pos h in
       rw (u.0, u.1) (sym (small_is p q hp hq))
@@ -103,7 +106,7 @@ module _ (tmin topt tmax : ℕ) where
   root = lowest_q (topt - tmin) (tmax - topt)
 
   small-facts :
-      (c : Bool) → c ≡ (leb low 22 && leb root 22) → tmin < topt → topt < tmax → PowersFacts tmin topt tmax (cond c (Of low root) None)
+      (c : Bool) → c ≡ (leb low 22 && leb root 22) → tmin < topt → topt < tmax → PowersFacts tmin topt tmax (cond c (ratio_of low root) None)
   small-facts true e h k =
       let l = lowest-terms (topt - tmin) (tmax - topt) (omega arith) in
       let both : T (leb low 22 && leb root 22) = subst T e tt in
@@ -128,13 +131,13 @@ module _ (tmin topt tmax : ℕ) where
   unfolding powers_of
   powers-facts = rising-facts (ltb tmin topt && ltb topt tmax) refl
 
-  abbrev Answers : Reduced → Type 0
+  abbrev Answers : (Option Ratio) → Type 0
   Answers r = (r ≡ powers_of tmin topt tmax) × PowersFacts tmin topt tmax r
 
-  answered : {r : Reduced} → r ≡ powers_of tmin topt tmax → Answers r
+  answered : {r : (Option Ratio)} → r ≡ powers_of tmin topt tmax → Answers r
   answered e = (e, subst⁻¹ (PowersFacts tmin topt tmax) e powers-facts)
 
-  pub powers-rising : {r : Reduced} → tmin < topt → topt < tmax → r ≡ both_small low root → Answers r
+  pub powers-rising : {r : (Option Ratio)} → tmin < topt → topt < tmax → r ≡ both_small low root → Answers r
   unfolding powers_of
   powers-rising h k e = answered (rw (lt-ltb tmin topt h, lt-ltb topt tmax k) e)
 

@@ -6,48 +6,50 @@ use Rattle.trees.specs.Temperature.{a, w, tried, allowed, root_at}
 use Rattle.trees.proofs.TemperatureRoot.{root_at-is}
 use Rattle.exact.proofs.MeanLaws.{mean-le}
 use Rattle.exact.proofs.PowerLaws.{pow-mul}
-use Rattle.power.specs.declared.Terms.{Terms}
-use Rattle.power.specs.Steps.{Fits, AreTerms, left, right, Asked, IsRoot}
+use Rattle.power.specs.declared.terms.Terms.{Terms}
+use Rattle.power.specs.Asked.{Asked}
+use Rattle.power.specs.Steps.{Fits, AreTerms, left, right, IsRoot}
 
-module _ {f : Figures} {x : ℕ} {s : Terms} (fits : Fits f) (low : 10 * f.tmin < x) (high : x < 10 * f.tmax) (are : AreTerms f x s) where
-  rise-pos : 0 < s.rise
-  rise-pos = omega (arith, are.rise, fits.topt)
+module _ (f : Figures) (x : ℕ) (fits : Fits f) (low : 10 * f.tmin < x) (high : x < 10 * f.tmax) where
+  abbrev above : ℕ
+  above = x - 10 * f.tmin
 
-  fall-pos : 0 < s.fall
-  fall-pos = omega (arith, are.fall, fits.tmax)
+  abbrev rise : ℕ
+  rise = 10 * (f.topt - f.tmin)
 
-  ratio : s.p * s.rise ≡ s.q * s.fall
-  ratio =
-      ap₂ (λ (m n : ℕ). m * n) are.p are.rise
-      ∙ tenfold f.p f.q (f.topt - f.tmin) (f.tmax - f.topt) fits.ratio
-      ∙ ap₂ (λ (m n : ℕ). m * n) (sym are.q) (sym are.fall)
+  abbrev below : ℕ
+  below = 10 * f.tmax - x
+
+  abbrev fall : ℕ
+  fall = 10 * (f.tmax - f.topt)
+
+  ratio : f.p * rise ≡ f.q * fall
+  ratio = tenfold f.p f.q (f.topt - f.tmin) (f.tmax - f.topt) fits.ratio
     where
       tenfold : (p q d e : ℕ) → p * d ≡ q * e → p * (10 * d) ≡ q * (10 * e)
       tenfold p q d e h = omega arith
 
-  at_most_one : s.above ^ s.q * s.below ^ s.p ≤ s.rise ^ s.q * s.fall ^ s.p
-  at_most_one =
-      mean-le s.rise s.fall s.above s.below s.p s.q (omega (arith, are.p, fits.p)) (omega (arith, are.q, fits.q)) rise-pos fall-pos ratio
-      (omega (arith, are.above, are.below, are.rise, are.fall, fits.topt, fits.tmax))
+  at_most_one : above ^ f.q * below ^ f.p ≤ rise ^ f.q * fall ^ f.p
+  at_most_one = mean-le rise fall above below f.p f.q fits.p.0 fits.q.0 (omega (arith, fits.topt)) (omega (arith, fits.tmax)) ratio (omega (arith, fits.topt, fits.tmax))
 
-  one-too-much : right s < left s 1000000001
-  unfolding left right
+  one-too-much : 1000000000 ^ f.q * (above ^ f.q * below ^ f.p) < 1000000001 ^ f.q * (rise ^ f.q * fall ^ f.p)
   one-too-much =
-      lt_of_le_of_lt (mul-le-mul_left (1000000000 ^ s.q) at_most_one)
-      (mul-lt-mul_of_pos_right (pow-lt-pow_left {a = 1000000000} {b = 1000000001} (omega arith) (λ e. omega (arith, e, are.q, fits.q)))
-      (mul-pos (one-le-pow s.q s.rise rise-pos) (one-le-pow s.p s.fall fall-pos)))
+      lt_of_le_of_lt (mul-le-mul_left (1000000000 ^ f.q) at_most_one)
+      (mul-lt-mul_of_pos_right (pow-lt-pow_left {a = 1000000000} {b = 1000000001} (omega arith) (λ e. omega (arith, e, fits.q)))
+      (mul-pos (one-le-pow f.q rise (omega (arith, fits.topt))) (one-le-pow f.p fall (omega (arith, fits.tmax)))))
 
-  pub terms-asked : Asked s
+  pub terms-asked : Asked above rise below fall f.p f.q
   terms-asked = record {
-    rise = (rise-pos, omega (arith, are.rise, fits.tmin, fits.tmax));
-    fall = (fall-pos, omega (arith, are.fall, fits.tmin, fits.tmax));
-    above = (omega (arith, are.above), omega (arith, are.above, fits.tmin, fits.tmax));
-    below = (omega (arith, are.below), omega (arith, are.below, fits.tmin, fits.tmax));
-    p = omega (arith, are.p, fits.p);
-    q = (omega (arith, are.q, fits.q), omega (arith, are.q, fits.q));
+    rise_in = (omega (arith, fits.topt), omega (arith, fits.tmin, fits.tmax));
+    fall_in = (omega (arith, fits.tmax), omega (arith, fits.tmin, fits.tmax));
+    above_in = (omega arith, omega (arith, fits.tmin, fits.tmax));
+    below_in = (omega arith, omega (arith, fits.tmin, fits.tmax));
+    p_in = fits.p.1;
+    q_in = fits.q;
     most = one-too-much;
   }
 
+module _ {f : Figures} {x : ℕ} {s : Terms} (fits : Fits f) (are : AreTerms f x s) where
   left_is : (t : ℕ) → left s t ≡ tried f x t
   unfolding left tried
   left_is t =

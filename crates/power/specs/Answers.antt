@@ -1,10 +1,9 @@
 -- What `f_temp` answers: the pair of figures whose temperatures and powers are those of `Sound`; no pair for others.
-use Rattle.std.specs.Prelude.{◌≡◌, ℕ, ◌-◌, ◌*◌, Bool, cond, ◌&&◌, ◌==◌, nat_le, nat_lt}
+use Rattle.std.specs.Prelude.{◌≡◌, ℕ, ◌-◌, ◌*◌, Bool, cond, ◌&&◌, ◌==◌, nat_le, nat_lt, Option, Some, None}
+use Rattle.exact.specs.declared.Bounds.{Bounds}
 use Rattle.trees.specs.declared.Figures.{Figures}
 use Rattle.trees.specs.Sound.{Sound}
 use Rattle.trees.specs.Temperature.{temperature_pair}
-use Rattle.power.specs.declared.Factor.{Factor}
-use Rattle.power.specs.declared.Factor.TheVariants.{Pair, Unfit}
 
 -- -20 °C ≤ Tmin < Topt < Tmax ≤ 200 °C, in whole degrees above -50 °C
 abbrev pub rising : ℕ → ℕ → ℕ → Bool
@@ -21,9 +20,9 @@ in_ratio f = f.p * (f.topt - f.tmin) == f.q * (f.tmax - f.topt)
 unfoldable pub fit : Figures → Bool
 fit f = rising f.tmin f.topt f.tmax && ((is_power f.p && is_power f.q) && in_ratio f)
 
-unfoldable pub factor_of : Figures → ℕ → Factor
-factor_of f x = cond (fit f) (Pair (temperature_pair f x)) Unfit
+unfoldable pub factor_of : Figures → ℕ → Option Bounds
+factor_of f x = cond (fit f) (Some (temperature_pair f x)) None
 
 -- sound figures fit
-pub record SoundFactor (f : Figures) (x : ℕ) (r : Factor) : Type 0 where
-  pub pair : Sound f → r ≡ Pair (temperature_pair f x)
+pub record SoundFactor (f : Figures) (x : ℕ) (r : Option Bounds) : Type 0 where
+  pub pair : Sound f → r ≡ Some (temperature_pair f x)

@@ -1,3 +1,4 @@
 pub mod Powers
 pub mod Answers
+pub mod Asked
 pub mod Steps

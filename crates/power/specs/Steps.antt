@@ -1,7 +1,7 @@
 -- Serves the code's own steps; no reader need believe it.
 use Rattle.std.specs.Prelude.{◌≡◌, ℕ, zero, suc, ◌+◌, ◌-◌, ◌*◌, ◌/◌, ◌%◌, ◌^◌, ◌<◌, ◌≤◌, Bool, true, false, List, slice_index}
 use Rattle.trees.specs.declared.Figures.{Figures}
-use Rattle.power.specs.declared.Terms.{Terms}
+use Rattle.power.specs.declared.terms.Terms.{Terms}
 use Rattle.power.specs.declared.rounded.Rounded.{Rounded}
 
 -- ---- figures
@@ -36,16 +36,6 @@ pub record AreTerms (f : Figures) (x : ℕ) (s : Terms) : Type 0 where
   pub fall : s.fall ≡ 10 * (f.tmax - f.topt)
   pub p : s.p ≡ f.p
   pub q : s.q ≡ f.q
-
--- what a root is asked of: the numbers fit, and 1.000000001 is too much
-pub record Asked (s : Terms) : Type 0 where
-  pub rise : (0 < s.rise) × (s.rise ≤ 2200)
-  pub fall : (0 < s.fall) × (s.fall ≤ 2200)
-  pub above : (0 < s.above) × (s.above ≤ 2200)
-  pub below : (0 < s.below) × (s.below ≤ 2200)
-  pub p : s.p ≤ 22
-  pub q : (0 < s.q) × (s.q ≤ 22)
-  pub most : right s < left s 1000000001
 
 -- a number strictly between two, if there is one
 pub record Between (low high r : ℕ) : Type 0 where

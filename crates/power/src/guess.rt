@@ -1,7 +1,8 @@
 // A first guess at a·w^(p/q), with doubles. Nothing is shown of it but that it is from 1 to 10⁹: a wrong one costs time only.
 ghost use Rattle.std.specs.Prelude.{◌<◌, ◌≤◌};
 
-use crate::Terms;
+use crate::terms::Terms;
+use std::num::saturating_f64_to_u32;
 
 const LN2: f64 = 0.6931471805599453;
 
@@ -50,23 +51,8 @@ fn value(s: Terms) -> f64 {
     1000000000.0 * a * exponential((s.p as f64) / (s.q as f64) * l) + 0.0001
 }
 
-fn truncated(v: f64) -> u64 {
-    if v > -1.0 {
-        if v < 18446744073709551616.0 {
-            return std::num::truncating_f64_to_u64(v);
-        }
-    }
-    1
-}
-
 pub(crate) fn guess(s: Terms) -> u32
     ensures { (0 < result) × (result ≤ 1000000000) }
 {
-    let t = truncated(value(s));
-    if 0 < t {
-        if t <= 1000000000 {
-            return t as u32;
-        }
-    }
-    1
+    saturating_f64_to_u32(value(s)).clamp(1, 1000000000)
 }

@@ -5,9 +5,10 @@
 mod guess;
 mod root;
 mod rounded;
+mod terms;
 mod words;
 
-ghost use Rattle.std.specs.Prelude.{◌≡◌, ◌*◌, ◌<◌, ◌≤◌, max};
+ghost use Rattle.std.specs.Prelude.{◌≡◌, ◌*◌, ◌<◌, ◌≤◌};
 ghost use Rattle.trees.specs.Temperature.{root_at, temperature_pair};
 ghost use Rattle.power.specs.Answers.{rising, is_power, in_ratio, fit, factor_of, SoundFactor};
 ghost use Rattle.power.specs.Powers.{lowest_p, lowest_q, both_small, powers_of, PowersFacts};
@@ -15,6 +16,7 @@ ghost use Rattle.power.specs.Steps.{Fits, AreTerms};
 
 use exact::Bounds;
 use root::root;
+use terms::Terms;
 use trees::Figures;
 
 // One percent of f_min, in units of 10⁻⁹.
@@ -28,29 +30,11 @@ const LOWEST: u16 = 30;
 
 const HIGHEST: u16 = 250;
 
-// f_temp between two numbers, in units of 10⁻⁹; or the figures' temperatures and powers do not fit together.
+// p/q in lowest terms.
 #[derive(Clone, Copy)]
-pub enum Factor {
-    Pair(Bounds),
-    Unfit,
-}
-
-// p/q in lowest terms; or p or q is above 22, or the temperatures do not rise.
-#[derive(Clone, Copy)]
-pub enum Reduced {
-    Of { p: u16, q: u16 },
-    None,
-}
-
-// a = above/rise and w = below/fall, in tenths of a degree, with their powers p/q.
-#[derive(Clone, Copy)]
-struct Terms {
-    above: u32,
-    rise: u32,
-    below: u32,
-    fall: u32,
-    p: u32,
-    q: u32,
+pub struct Ratio {
+    pub p: u16,
+    pub q: u16,
 }
 
 fn is_rising(tmin: u16, topt: u16, tmax: u16) -> bool
@@ -74,13 +58,11 @@ fn is_in_ratio(f: Figures) -> bool
     (f.p as u32) * rise == (f.q as u32) * fall
 }
 
+#[tactic(auto, unfolding(crate::specs::Answers::fit))]
 fn is_fit(f: Figures) -> bool
     ensures { result ≡ fit f }
 {
-    if is_rising(f.tmin, f.topt, f.tmax) {
-        return (is_power(f.p) & is_power(f.q)) & is_in_ratio(f);
-    }
-    false
+    is_rising(f.tmin, f.topt, f.tmax) && (is_power(f.p) & is_power(f.q)) & is_in_ratio(f)
 }
 
 fn terms_at(f: Figures, x: u16) -> Terms
@@ -105,14 +87,8 @@ fn root_at(f: Figures, x: u16) -> u64
     root(terms_at(f, x)) as u64
 }
 
-fn larger(a: u64, b: u64) -> u64
-    ensures { result ≡ max a b }
-{
-    if a < b { b } else { a }
-}
-
 // f_min as a pair.
-fn floor_of(fmin: u16) -> Bounds
+pub fn floor_of(fmin: u16) -> Bounds
     ensures { (result.lower ≡ fmin * 10000000) × (result.upper ≡ fmin * 10000000) }
 {
     let least = (fmin as u64) * PERCENT;
@@ -122,6 +98,8 @@ fn floor_of(fmin: u16) -> Bounds
     }
 }
 
+// Kept: `Figures` are of trees, and a struct around those that fit would be taken apart at each use.
+#[tactic(auto, unfolding(trees::specs::Temperature::temperature_pair))]
 fn pair_at(f: Figures, x: u16) -> Bounds
     requires { Fits f }
     ensures { result ≡ temperature_pair f x }
@@ -136,37 +114,41 @@ fn pair_at(f: Figures, x: u16) -> Bounds
     }
     let found = root_at(f, x);
     Bounds {
-        lower: larger(floor.lower, found),
-        upper: larger(floor.upper, found + 1),
+        lower: floor.lower.max(found),
+        upper: floor.upper.max(found + 1),
     }
 }
 
 // f_temp at a reading, of figures whose temperatures and powers fit.
-pub fn f_temp(f: Figures, x: u16) -> Factor
+pub fn f_temp(f: Figures, x: u16) -> Option<Bounds>
     ensures value { result ≡ factor_of f x }
     ensures sound { SoundFactor f x result }
 {
     if is_fit(f) {
-        return Factor::Pair(pair_at(f, x));
+        return Some(pair_at(f, x));
     }
-    Factor::Unfit
+    None
 }
 
 // fall/rise in lowest terms: q grows until r, which is q·fall - p·rise, is 0.
-fn lowest_terms(rise: u32, fall: u32) -> Reduced
+fn lowest_terms(rise: u32, fall: u32) -> Option<Ratio>
     requires { (0 < rise) × (rise < 65536) × (fall < 65536) }
     ensures { result ≡ both_small (lowest_p rise fall) (lowest_q rise fall) }
 {
     let each = fall / rise;
     let rest = fall % rise;
-    let mut q: u32 = 1;
     let mut p = each;
     let mut r = rest;
-    while 0 < r {
-        if q == MOST {
-            return Reduced::None;
+    for q in 1..MOST + 1 {
+        if r == 0 {
+            if p <= MOST {
+                return Some(Ratio {
+                    p: p as u16,
+                    q: q as u16,
+                });
+            }
+            return None;
         }
-        q += 1;
         p += each;
         r += rest;
         if rise <= r {
@@ -174,25 +156,19 @@ fn lowest_terms(rise: u32, fall: u32) -> Reduced
             p += 1;
         }
     }
-    if p <= MOST {
-        return Reduced::Of {
-            p: p as u16,
-            q: q as u16,
-        };
-    }
-    Reduced::None
+    None
 }
 
-// p and q out of the three temperatures.
-pub fn powers(tmin: u16, topt: u16, tmax: u16) -> Reduced
+// p/q out of the three temperatures; none where they do not rise, or p or q is above 22.
+pub fn powers(tmin: u16, topt: u16, tmax: u16) -> Option<Ratio>
     ensures value { result ≡ powers_of tmin topt tmax }
     ensures facts { PowersFacts tmin topt tmax result }
 {
     if topt <= tmin {
-        return Reduced::None;
+        return None;
     }
     if tmax <= topt {
-        return Reduced::None;
+        return None;
     }
     lowest_terms((topt - tmin) as u32, (tmax - topt) as u32)
 }

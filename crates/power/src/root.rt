@@ -1,18 +1,18 @@
 // The root: the greatest t with t^q·rise^q·fall^p at most 10^(9q)·above^q·below^p.
 ghost use Rattle.std.specs.Prelude.{◌≡◌, ◌<◌, ◌≤◌, nat_le};
-ghost use Rattle.power.specs.Steps.{left, right, IsRoot, Asked, Between};
+ghost use Rattle.power.specs.Steps.{left, right, IsRoot, Between};
 
-use crate::Terms;
 use crate::guess::guess;
 use crate::rounded::is_certain;
+use crate::terms::Terms;
 use crate::words::{at_most, product};
 
 // 10⁹
 const ONE: u32 = 1000000000;
 
 // Whether t is not above the root, by the exact powers.
+#[tactic(auto, unfolding(crate::specs::Steps::left, crate::specs::Steps::right))]
 fn passes(s: Terms, t: u32) -> bool
-    requires { Asked s }
     ensures { result ≡ nat_le (left s t) (right s) }
 {
     let p = s.p as usize;
@@ -39,25 +39,19 @@ fn next(low: u32, high: u32, step: u32) -> u32
     low + half
 }
 
-fn doubled(step: u32) -> u32
-    requires { 0 < step }
-    ensures { 0 < result }
-{
-    if step < 1000000000 { step * 2 } else { step }
-}
-
 // By bisection, from a first probe.
 fn search(s: Terms, first: u32) -> u32
-    requires { Asked s × (0 < first) × (first ≤ 1000000000) }
+    requires { (0 < first) × (first ≤ 1000000000) }
     ensures { IsRoot s result }
 {
     let mut low: u32 = 0;
     let mut high: u32 = 1000000001;
     let mut probe = first;
     let mut step: u32 = 1;
+    // Kept: a bisection moves two bounds and counts nothing, so a `for` is no plainer.
     while 1 < high - low {
         let width = step;
-        step = doubled(width);
+        step = width.saturating_mul(2);
         if passes(s, probe) {
             low = probe;
             probe = next(low, high, width);
@@ -70,7 +64,6 @@ fn search(s: Terms, first: u32) -> u32
 }
 
 pub(crate) fn root(s: Terms) -> u32
-    requires { Asked s }
     ensures { IsRoot s result }
 {
     let t = guess(s);

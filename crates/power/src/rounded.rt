@@ -1,8 +1,8 @@
 // Rounded products: a number's highest 64 bits, and how much it may be above them. They decide nearly every root without its exact powers.
 ghost use Rattle.std.specs.Prelude.{◌+◌, ◌*◌, ◌^◌, ◌<◌, ◌≤◌};
-ghost use Rattle.power.specs.Steps.{IsHigh, StandsFor, Bounded, IsProduct, IsOddProduct, IsStep, Decided, Certain, Asked};
+ghost use Rattle.power.specs.Steps.{IsHigh, StandsFor, Bounded, IsProduct, IsOddProduct, IsStep, Decided, Certain};
 
-use crate::Terms;
+use crate::terms::Terms;
 
 // 2⁶³
 const HALF: u64 = 9223372036854775808;
@@ -85,7 +85,7 @@ fn step(before: Rounded, x: Rounded, y: Rounded, q: u32, p: u32) -> Rounded
     times_odd(times_odd(square, x, q), y, p)
 }
 
-// x^q·y^p
+// x^q·y^p. Kept: how far each step may be off differs, so a loop's invariant would be this table of bounds.
 fn powers_of(x: u64, y: u64, q: u32, p: u32) -> Rounded
     requires { (0 < x) × (0 < y) × (q < 32) × (p < 32) }
     ensures { StandsFor (x ^ q * y ^ p) result }
@@ -121,7 +121,7 @@ fn decides(l: Rounded, r: Rounded, t: u64, q: u64) -> bool
 
 // Whether t is the root, if the rounded powers show it.
 pub(crate) fn is_certain(s: Terms, t: u32) -> bool
-    requires { Asked s × (0 < t) × (t ≤ 1000000000) }
+    requires { (0 < t) × (t ≤ 1000000000) }
     ensures { Certain s t result }
 {
     if t < 22 {

@@ -1,25 +1,30 @@
-// Answers as words: p and q, or none; the lower and the upper number of f_temp, or unfit.
-use cases::{print, print_number};
-use power::{Factor, Reduced};
+// Answers as words.
+use exact::Bounds;
+use power::Ratio;
+use std::fmt;
 
-pub(crate) fn print_powers(rt: &impl Print, powers: Reduced) {
-    match powers {
-        Reduced::Of { p, q } => {
-            print_number(rt, p as u64);
-            print(rt, b" ");
-            print_number(rt, q as u64);
+// p and q, or none.
+#[derive(Clone, Copy)]
+pub(crate) struct Powers(pub(crate) Option<Ratio>);
+
+impl fmt::Display for Powers {
+    fn fmt<W: fmt::Write>(&self, f: &mut fmt::Formatter<W>) -> fmt::Result {
+        match self.0 {
+            Some(Ratio { p, q }) => write!(f, "{p} {q}"),
+            None => f.write_str("none"),
         }
-        Reduced::None => print(rt, b"none"),
     }
 }
 
-pub(crate) fn print_factor(rt: &impl Print, factor: Factor) {
-    match factor {
-        Factor::Pair(pair) => {
-            print_number(rt, pair.lower);
-            print(rt, b" ");
-            print_number(rt, pair.upper);
+// The lower and the upper number of f_temp, or unfit.
+#[derive(Clone, Copy)]
+pub(crate) struct Factor(pub(crate) Option<Bounds>);
+
+impl fmt::Display for Factor {
+    fn fmt<W: fmt::Write>(&self, f: &mut fmt::Formatter<W>) -> fmt::Result {
+        match self.0 {
+            Some(Bounds { lower, upper }) => write!(f, "{lower} {upper}"),
+            None => f.write_str("unfit"),
         }
-        Factor::Unfit => print(rt, b"unfit"),
     }
 }

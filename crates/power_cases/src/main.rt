@@ -4,8 +4,7 @@
 mod answers;
 mod rows;
 
+// A read or a write that fails ends it.
 fn main(rt: HostRuntime) {
-    let mut text = cases::buffer();
-    let n = cases::read(&rt, &mut text);
-    rows::print_rows(&rt, &text[..n]);
+    let _ = cases::for_each_line(&rt, |row| rows::print_row(&rt, row));
 }

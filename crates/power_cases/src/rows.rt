@@ -1,7 +1,8 @@
 // Rows of Tmin, Topt, Tmax, p, q, f_min and a reading, four hexadecimal digits each, with single spaces; the answers for each row on a line of
 // their own.
-use crate::answers::{print_factor, print_powers};
-use cases::{print, u16_at};
+use crate::answers::{Factor, Powers};
+use cases::u16_at;
+use std::io;
 use trees::{Figures, Measure, Phenology, Source};
 
 // Beech's figures but for those of f_temp.
@@ -31,19 +32,9 @@ fn figures_of(row: &[u8]) -> Figures {
     }
 }
 
-fn print_row(rt: &impl Print, row: &[u8]) {
+pub(crate) fn print_row(rt: &impl Print, row: &[u8]) -> io::Result<()> {
     let f = figures_of(row);
-    print_powers(rt, power::powers(f.tmin, f.topt, f.tmax));
-    print(rt, b" ");
-    print_factor(rt, power::f_temp(f, u16_at(row, 30)));
-    print(rt, b"\n");
-}
-
-pub(crate) fn print_rows(rt: &impl Print, text: &[u8]) {
-    let mut rest = text;
-    while 0 < rest.len() {
-        print_row(rt, cases::line(rest));
-        let next = cases::after_line(rest);
-        rest = next;
-    }
+    let powers = Powers(power::powers(f.tmin, f.topt, f.tmax));
+    let factor = Factor(power::f_temp(f, u16_at(row, 30)));
+    println!(rt; "{powers} {factor}")
 }

@@ -1,11 +1,11 @@
 -- An accepted answer has passed every test before it.
+use Rattle.std.specs.Prelude.{Option, Some, None}
 use Prim.Native.Nat.{ℕ}
 use mathlib.Core.Path.{◌≡◌, refl}
 use mathlib.Core.Bool.{Bool, true, false, true≢false, false≢true, cond, ◌&&◌, ◌||◌}
 use mathlib.Core.Logic.{◌⊎◌, inl, inr}
 use native.Mathlib.Omega.{arith}
 use Rattle.trees.specs.declared.Figures.{Figures}
-use Rattle.trees.specs.declared.Choice.{Choice}
 use Rattle.records.specs.Answers.{Outcome, accepted, refused, onward}
 use Rattle.records.specs.Ranges.{on_tree}
 
@@ -41,7 +41,7 @@ pub onward-passed : {A B : Type 0} (o : Outcome A) (next : A → Outcome B) (b :
 onward-passed (accepted a) next b e = (a, refl, e)
 onward-passed (refused w) next b e = refused-not-accepted e
 
-pub on_tree-passed : {A : Type 0} (choice : Choice) (next : Figures → Outcome A) (a : A) → on_tree choice next ≡ accepted a
-    → (f : Figures) × (choice ≡ Choice.Tree f) × (next f ≡ accepted a)
-on_tree-passed (Choice.Tree f) next a e = (f, refl, e)
-on_tree-passed Choice.Unknown next a e = refused-not-accepted e
+pub on_tree-passed : {A : Type 0} (choice : Option Figures) (next : Figures → Outcome A) (a : A) → on_tree choice next ≡ accepted a
+    → (f : Figures) × (choice ≡ Some f) × (next f ≡ accepted a)
+on_tree-passed (Some f) next a e = (f, refl, e)
+on_tree-passed None next a e = refused-not-accepted e

@@ -1,4 +1,5 @@
 -- Hours without ozone (W-207): a filling is the hour with a number from the one read as 0 to the one read as the ceiling, and row 10 lets it pass.
+use Rattle.std.specs.Prelude.{Option, Some, None}
 use Prim.Native.Nat.{ℕ, zero, suc, ◌≤◌}
 use mathlib.Core.Path.{◌≡◌, refl, sym}
 use mathlib.Core.Bool.{true, false, true≢false, false≢true}
@@ -6,8 +7,6 @@ use native.Mathlib.Nat.{le_refl, le_trans}
 use native.Mathlib.Omega.{arith}
 use borrow.Author.Tests.{ltb-false, le-ltb, ne_eqb}
 use lib.Dec.{ltb}
-use Rattle.records.specs.declared.Ozone.{Ozone}
-use Rattle.records.specs.declared.Ozone.TheVariants.{Tenths, Missing}
 use Rattle.records.specs.declared.Hour.{Hour}
 use Rattle.records.specs.declared.Record.{Record}
 use Rattle.records.specs.Answers.{accepted}
@@ -17,17 +16,17 @@ use Rattle.records.proofs.AnswerLaws.{or-neither, row-passed}
 
 -- ---- the number read
 
-pub tenths_or-mono : {m n : ℕ} (o : Ozone) → m ≤ n → tenths_or m o ≤ tenths_or n o
-tenths_or-mono (Tenths t) h = le_refl t
-tenths_or-mono Missing h = h
+pub tenths_or-mono : {m n : ℕ} (o : Option ℕ) → m ≤ n → tenths_or m o ≤ tenths_or n o
+tenths_or-mono (Some t) h = le_refl t
+tenths_or-mono None h = h
 
-tenths_or-le : {m : ℕ} (o : Ozone) → ozone_out o ≡ false → m ≤ 5000 → tenths_or m o ≤ 5000
-tenths_or-le (Tenths t) e h = ltb-false 5000 t e
-tenths_or-le Missing e h = h
+tenths_or-le : {m : ℕ} (o : Option ℕ) → ozone_out o ≡ false → m ≤ 5000 → tenths_or m o ≤ 5000
+tenths_or-le (Some t) e h = ltb-false 5000 t e
+tenths_or-le None e h = h
 
-pub missing-is : (m : ℕ) (o : Ozone) → is_missing o ≡ true → tenths_or m o ≡ m
-missing-is m (Tenths t) e = absurd (false≢true e)
-missing-is m Missing e = refl
+pub missing-is : (m : ℕ) (o : Option ℕ) → is_missing o ≡ true → tenths_or m o ≡ m
+missing-is m (Some t) e = absurd (false≢true e)
+missing-is m None e = refl
 
 -- row 17
 pub ceiling-le : (ceiling : ℕ) → ceiling_out ceiling ≡ false → ceiling ≤ 5000
@@ -36,9 +35,9 @@ ceiling-le (suc c) e = ltb-false 5000 (suc c) (or-neither (ltb (suc c) 1) _ (rw 
 
 -- ---- the hour with a number up to the one read
 
-own_read : (m : ℕ) (h : Hour) (o : Ozone) → h.ozone ≡ o → is_missing o ≡ false → read_as m h ≡ h
-own_read m h (Tenths n) e given = rw e refl
-own_read m h Missing e given = absurd (true≢false given)
+own_read : (m : ℕ) (h : Hour) (o : Option ℕ) → h.ozone ≡ o → is_missing o ≡ false → read_as m h ≡ h
+own_read m h (Some n) e given = rw e refl
+own_read m h None e given = absurd (true≢false given)
 
 -- an hour with ozone is read as it is
 pub read_is : (m : ℕ) (h : Hour) → is_missing h.ozone ≡ false → read_as m h ≡ h

@@ -1,4 +1,5 @@
 -- The figures of any tree (W-212): sound where row 24 lets the parameters pass; whether there are any, and in which measure, does not depend on the parameters.
+use Rattle.std.specs.Prelude.{Option, Some, None, is_none}
 use Prim.Native.Nat.{ℕ}
 use mathlib.Core.Path.{◌≡◌, refl, sym, ap, subst, ◌∙◌}
 use mathlib.Core.Logic.{◌↔◌}
@@ -10,21 +11,19 @@ use Rattle.trees.specs.declared.Figures.{Figures}
 use Rattle.trees.specs.declared.Curve.{Curve}
 use Rattle.trees.specs.declared.Source.{Source}
 use Rattle.trees.specs.declared.Source.TheVariants.{Tabled, Worked}
-use Rattle.trees.specs.declared.Choice.TheVariants.{Tree, Unknown}
 use Rattle.trees.specs.Figures.{figures_of}
 use Rattle.trees.specs.Sound.{Sound}
 use Rattle.trees.specs.Steps.{HasTable}
 use Rattle.trees.proofs.SoundLaws.{figures-sound}
 use Rattle.trees.proofs.CurveLaws.{figures-tabled}
-use Rattle.power.specs.declared.Reduced.{Reduced}
-use Rattle.power.specs.declared.Reduced.TheVariants.{Of, None}
+use Rattle.power.specs.declared.Ratio.{Ratio}
 use Rattle.power.specs.Powers.{ArePowers, PowersFacts}
 use Rattle.power.proofs.LowestLaws.{powers-facts}
 use Rattle.measured.specs.declared.Parameters.{Parameters}
 use Rattle.measured.specs.Parameters.{is_fed}
 use Rattle.measured.specs.Figures.{p_in, q_in, powers_in, measured_figures, figures_in}
 use Rattle.records.specs.Answers.{accepted}
-use Rattle.records.specs.Parameters.{is_none, parameter_out}
+use Rattle.records.specs.Parameters.{parameter_out}
 use Rattle.records.specs.Ranges.{checked}
 use Rattle.records.specs.declared.Record.{Record}
 use Rattle.records.proofs.AnswerLaws.{or-neither, row-passed}
@@ -34,8 +33,8 @@ use Rattle.records.proofs.AnswerLaws.{or-neither, row-passed}
 or-neither-iff : (a b : Bool) → ((a || b) ≡ false) ↔ ((a ≡ false) × (b ≡ false))
 or-neither-iff a b = (or-neither a b, λ both. rw both.0 both.1)
 
-powers-found : (r : Reduced) (tmin topt tmax : ℕ) → is_none r ≡ false → PowersFacts tmin topt tmax r → ArePowers tmin topt tmax (p_in r) (q_in r)
-powers-found (Of p q) tmin topt tmax e facts = facts
+powers-found : (r : Option Ratio) (tmin topt tmax : ℕ) → is_none r ≡ false → PowersFacts tmin topt tmax r → ArePowers tmin topt tmax (p_in r) (q_in r)
+powers-found (Some r) tmin topt tmax e facts = facts
 powers-found None tmin topt tmax e facts = absurd (true≢false e)
 
 module _ (ps : Parameters) (passed : parameter_out ps ≡ false) where
@@ -69,7 +68,7 @@ measured-tabled ps = record { pair = λ curve named x. worked-not-tabled curve (
 -- ---- by the tree's number
 
 module _ (ps : Parameters) (t : ℕ) where
-  pub figures-in-measured : eqb t 7 ≡ true → figures_in ps t ≡ Tree (measured_figures ps)
+  pub figures-in-measured : eqb t 7 ≡ true → figures_in ps t ≡ Some (measured_figures ps)
   unfolding figures_in
   figures-in-measured e = rw e
 
@@ -77,16 +76,16 @@ module _ (ps : Parameters) (t : ℕ) where
   unfolding figures_in
   figures-in-other e = rw e
 
-module _ (P : Figures → Type 0) (ps : Parameters) (t : ℕ) (f : Figures) (chosen : figures_in ps t ≡ Tree f) where
-  by-test : (b : Bool) → eqb t 7 ≡ b → (b ≡ true → P (measured_figures ps)) → (figures_of t ≡ Tree f → P f) → P f
+module _ (P : Figures → Type 0) (ps : Parameters) (t : ℕ) (f : Figures) (chosen : figures_in ps t ≡ Some f) where
+  by-test : (b : Bool) → eqb t 7 ≡ b → (b ≡ true → P (measured_figures ps)) → (figures_of t ≡ Some f → P f) → P f
   by-test true e measured tabled = let same : measured_figures ps ≡ f = cc (figures-in-measured ps t e) in subst P same (measured refl)
   by-test false e measured tabled = tabled (sym (figures-in-other ps t e) ∙ chosen)
 
   -- what holds of the measured tree and of the six holds of any tree that is chosen
-  pub figures-in-all : (eqb t 7 ≡ true → P (measured_figures ps)) → (figures_of t ≡ Tree f → P f) → P f
+  pub figures-in-all : (eqb t 7 ≡ true → P (measured_figures ps)) → (figures_of t ≡ Some f → P f) → P f
   figures-in-all = by-test (eqb t 7) refl
 
-module _ (ps : Parameters) (t : ℕ) (f : Figures) (chosen : figures_in ps t ≡ Tree f) where
+module _ (ps : Parameters) (t : ℕ) (f : Figures) (chosen : figures_in ps t ≡ Some f) where
   pub figures-in-tabled : HasTable f
   figures-in-tabled = figures-in-all HasTable ps t f chosen (λ _. measured-tabled ps) (figures-tabled t f)
 
@@ -96,14 +95,14 @@ module _ (ps : Parameters) (t : ℕ) (f : Figures) (chosen : figures_in ps t ≡
 -- ---- whatever the parameters are
 
 module _ (ps qs : Parameters) (t : ℕ) where
-  unknown-by : (b : Bool) → eqb t 7 ≡ b → figures_in ps t ≡ Unknown → figures_in qs t ≡ Unknown
+  unknown-by : (b : Bool) → eqb t 7 ≡ b → figures_in ps t ≡ None → figures_in qs t ≡ None
   unknown-by true e none = cc (figures-in-measured ps t e)
   unknown-by false e none = figures-in-other qs t e ∙ sym (figures-in-other ps t e) ∙ none
 
-  pub figures-in-unknown : figures_in ps t ≡ Unknown → figures_in qs t ≡ Unknown
+  pub figures-in-unknown : figures_in ps t ≡ None → figures_in qs t ≡ None
   figures-in-unknown = unknown-by (eqb t 7) refl
 
-  measure-by : (b : Bool) (f g : Figures) → eqb t 7 ≡ b → figures_in ps t ≡ Tree f → figures_in qs t ≡ Tree g → f.measure ≡ g.measure
+  measure-by : (b : Bool) (f g : Figures) → eqb t 7 ≡ b → figures_in ps t ≡ Some f → figures_in qs t ≡ Some g → f.measure ≡ g.measure
   unfolding measured_figures
   measure-by true f g e chosen other =
       let first : measured_figures ps ≡ f = cc (figures-in-measured ps t e) in
@@ -112,5 +111,5 @@ module _ (ps qs : Parameters) (t : ℕ) where
   measure-by false f g e chosen other =
       let same : f ≡ g = cc (figures-in-other ps t e, figures-in-other qs t e) in ap (λ (h : Figures). h.measure) same
 
-  pub measure-same : (f g : Figures) → figures_in ps t ≡ Tree f → figures_in qs t ≡ Tree g → f.measure ≡ g.measure
+  pub measure-same : (f g : Figures) → figures_in ps t ≡ Some f → figures_in qs t ≡ Some g → f.measure ≡ g.measure
   measure-same f g = measure-by (eqb t 7) f g refl

@@ -1,13 +1,7 @@
 -- Answers as document 01 numbers them ("Turned-back lines"): accepted with a value, or refused by a row, rows 10 and 26 with their field.
-use Rattle.std.specs.Prelude.{ℕ, Bool, cond}
-use Rattle.records.specs.declared.Raw.{Raw}
-use Rattle.records.specs.declared.Record.{Record}
+use Rattle.std.specs.Prelude.{ℕ, Bool, cond, Result, Ok, Err}
 use Rattle.records.specs.declared.Refusal.{Refusal}
 use Rattle.records.specs.declared.Refusal.TheVariants.{Length, Digit, Kind, Turn, Tree, Year, Period, Level, Due, Range, Count, Buffer, Account, Place, Mixed, Tried, Ceiling, NoCeiling, Unlike, Days, Scratch, ListSize, UnlikeAccounts, Parameter, Warmth, Float}
-use Rattle.records.specs.declared.Parsed.{Parsed}
-use Rattle.records.specs.declared.Checked.{Checked}
-use Rattle.records.specs.declared.Decoded.{Decoded}
-use Rattle.records.specs.declared.Written.{Written}
 
 -- refused by a row: its number, and the field that rows 10 and 26 name (0 for every other row)
 pub data Outcome (A : Type 0) : Type 0 where
@@ -61,18 +55,7 @@ row_of Parameter = (24, 0)
 row_of Warmth = (25, 0)
 row_of (Float f) = (26, f)
 
-abbrev pub parsed_as : Parsed → Outcome Raw
-parsed_as (Parsed.Frame frame) = accepted frame
-parsed_as (Parsed.Refused r) = refused (row_of r)
-
-abbrev pub checked_as : Checked → Outcome Unit
-checked_as Checked.Sound = accepted tt
-checked_as (Checked.Refused r) = refused (row_of r)
-
-abbrev pub decoded_as : Decoded → Outcome Record
-decoded_as (Decoded.Read record') = accepted record'
-decoded_as (Decoded.Refused r) = refused (row_of r)
-
-abbrev pub written_as : Written → Outcome ℕ
-written_as (Written.Bytes n) = accepted n
-written_as (Written.Refused r) = refused (row_of r)
+-- what a call answers, as document 01 numbers it
+abbrev pub outcome_of : {A : Type 0} → Result A Refusal → Outcome A
+outcome_of (Ok a) = accepted a
+outcome_of (Err r) = refused (row_of r)

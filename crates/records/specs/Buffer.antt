@@ -1,7 +1,7 @@
 -- What is written into a lent buffer (document 01, "Frames", "Report"): row 12 by the text's exact length; past the text untouched, on a refusal all of it.
-use Rattle.std.specs.Prelude.{ℕ, ◌≡◌, List, ◌++◌, ltb, length, drop}
-use Rattle.records.specs.declared.Written.{Written}
-use Rattle.records.specs.Answers.{Outcome, accepted, refused, row, onward, written_as}
+use Rattle.std.specs.Prelude.{ℕ, ◌≡◌, List, ◌++◌, ltb, length, drop, Result}
+use Rattle.records.specs.declared.Refusal.{Refusal}
+use Rattle.records.specs.Answers.{Outcome, accepted, refused, row, onward, outcome_of}
 
 -- row 12 by the text's exact length, else the number of bytes written
 abbrev pub put_of : List ℕ → ℕ → Outcome ℕ
@@ -17,6 +17,6 @@ text_after (accepted text) buffer = buffer_after (put_of text (length buffer)) t
 text_after (refused r) buffer = buffer
 
 -- what writing a text, or its refusal, answers and leaves in the buffer
-pub record Prints (text : Outcome (List ℕ)) (before : List ℕ) (answer : Written) (after : List ℕ) : Type 0 where
-  pub answers : written_as answer ≡ onward text (λ t. put_of t (length before))
+pub record Prints (text : Outcome (List ℕ)) (before : List ℕ) (answer : Result ℕ Refusal) (after : List ℕ) : Type 0 where
+  pub answers : outcome_of answer ≡ onward text (λ t. put_of t (length before))
   pub leaves : after ≡ text_after text before

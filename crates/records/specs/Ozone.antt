@@ -1,24 +1,22 @@
 -- Hours without ozone, and the ways to fill them (document 02, W-207).
-use Rattle.std.specs.Prelude.{ℕ, ◌≤◌, ◌≡◌, Bool, true, false, List, [], ◌∷◌}
-use Rattle.records.specs.declared.Ozone.{Ozone}
-use Rattle.records.specs.declared.Ozone.TheVariants.{Tenths, Missing}
+use Rattle.std.specs.Prelude.{ℕ, ◌≤◌, ◌≡◌, Bool, true, false, List, [], ◌∷◌, Option, Some, None}
 use Rattle.records.specs.declared.Hour.{Hour}
 
-abbrev pub is_missing : Ozone → Bool
-is_missing (Tenths n) = false
-is_missing Missing = true
+abbrev pub is_missing : Option ℕ → Bool
+is_missing (Some n) = false
+is_missing None = true
 
 -- tenths of ppb; a number in the place of a missing reading
-abbrev pub tenths_or : ℕ → Ozone → ℕ
-tenths_or m (Tenths n) = n
-tenths_or m Missing = m
+abbrev pub tenths_or : ℕ → Option ℕ → ℕ
+tenths_or m (Some n) = n
+tenths_or m None = m
 
 -- the same hour with another reading of ozone
 abbrev pub with_ozone : ℕ → Hour → Hour
 with_ozone n h = record {
   day = h.day;
   hour = h.hour;
-  ozone = Tenths n;
+  ozone = Some n;
   ppfd = h.ppfd;
   radiation = h.radiation;
   temperature = h.temperature;

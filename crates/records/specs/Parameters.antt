@@ -1,6 +1,5 @@
 -- Row 24 (document 02, W-212): a parameter outside its range or order, or p or q above 22.
-use Rattle.std.specs.Prelude.{ℕ, Bool, true, false, ◌||◌, ltb, leb}
-use Rattle.power.specs.declared.Reduced.{Reduced}
+use Rattle.std.specs.Prelude.{ℕ, Bool, ◌||◌, ltb, leb, is_none}
 use Rattle.measured.specs.declared.Parameters.{Parameters}
 use Rattle.measured.specs.Parameters.{degrees_of}
 use Rattle.measured.specs.Figures.{powers_in}
@@ -10,12 +9,7 @@ use Rattle.records.specs.Numbers.{is_outside}
 abbrev pub pair_out : ℕ → ℕ → Bool
 pair_out max min = leb min max || ltb 10000 min
 
--- no p and q: the temperatures do not rise, or one of the two, reduced, is above 22
-abbrev pub is_none : Reduced → Bool
-is_none (Reduced.Of p q) = false
-is_none Reduced.None = true
-
--- Tmin, Topt, Tmax not rising within -20 to 60 °C, or p or q above 22
+-- Tmin, Topt, Tmax not rising within -20 to 60 °C, or no p and q: one of the two, reduced, is above 22
 abbrev pub temperatures_out : Parameters → Bool
 temperatures_out p = ltb (degrees_of p.tmin) 30 || ltb 110 (degrees_of p.tmax) || is_none (powers_in p)
 

@@ -1,7 +1,6 @@
 -- The rows that a record meets by itself (document 01, "Turned-back lines"): 5 to 8 for a header, 10 for an hour, 17 for a ceiling, 24 for parameters, 25 for warmth; and row 18.
-use Rattle.std.specs.Prelude.{ℕ, ◌+◌, ◌-◌, Bool, false, not, ◌&&◌, ◌||◌, eqb, ltb}
+use Rattle.std.specs.Prelude.{ℕ, ◌+◌, ◌-◌, Bool, false, not, ◌&&◌, ◌||◌, eqb, ltb, Option, Some, None}
 use Rattle.trees.specs.declared.Figures.{Figures}
-use Rattle.trees.specs.declared.Choice.{Choice}
 use Rattle.trees.specs.declared.Warmth.{Warmth}
 use Rattle.trees.specs.Figures.{ramp_days}
 use Rattle.measured.specs.declared.Parameters.{Parameters}
@@ -14,8 +13,6 @@ use Rattle.records.specs.Answers.{Outcome, accepted, refused, row, field}
 use Rattle.records.specs.Temperature.{temperature_out}
 use Rattle.records.specs.Ozone.{is_missing}
 use Rattle.records.specs.declared.Header.{Header}
-use Rattle.records.specs.declared.Ozone.{Ozone}
-use Rattle.records.specs.declared.Ozone.TheVariants.{Tenths, Missing}
 use Rattle.records.specs.declared.Air.{Air}
 use Rattle.records.specs.declared.Air.TheVariants.{Deficit, Pressure, Humidity}
 use Rattle.records.specs.declared.Soil.{Soil}
@@ -24,14 +21,14 @@ use Rattle.records.specs.declared.Hour.{Hour}
 use Rattle.records.specs.declared.Record.{Record}
 
 -- row 5 where a number is no tree, else what follows of the tree's figures
-abbrev pub on_tree : {A : Type 0} → Choice → (Figures → Outcome A) → Outcome A
-on_tree (Choice.Tree f) next = next f
-on_tree Choice.Unknown next = refused (5, 0)
+abbrev pub on_tree : {A : Type 0} → Option Figures → (Figures → Outcome A) → Outcome A
+on_tree (Some f) next = next f
+on_tree None next = refused (5, 0)
 
 -- ozone 0 to 5000 tenths of ppb; missing is in range (W-207)
-abbrev pub ozone_out : Ozone → Bool
-ozone_out (Tenths n) = ltb 5000 n
-ozone_out Missing = false
+abbrev pub ozone_out : Option ℕ → Bool
+ozone_out (Some n) = ltb 5000 n
+ozone_out None = false
 
 -- VPD 0 to 10000 Pa, or in its place humidity 0 to 1000 tenths of a percent (W-205)
 abbrev pub vapour_out : Air → Bool
@@ -98,5 +95,5 @@ abbrev pub warmth_broken : Warmth → Bool
 warmth_broken w = has_warmth w && warmth_out w
 
 -- row 18: ozone missing, and no ceiling (W-207)
-abbrev pub lacks_ceiling : ℕ → Ozone → Bool
+abbrev pub lacks_ceiling : ℕ → Option ℕ → Bool
 lacks_ceiling ceiling ozone = is_missing ozone && eqb ceiling 0

@@ -7,7 +7,7 @@ mod period;
 mod ranges;
 
 ghost use Rattle.std.specs.Prelude.{◌≡◌};
-ghost use Rattle.records.specs.Answers.{row_of, checked_as};
+ghost use Rattle.records.specs.Answers.{row_of, outcome_of};
 ghost use Rattle.records.specs.Ranges.{checked};
 
 pub use measured::Parameters;
@@ -20,7 +20,7 @@ pub use ranges::{
 pub use trees::Warmth;
 
 // The season's header: tree number, days in the year, first and last day of the accumulation period, critical level in hundredths of mmol m⁻².
-#[derive(Clone, Copy)]
+#[derive(Clone, Copy, Default, PartialEq)]
 pub struct Header {
     pub tree: u8,
     pub days: u16,
@@ -34,13 +34,6 @@ pub struct Header {
 pub enum Soil {
     Suction(u16),
     Water(u16),
-}
-
-// A reading of ozone in tenths of ppb, or none: FFFF in a line (W-207).
-#[derive(Clone, Copy)]
-pub enum Ozone {
-    Tenths(u16),
-    Missing,
 }
 
 // What an hour says of the air besides its ozone and temperature, by the kind of its frame: vapour pressure deficit in Pa (02);
@@ -58,7 +51,7 @@ pub enum Air {
 pub struct Hour {
     pub day: u16,
     pub hour: u8,
-    pub ozone: Ozone,
+    pub ozone: Option<u16>,
     pub ppfd: u16,
     pub radiation: u16,
     pub temperature: i16,
@@ -147,35 +140,7 @@ pub enum Refusal {
     Float(u8),
 }
 
-// The answer to a line by rows 1 to 3: its frame, or the row that refuses it.
-#[derive(Clone, Copy)]
-pub enum Parsed {
-    Frame(Raw),
-    Refused(Refusal),
-}
-
-// The answer to a record by its own rows: none refuses it, or the first that does.
-#[derive(Clone, Copy)]
-pub enum Checked {
-    Sound,
-    Refused(Refusal),
-}
-
-// The answer to a line or a frame that is read: its record, or the row that refuses it.
-#[derive(Clone, Copy)]
-pub enum Decoded {
-    Read(Record),
-    Refused(Refusal),
-}
-
-// The answer to a writing: the bytes written from the buffer's front, or the row that refuses it, nothing written.
-#[derive(Clone, Copy)]
-pub enum Written {
-    Bytes(usize),
-    Refused(Refusal),
-}
-
-// A refusal's row, 1 to 26.
+// A refusal's row, 1 to 26. Kept: two cases have a field, so the enum has no numbers of its own, and a `From` would be this match.
 pub fn row_of(refusal: Refusal) -> u8
     ensures { result ≡ (row_of «refusal»).0 }
 {
@@ -210,8 +175,9 @@ pub fn row_of(refusal: Refusal) -> u8
 }
 
 // A record's own rows: 5 to 8 for a header, 10 for an hour, 17 for a ceiling, 24 for parameters, 25 for warmth.
-pub fn check(record: Record) -> Checked
-    ensures { checked_as result ≡ checked «record» }
+#[tactic(auto, unfolding(crate::specs::Ranges::checked))]
+pub fn check(record: Record) -> Result<(), Refusal>
+    ensures { outcome_of result ≡ checked «record» }
 {
     match record {
         Record::Header(h) => check_header(h),
@@ -219,7 +185,7 @@ pub fn check(record: Record) -> Checked
             let soil = h.soil;
             check_hour(h, soil_out(soil))
         },
-        Record::End(_) => Checked::Sound,
+        Record::End(_) => Ok(()),
         Record::Ceiling(c) => check_ceiling(c),
         Record::Parameters(p) => check_parameters(p),
         Record::Warmth(w) => check_warmth(w),

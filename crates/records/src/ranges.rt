@@ -1,79 +1,60 @@
 // The rows that a record meets by itself: 5 to 8 for a header, 10 with its first field out of range for an hour, 17 for a ceiling, 24 for parameters, 25 for warmth; and row 18.
+ghost use Rattle.records.specs.Answers.{outcome_of};
 ghost use Rattle.std.specs.Prelude.{◌≡◌};
-ghost use Rattle.records.specs.Answers.{checked_as};
 ghost use Rattle.records.specs.Ranges.{period_out, ramps_out, ozone_out, vapour_out, soil_out, pressure_out, hour_checked, checked, ceiling_out, warmth_out, warmth_broken, lacks_ceiling};
 ghost use Rattle.records.specs.Numbers.{is_outside};
-ghost use Rattle.records.specs.Parameters.{pair_out, is_none, temperatures_out, parameter_out};
+ghost use Rattle.records.specs.Parameters.{pair_out, temperatures_out, parameter_out};
 ghost use Rattle.records.specs.Temperature.{temperature_out};
 ghost use Rattle.records.specs.declared.Record.{Record};
 
-use crate::{Air, Ceiling, Checked, Header, Hour, Ozone, Parameters, Refusal, Soil, Warmth};
-use power::Reduced;
-use trees::Choice;
+use crate::{Air, Ceiling, Header, Hour, Parameters, Refusal, Soil, Warmth};
 
 // Not from low to high.
 pub fn outside(low: u16, high: u16, n: u16) -> bool
     ensures { result ≡ is_outside low high n }
 {
-    if n < low { true } else { high < n }
+    n < low || high < n
 }
 
 // Row 7, for a tree whose ramps take so many days.
 fn period_out(h: Header, ramps: u32) -> bool
     ensures { result ≡ period_out h ramps }
 {
-    if h.first < 1 {
-        return true;
-    }
-    if h.last < h.first {
-        return true;
-    }
-    if h.days < h.last {
-        return true;
-    }
-    ((h.last - h.first) as u32) < ramps
+    h.first < 1 || h.last < h.first || h.days < h.last || ((h.last - h.first) as u32) < ramps
 }
 
 // Rows 5 to 8.
-pub fn check_header(h: Header) -> Checked
-    ensures { checked_as result ≡ checked (Record.Header h) }
+#[tactic(auto, unfolding(crate::specs::Ranges::checked))]
+pub fn check_header(h: Header) -> Result<(), Refusal>
+    ensures { outcome_of result ≡ checked (Record.Header h) }
 {
-    let Choice::Tree(f) = measured::figures_before(h.tree) else {
-        return Checked::Refused(Refusal::Tree);
+    let Some(f) = measured::figures_before(h.tree) else {
+        return Err(Refusal::Tree);
     };
     if outside(365, 366, h.days) {
-        return Checked::Refused(Refusal::Year);
+        return Err(Refusal::Year);
     }
     if period_out(h, trees::ramp_days(f)) {
-        return Checked::Refused(Refusal::Period);
+        return Err(Refusal::Period);
     }
     if outside(1, 10000, h.level) {
-        return Checked::Refused(Refusal::Level);
+        return Err(Refusal::Level);
     }
-    Checked::Sound
+    Ok(())
 }
 
 // Field 4.
 pub fn temperature_out(t: i16) -> bool
     ensures { result ≡ temperature_out t }
 {
-    if t < -500 {
-        return true;
-    }
-    if 600 < t {
-        return true;
-    }
-    false
+    t < -500 || 600 < t
 }
 
 // Field 1.
-fn ozone_out(ozone: Ozone) -> bool
+fn ozone_out(ozone: Option<u16>) -> bool
     ensures { result ≡ ozone_out ozone }
 {
-    match ozone {
-        Ozone::Tenths(n) => 5000 < n,
-        Ozone::Missing => false,
-    }
+    ozone.is_some_and(|n| 5000 < n)
 }
 
 // Field 5.
@@ -81,11 +62,7 @@ fn vapour_out(air: Air) -> bool
     ensures { result ≡ vapour_out air }
 {
     match air {
-        Air::Deficit(n) => 10000 < n,
-        Air::Pressure {
-            deficit: n,
-            pressure: _,
-        } => 10000 < n,
+        Air::Deficit(n) | Air::Pressure { deficit: n, .. } => 10000 < n,
         Air::Humidity(n) => 1000 < n,
     }
 }
@@ -95,12 +72,8 @@ fn pressure_out(air: Air) -> bool
     ensures { result ≡ pressure_out air }
 {
     match air {
-        Air::Deficit(_) => false,
-        Air::Pressure {
-            deficit: _,
-            pressure: n,
-        } => outside(5000, 11000, n),
-        Air::Humidity(_) => false,
+        Air::Pressure { pressure, .. } => outside(5000, 11000, pressure),
+        Air::Deficit(_) | Air::Humidity(_) => false,
     }
 }
 
@@ -115,98 +88,81 @@ pub fn soil_out(soil: Soil) -> bool
 }
 
 // Row 10, given whether the soil is unfit: out of range or, for a caller that knows the tree, in the other measure.
-pub fn check_hour(h: Hour, unfit: bool) -> Checked
-    ensures { checked_as result ≡ hour_checked unfit h }
+pub fn check_hour(h: Hour, unfit: bool) -> Result<(), Refusal>
+    ensures { outcome_of result ≡ hour_checked unfit h }
 {
     let ozone = h.ozone;
     if ozone_out(ozone) {
-        return Checked::Refused(Refusal::Range(1));
+        return Err(Refusal::Range(1));
     }
     if 3000 < h.ppfd {
-        return Checked::Refused(Refusal::Range(2));
+        return Err(Refusal::Range(2));
     }
     if 1500 < h.radiation {
-        return Checked::Refused(Refusal::Range(3));
+        return Err(Refusal::Range(3));
     }
     if temperature_out(h.temperature) {
-        return Checked::Refused(Refusal::Range(4));
+        return Err(Refusal::Range(4));
     }
     let air = h.air;
     if vapour_out(air) {
-        return Checked::Refused(Refusal::Range(5));
+        return Err(Refusal::Range(5));
     }
     if 6000 < h.wind {
-        return Checked::Refused(Refusal::Range(6));
+        return Err(Refusal::Range(6));
     }
     if unfit {
-        return Checked::Refused(Refusal::Range(7));
+        return Err(Refusal::Range(7));
     }
     if pressure_out(air) {
-        return Checked::Refused(Refusal::Range(8));
+        return Err(Refusal::Range(8));
     }
-    Checked::Sound
+    Ok(())
 }
 
 // Row 17.
-pub fn check_ceiling(c: Ceiling) -> Checked
-    ensures { checked_as result ≡ checked (Record.Ceiling c) }
+#[tactic(auto, unfolding(crate::specs::Ranges::checked))]
+pub fn check_ceiling(c: Ceiling) -> Result<(), Refusal>
+    ensures { outcome_of result ≡ checked (Record.Ceiling c) }
 {
     if outside(1, 5000, c.ozone) {
-        return Checked::Refused(Refusal::Ceiling);
+        return Err(Refusal::Ceiling);
     }
-    Checked::Sound
+    Ok(())
 }
 
 // Row 17 refuses a season's ceiling, which is 0 where none was fed.
 pub fn ceiling_out(ceiling: u16) -> bool
     ensures { result ≡ ceiling_out ceiling }
 {
-    if ceiling == 0 {
-        return false;
-    }
-    outside(1, 5000, ceiling)
+    ceiling != 0 && outside(1, 5000, ceiling)
 }
 
 // Row 18: ozone missing, and no ceiling.
-pub fn lacks_ceiling(ceiling: u16, ozone: Ozone) -> bool
+pub fn lacks_ceiling(ceiling: u16, ozone: Option<u16>) -> bool
     ensures { result ≡ lacks_ceiling ceiling ozone }
 {
-    match ozone {
-        Ozone::Tenths(_) => false,
-        Ozone::Missing => ceiling == 0,
-    }
+    ozone.is_none() && ceiling == 0
 }
 
 // Not rising within 0 to 10000.
 fn pair_out(max: u16, min: u16) -> bool
     ensures { result ≡ pair_out max min }
 {
-    if min <= max { true } else { 10000 < min }
-}
-
-fn is_none(powers: Reduced) -> bool
-    ensures { result ≡ is_none powers }
-{
-    match powers {
-        Reduced::Of { p: _, q: _ } => false,
-        Reduced::None => true,
-    }
+    min <= max || 10000 < min
 }
 
 // Tmin, Topt, Tmax not rising within -20 to 60 °C, or p or q above 22.
 fn temperatures_out(p: Parameters) -> bool
     ensures { result ≡ temperatures_out p }
 {
-    if measured::degrees(p.tmin) < 30 {
-        return true;
-    }
-    if 110 < measured::degrees(p.tmax) {
-        return true;
-    }
-    is_none(measured::powers(p))
+    measured::degrees(p.tmin) < 30
+        || 110 < measured::degrees(p.tmax)
+        || measured::powers(p).is_none()
 }
 
 // Row 24.
+#[tactic(auto, unfolding(crate::specs::Parameters::parameter_out))]
 pub fn parameters_out(p: Parameters) -> bool
     ensures { result ≡ parameter_out p }
 {
@@ -224,13 +180,14 @@ pub fn parameters_out(p: Parameters) -> bool
         | (10 < p.y)
 }
 
-pub fn check_parameters(p: Parameters) -> Checked
-    ensures { checked_as result ≡ checked (Record.Parameters p) }
+#[tactic(auto, unfolding(crate::specs::Ranges::checked))]
+pub fn check_parameters(p: Parameters) -> Result<(), Refusal>
+    ensures { outcome_of result ≡ checked (Record.Parameters p) }
 {
     if parameters_out(p) {
-        return Checked::Refused(Refusal::Parameter);
+        return Err(Refusal::Parameter);
     }
-    Checked::Sound
+    Ok(())
 }
 
 // Row 7 of a measured tree's ramps.
@@ -244,27 +201,22 @@ pub fn ramps_out(h: Header, p: Parameters) -> bool
 pub fn warmth_out(w: Warmth) -> bool
     ensures { result ≡ warmth_out w }
 {
-    if (w.end as u32) < (w.rise as u32) + (w.fall as u32) {
-        return true;
-    }
-    outside(1, 5000, w.end)
+    (w.end as u32) < (w.rise as u32) + (w.fall as u32) || outside(1, 5000, w.end)
 }
 
-pub fn check_warmth(w: Warmth) -> Checked
-    ensures { checked_as result ≡ checked (Record.Warmth w) }
+#[tactic(auto, unfolding(crate::specs::Ranges::checked))]
+pub fn check_warmth(w: Warmth) -> Result<(), Refusal>
+    ensures { outcome_of result ≡ checked (Record.Warmth w) }
 {
     if warmth_out(w) {
-        return Checked::Refused(Refusal::Warmth);
+        return Err(Refusal::Warmth);
     }
-    Checked::Sound
+    Ok(())
 }
 
 // Row 25 refuses a season's warmth, which is all 0 where none was fed.
 pub fn warmth_broken(w: Warmth) -> bool
     ensures { result ≡ warmth_broken w }
 {
-    if measured::has_warmth(w) {
-        return warmth_out(w);
-    }
-    false
+    measured::has_warmth(w) && warmth_out(w)
 }

@@ -1,69 +1,29 @@
 // Cases: 8 digits of a text's length, 4 of the buffer's, all capital hexadecimal, a line feed, and the text.
-use cases::{print, print_number, u16_at, u32_at};
-use frames::Written;
+use cases::{Row, u16_at, u32_at};
+use std::io;
 
-fn print_written(rt: &impl Print, written: Written) {
-    match written {
-        Written::Bytes(n) => {
-            print(rt, b"bytes ");
-            print_number(rt, n as u64);
-        },
-        Written::Refused(refusal) => {
-            print(rt, b"row ");
-            print_number(rt, frames::row_of(refusal) as u64);
-        },
-    }
-}
-
-// The report into the front of a buffer: the answer, and the whole buffer.
-fn print_into(rt: &impl Print, text: &[u8], room: usize, buf: &mut [u8]) {
-    if buf.len() < room {
-        return;
-    }
-    let written = report::season_report(text, &mut buf[0..room]);
-    print_written(rt, written);
-    print(rt, b" ");
-    print(rt, buf);
-    print(rt, b"\n");
-}
-
-// A text that fills the buffer; its report goes into a buffer of 600 marks.
-fn print_text(rt: &(impl Input + Print), text: &mut [u8], room: usize) {
-    cases::read(rt, text);
+// The report into the front of a buffer of 600 marks: the answer, and the whole buffer; nothing where the front is longer.
+fn print_case(rt: &impl Print, text: &[u8], room: usize) -> io::Result<()> {
     let mut buf = [b'#'; 600];
-    print_into(rt, text, room, &mut buf);
+    let Some(lent) = buf.get_mut(..room) else {
+        return Ok(());
+    };
+    match report::season_report(text, lent) {
+        Ok(n) => print!(rt; "bytes {n} ")?,
+        Err(refusal) => print!(rt; "{} ", Row(refusal))?,
+    }
+    rt.write_all(&buf)?;
+    println!(rt; "")
 }
 
-fn print_case(rt: &(impl Input + Print), buf: &mut [u8], n: usize, room: usize) {
-    if buf.len() < n {
-        return;
+pub(crate) fn print_cases(rt: &impl Print, input: &[u8]) -> io::Result<()> {
+    let mut rest = input;
+    while let Some((head, texts)) = rest.split_at_checked(13) {
+        let Some((text, others)) = texts.split_at_checked(u32_at(head, 0) as usize) else {
+            return Ok(());
+        };
+        print_case(rt, text, u16_at(head, 8) as usize)?;
+        rest = others;
     }
-    print_text(rt, &mut buf[0..n], room);
-}
-
-// The next case; false where there is none.
-fn print_next(rt: &(impl Input + Print), buf: &mut [u8]) -> bool {
-    let mut head = [0; 13];
-    let got = cases::read(rt, &mut head);
-    if got < 13 {
-        return false;
-    }
-    print_case(
-        rt,
-        buf,
-        u32_at(&head, 0) as usize,
-        u16_at(&head, 8) as usize,
-    );
-    true
-}
-
-// A proved loop has to end, and nothing says that the input does.
-const MOST_CASES: u64 = 1000000;
-
-pub(crate) fn print_cases(rt: &(impl Input + Print), buf: &mut [u8]) {
-    for _ in 0..MOST_CASES {
-        if !print_next(rt, buf) {
-            return;
-        }
-    }
+    Ok(())
 }

@@ -2,13 +2,16 @@
 use Prim.Native.Nat.{ℕ, ◌+◌, ◌≤◌, ◌<◌}
 use mathlib.Core.Path.{◌≡◌, refl, sym, ap, ◌∙◌}
 use mathlib.Core.Bool.{true, false}
-use mathlib.Core.List.{List, [], ◌∷◌, ◌++◌}
+use mathlib.Core.List.{List, [], ◌∷◌, ◌++◌, append-nil}
 use native.Mathlib.Omega.{arith}
 use native.Mathlib.Nat.{add-zero, zero-add, zero-mul}
 use borrow.Author.Tests.{le-ltb}
 use lib.IntN.{ℤ}
-use lib.ListN.{length, get_or, drop, length-append, take-append-drop}
+use mir.Syntax.{w16}
+use mir.Val.{SFits}
+use lib.ListN.{length, get_or, take, drop, length-append, take-append-drop}
 use lib.Seq.{sets, sets-eq}
+use Rattle.std.proofs.lemmas.List.{drop_all}
 use Rattle.records.specs.Answers.{accepted}
 use Rattle.records.specs.Temperature.{signed_of, complement_of}
 use Rattle.records.proofs.AnswerLaws.{row-passed, accepted-same}
@@ -19,11 +22,11 @@ use Rattle.account_spec.specs.declared.Account.{Account}
 use Rattle.account_spec.specs.HourKinds.{kind_number}
 use Rattle.account_spec.specs.Account.{phase_number}
 use Rattle.stored.specs.Packing.{big_endian, big_endian_at, packed, unpacked, slice, total_width, FitFrom}
-use Rattle.stored.specs.Layout.{version, widths, account_numbers, phase_of, hour_kind_of, is_kind, account_from, account_bytes, account_in, holds_none, take_up_of}
+use Rattle.stored.specs.Layout.{version, widths, account_width, account_numbers, phase_of, hour_kind_of, is_kind, account_from, account_bytes, account_in, holds_none, take_up_of}
 use Rattle.stored.specs.RoundTrip.{TakenUp, StoredBack}
-use Rattle.stored.proofs.PackingLaws.{each_fits}
+use Rattle.stored.proofs.PackingLaws.{each_fits, fits-split}
 use Rattle.stored.proofs.RoundTripLaws.{packed-unpacked, packed-length, unpacked-packed}
-use Rattle.stored.proofs.FieldLaws.{phase-back, phase-le, phase-number, kind-back, kind-byte, kind-number}
+use Rattle.stored.proofs.FieldLaws.{phase-back, phase-le, phase-number, kind-back, kind-byte, kind-number, total-back}
 use Rattle.stored.proofs.HeldLaws.{held-room, held-version, held-phase, held-kind}
 
 -- ---- stored and taken up
@@ -60,6 +63,15 @@ unfolding account_bytes
 put-bytes a b h =
     let size = account-length a in
     sets-eq (account_bytes a) b 0 (rw (zero-add, size) h) ∙ rw (zero-add, size)
+
+-- in bytes that have room for an account alone
+pub put-alone : (a : Account) (b : List ℕ) → length b ≡ account_width → sets b 0 (packed widths (account_numbers a)) ≡ account_bytes a
+put-alone a b h =
+    let none : drop account_width b ≡ [] = drop_all account_width b (omega arith) in
+    put-bytes a b (omega arith) ∙ ap (λ (l : List ℕ). account_bytes a ++ l) none ∙ append-nil (account_bytes a)
+
+pub storable : (a : Account) → SFits w16 a.carried.total → FitFrom 0 (take 21 widths) (account_numbers a) → FitFrom 21 (drop 21 widths) (account_numbers a) → Storable a
+storable a total front parameters = record { numbers = fits-split 21 widths (account_numbers a) 0 front parameters; total = total-back a.carried.total total }
 
 -- ---- taken up and stored
 

@@ -1,12 +1,13 @@
--- A number's bytes: one more byte, read or written; written and read back; read and written back.
+-- A number's bytes: one more byte read, below what bound; the library's bytes of a number.
 use Prim.Native.Nat.{ℕ, zero, suc, ◌+◌, ◌-◌, ◌*◌, ◌/◌, ◌%◌, ◌^◌, ◌≤◌, ◌<◌}
-use mathlib.Core.Path.{◌≡◌, refl, ap, ◌∙◌}
-use mathlib.Core.List.{List, [], ◌∷◌}
+use mathlib.Core.Path.{◌≡◌, refl, sym, ap, ◌∙◌}
+use mathlib.Core.List.{List, [], ◌∷◌, ◌++◌, append-nil}
 use native.Mathlib.Omega.{arith}
-use native.Mathlib.Nat.{pow-suc, pow-le-pow_right}
+use native.Mathlib.Nat.{zero-add, suc-add, pow-suc, mul_comm, pow-le-pow_right, div-div-eq-div-mul}
 use native.Mathlib.Numerals.{add-one}
-use lib.ListN.{get_or, set}
-use lib.Seq.{sets, set_comm}
+use lib.ListN.{get_or, drop}
+use lib.Seq.{append_snoc}
+use Rattle.std.specs.Int.{byte_at, bytes_high_first}
 use Rattle.stored.specs.Packing.{big_endian, big_endian_at}
 
 -- ---- one more byte read
@@ -22,21 +23,34 @@ grown i n b h k = rw (add-one, pow-suc) (omega arith)
 pub small : (i n : ℕ) → n < 256 ^ i → i < 8 → n < 72057594037927936
 small i n h k = let p : 256 ^ i ≤ 256 ^ 7 = pow-le-pow_right (omega arith) {i = i} {j = 7} (omega arith) in omega arith
 
--- ---- one more byte written, before those that are
+-- ---- the library's bytes
 
-set-sets : (xs b : List ℕ) (i j x : ℕ) → i < j → set (sets b j xs) i x ≡ sets (set b i x) j xs
-set-sets [] b i j x h = refl
-set-sets (y ∷ ys) b i j x h =
-    let other : j ≡ i → ⊥ = λ e. omega arith in
-    set-sets ys (set b j y) i (suc j) x (omega arith) ∙ ap (λ (l : List ℕ). sets l (suc j) ys) (set_comm b j i y x other)
+byte_at-suc : (k n : ℕ) → byte_at (suc k) n ≡ byte_at k (n / 256)
+byte_at-suc zero n = omega arith
+byte_at-suc (suc k) n =
+    let p : 256 ^ suc (suc k) ≡ 256 * 256 ^ suc k = pow-suc 256 (suc k) ∙ mul_comm (256 ^ suc k) 256 in
+    ap (λ (m : ℕ). n / m % 256) p ∙ ap (λ (m : ℕ). m % 256) (sym (div-div-eq-div-mul n 256 (256 ^ suc k)))
 
--- what a put of the bytes at i and after it has left, and the byte before
-pub put-before : (b : List ℕ) (tail : List ℕ) (at i x : ℕ) → 0 < i → set (sets b (at + i) tail) (at + (i - 1)) x ≡ sets b (at + (i - 1)) (x ∷ tail)
-put-before b tail at i x h =
-    let e : at + i ≡ suc (at + (i - 1)) = omega arith in
-    rw e (set-sets tail b (at + (i - 1)) (suc (at + (i - 1))) x (omega arith))
+bytes-snoc : (w n : ℕ) → bytes_high_first (suc w) n ≡ bytes_high_first w (n / 256) ++ n % 256 ∷ []
+bytes-snoc zero n = refl
+bytes-snoc (suc w) n =
+    ap (λ (l : List ℕ). byte_at (suc w) n ∷ l) (bytes-snoc w n)
+    ∙ ap (λ (b : ℕ). b ∷ (bytes_high_first w (n / 256) ++ n % 256 ∷ [])) (byte_at-suc w n)
 
-pub big_endian-step : (i n : ℕ) (rest : List ℕ) → 0 < i → big_endian (i - 1) (n / 256) (n % 256 ∷ rest) ≡ big_endian i n rest
+bytes-on : (w n : ℕ) (rest : List ℕ) → bytes_high_first w n ++ rest ≡ big_endian w n rest
 unfolding big_endian
-big_endian-step zero n rest h = absurd (omega arith)
-big_endian-step (suc i) n rest h = let e : suc i - 1 ≡ i = omega arith in rw e
+bytes-on zero n rest = refl
+bytes-on (suc w) n rest =
+    ap (λ (l : List ℕ). l ++ rest) (bytes-snoc w n)
+    ∙ append_snoc (bytes_high_first w (n / 256)) (n % 256) rest
+    ∙ bytes-on w (n / 256) (n % 256 ∷ rest)
+
+low-bytes : (k w n : ℕ) → drop k (bytes_high_first (k + w) n) ≡ bytes_high_first w n
+low-bytes zero w n = ap (λ (m : ℕ). bytes_high_first m n) (zero-add w)
+low-bytes (suc k) w n = rw suc-add (low-bytes k w n)
+
+-- the last w of a number's eight bytes
+pub last-bytes : (w n : ℕ) → w ≤ 8 → drop (8 - w) (bytes_high_first 8 n) ≡ big_endian w n []
+last-bytes w n h =
+    let all : 8 - w + w ≡ 8 = omega arith in
+    ap (λ (m : ℕ). drop (8 - w) (bytes_high_first m n)) (sym all) ∙ low-bytes (8 - w) w n ∙ sym (append-nil (bytes_high_first w n)) ∙ bytes-on w n []

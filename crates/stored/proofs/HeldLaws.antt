@@ -1,16 +1,21 @@
 -- Bytes that hold an account, and bytes that hold none, by the tests of `holds_none`.
 use Prim.Native.Nat.{ℕ, ◌≤◌, ◌<◌}
-use mathlib.Core.Path.{◌≡◌}
+use mathlib.Core.Path.{◌≡◌, ap}
 use mathlib.Core.Bool.{Bool, true, false, not, ◌||◌, or-true}
 use mathlib.Core.List.{List}
 use borrow.Author.Tests.{le-ltb, lt-ltb, ltb-false, eqb-true, eq-eqb, ne_eqb, not-false}
 use lib.Dec.{eqb, ltb}
-use lib.ListN.{length, get_or}
+use native.Mathlib.Omega.{arith}
+use lib.ListN.{length, get_or, take}
+use lib.Seq.{length-take-le}
+use Rattle.std.proofs.lemmas.List.{get_or-take}
+use Rattle.records.specs.Temperature.{signed_of}
 use Rattle.records.specs.Answers.{accepted, refused}
 use Rattle.records.proofs.AnswerLaws.{row-passed, or-neither}
 use Rattle.account_spec.specs.declared.Account.{Account}
 use Rattle.stored.specs.Packing.{total_width}
-use Rattle.stored.specs.Layout.{version, widths, is_kind, account_in, holds_none, take_up_of}
+use Rattle.stored.proofs.PackingLaws.{unpacked-front}
+use Rattle.stored.specs.Layout.{version, widths, account_width, phase_of, hour_kind_of, is_kind, account_from, account_in, holds_none, take_up_of}
 
 -- ---- what the tests let pass
 
@@ -69,3 +74,24 @@ taken_none l e = simp e
 pub taken-account : (l : List ℕ) → holds_none l ≡ false → accepted (account_in l) ≡ take_up_of l
 unfolding take_up_of
 taken-account l e = simp e
+
+-- ---- the bytes of an account alone
+
+module _ (l : List ℕ) (room : account_width ≤ length l) where
+  pub front-none : holds_none (take account_width l) ≡ holds_none l
+  unfolding holds_none
+  front-none =
+      let size : length (take account_width l) ≡ account_width = length-take-le account_width l room in
+      simp (
+        le-ltb (length (take account_width l)) account_width (omega (arith, size)),
+        le-ltb (length l) account_width room,
+        get_or-take account_width l 0 0 (omega arith),
+        get_or-take account_width l 1 0 (omega arith),
+        get_or-take account_width l 2 0 (omega arith),
+      )
+
+  pub front-account : account_in (take account_width l) ≡ account_in l
+  unfolding account_in
+  front-account =
+      ap (λ (ns : List ℕ). account_from (phase_of (get_or ns 1 0)) (hour_kind_of (get_or ns 2 0)) (signed_of (get_or ns 11 0)) ns)
+      (unpacked-front account_width l widths 0 (omega arith))

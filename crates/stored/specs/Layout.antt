@@ -1,6 +1,6 @@
 -- The account as bytes: the one list of widths, an account's numbers in that order, the bytes of an account and the account of bytes.
 use Rattle.std.specs.Prelude.{ℕ, Bool, cond, not, ◌||◌, List, [], ◌∷◌, ◌++◌, eqb, ltb, ℤ, length, get_or}
-use Rattle.records.specs.Answers.{Outcome, accepted, refused, row, row_of}
+use Rattle.records.specs.Answers.{Outcome, accepted, row}
 use Rattle.records.specs.Temperature.{signed_of, complement_of}
 use Rattle.measured.specs.Parameters.{parameters_of}
 use Rattle.measured.specs.Warmth.{warmth_of}
@@ -14,7 +14,6 @@ use Rattle.account_spec.specs.declared.Sums.{Sums}
 use Rattle.account_spec.specs.declared.Account.{Account}
 use Rattle.account_spec.specs.HourKinds.{kind_number}
 use Rattle.account_spec.specs.Account.{phase_number, season_numbers, sums_numbers}
-use Rattle.stored.specs.declared.Held.{Held}
 use Rattle.stored.specs.Packing.{packed, unpacked, slice, total_width}
 
 -- of this layout
@@ -29,16 +28,18 @@ widths =
     ∷ 1 ∷ 2 ∷ 2 ∷ 2 ∷ 2 ∷ 2 ∷ 2 ∷ 2 ∷ 2
     ∷ 2 ∷ 2 ∷ 2 ∷ 2 ∷ 2 ∷ 2 ∷ 2 ∷ 2 ∷ 2 ∷ 2 ∷ 2 ∷ 2 ∷ 2 ∷ 2 ∷ 2 ∷ 2 ∷ []
 
+-- the bytes of an account
+abbrev pub account_width : ℕ
+account_width = total_width widths
+
 -- ---- an account's numbers, and the account of such numbers
 
 -- those before the season's: phase, kind and running total by their numbers
-abbrev pub front_numbers : ℕ → ℕ → ℕ → Sums → ℕ → List ℕ
-front_numbers phase kind total sums sum = version ∷ phase ∷ kind ∷ (sums_numbers sums ++ sum ∷ total ∷ [])
+abbrev pub front_numbers : Account → List ℕ
+front_numbers a = version ∷ phase_number a.phase ∷ kind_number a.kind ∷ (sums_numbers a.sums ++ a.carried.sum ∷ complement_of a.carried.total ∷ [])
 
 abbrev pub account_numbers : Account → List ℕ
-account_numbers a =
-    front_numbers (phase_number a.phase) (kind_number a.kind) (complement_of a.carried.total) a.sums a.carried.sum
-    ++ season_numbers a.season
+account_numbers a = front_numbers a ++ season_numbers a.season
 
 unfoldable pub phase_of : ℕ → Phase
 phase_of n = cond (eqb n 0) Fresh (cond (eqb n 1) Open Closed)
@@ -87,7 +88,3 @@ holds_none l =
 -- the account at the front of these bytes, or row 13
 unfoldable pub take_up_of : List ℕ → Outcome Account
 take_up_of l = row 13 (holds_none l) (accepted (account_in l))
-
-abbrev pub held_as : Held → Outcome Account
-held_as (Held.Account a) = accepted a
-held_as (Held.Refused r) = refused (row_of r)

@@ -8,20 +8,13 @@ mod storing;
 mod taking;
 
 ghost use Rattle.std.specs.Prelude.{◌≡◌};
-ghost use Rattle.records.specs.Answers.{accepted};
+ghost use Rattle.records.specs.Answers.{accepted, outcome_of};
 ghost use Rattle.records.specs.Buffer.{Prints};
-ghost use Rattle.stored.specs.Layout.{account_bytes, holds_none, take_up_of, held_as};
+ghost use Rattle.stored.specs.Layout.{account_bytes, holds_none, take_up_of};
 ghost use Rattle.stored.specs.RoundTrip.{TakenUp, StoredBack};
 
 use account_spec::Account;
-use frames::{Refusal, Written};
-
-// What bytes hold at their front: an account, or none (row 13).
-#[derive(Clone, Copy)]
-pub enum Held {
-    Account(Account),
-    Refused(Refusal),
-}
+use frames::Refusal;
 
 // The bytes of an account.
 pub const SIZE: usize = 88;
@@ -30,33 +23,22 @@ pub const SIZE: usize = 88;
 pub const VERSION: u8 = 1;
 
 // An account into the first bytes of a lent buffer: row 12 where it is too short.
-pub fn store(account: Account, buffer: &mut [u8]) -> Written
+pub fn store(account: Account, buffer: &mut [u8]) -> Result<usize, Refusal>
     ensures prints { Prints (accepted (account_bytes account)) buffer.old result buffer.new }
     ensures back { TakenUp account }
 {
-    if buffer.len() < SIZE {
-        return Written::Refused(Refusal::Buffer);
-    }
-    let phase = account.phase;
-    let season = account.season;
-    let kind = account.kind;
-    let sums = account.sums;
-    let carried = account.carried;
-    let p = account::phase_number(phase);
-    let k = account::kind_number(kind);
-    let total = frames::complement(carried.total);
-    storing::put_front(buffer, p, k, total, sums, carried.sum);
-    storing::put_season(buffer, season);
-    Written::Bytes(SIZE)
+    let Some(front) = buffer.first_chunk_mut::<SIZE>() else {
+        return Err(Refusal::Buffer);
+    };
+    storing::put_front(front, account);
+    storing::put_season(front, account.season);
+    Ok(SIZE)
 }
 
-// Whether no account has these bytes at its front.
-fn holds_none(bytes: &[u8]) -> bool
+// Whether no account has these bytes.
+fn holds_none(bytes: &[u8; SIZE]) -> bool
     ensures { result ≡ holds_none bytes.now }
 {
-    if bytes.len() < SIZE {
-        return true;
-    }
     if bytes[0] != VERSION {
         return true;
     }
@@ -67,12 +49,15 @@ fn holds_none(bytes: &[u8]) -> bool
 }
 
 // The account in the first bytes of a slice: row 13 where there is none.
-pub fn take_up(bytes: &[u8]) -> Held
-    ensures result_value { held_as result ≡ take_up_of bytes.now }
+pub fn take_up(bytes: &[u8]) -> Result<Account, Refusal>
+    ensures result_value { outcome_of result ≡ take_up_of bytes.now }
     ensures same { StoredBack bytes.now }
 {
-    if holds_none(bytes) {
-        return Held::Refused(Refusal::Account);
+    let Some(front) = bytes.first_chunk::<SIZE>() else {
+        return Err(Refusal::Account);
+    };
+    if holds_none(front) {
+        return Err(Refusal::Account);
     }
-    Held::Account(taking::account_in(bytes))
+    Ok(taking::account_in(front))
 }

@@ -1,15 +1,17 @@
 // The account in bytes, each number from its place in the layout.
-ghost use Rattle.std.specs.Prelude.{◌≡◌, ◌∷◌, ◌++◌, ◌≤◌, length};
+ghost use Rattle.std.specs.Prelude.{◌≡◌, ◌∷◌, ◌++◌};
 ghost use Rattle.measured.specs.Parameters.{parameters_of};
 ghost use Rattle.measured.specs.Warmth.{warmth_of};
 ghost use Rattle.frames.specs.Layout.{header_of};
-ghost use Rattle.stored.specs.Packing.{unpacked, slice, total_width};
+ghost use Rattle.stored.specs.Packing.{unpacked, slice};
 ghost use Rattle.stored.specs.Layout.{widths, phase_of, hour_kind_of, is_kind, sums_from, season_from, account_in};
 
+use crate::SIZE;
 use crate::big_endian::{get, get_four};
 use account_spec::{Account, Carried, HourKind, Phase, Season, Sums};
 use frames::{Header, Parameters, Warmth};
 
+// Kept: Phase and HourKind are of another crate, where no TryFrom can stand that leaves the test of the bytes to `holds_none`
 fn phase_of(n: u64) -> Phase
     ensures { result ≡ phase_of n }
 {
@@ -35,14 +37,14 @@ fn hour_kind_of(n: u64) -> HourKind
 pub(crate) fn is_kind(n: u8) -> bool
     ensures { result ≡ is_kind n }
 {
-    (n == 0) | (n == 2) | (n == 4) | (n == 5)
+    matches!(n, 0 | 2 | 4 | 5)
 }
 
 fn header_of(tree: u8, ns: [u16; 4]) -> Header
     ensures { result ≡ header_of (tree ∷ ns) }
 {
     Header {
-        tree: tree,
+        tree,
         days: ns[0],
         first: ns[1],
         last: ns[2],
@@ -83,27 +85,24 @@ fn parameters_of(first: [u16; 4], second: [u16; 4], third: [u16; 4], fourth: [u1
     }
 }
 
-fn season_in(b: &[u8]) -> Season
-    requires { total_width widths ≤ length b.now }
+fn season_in(b: &[u8; SIZE]) -> Season
     ensures { result ≡ season_from (unpacked widths 0 b.now) }
 {
-    let tree = get(b, 39, 1) as u8;
-    let period = get_four(b, 40);
     let limits = get_four(b, 48);
-    let first = get_four(b, 56);
-    let second = get_four(b, 64);
-    let third = get_four(b, 72);
-    let fourth = get_four(b, 80);
     Season {
-        header: header_of(tree, period),
+        header: header_of(get(b, 39, 1) as u8, get_four(b, 40)),
         ceiling: limits[0],
-        parameters: parameters_of(first, second, third, fourth),
+        parameters: parameters_of(
+            get_four(b, 56),
+            get_four(b, 64),
+            get_four(b, 72),
+            get_four(b, 80),
+        ),
         warmth: warmth_of(limits),
     }
 }
 
-fn sums_in(b: &[u8]) -> Sums
-    requires { total_width widths ≤ length b.now }
+fn sums_in(b: &[u8; SIZE]) -> Sums
     ensures { result ≡ sums_from (unpacked widths 0 b.now) }
 {
     Sums {
@@ -117,24 +116,17 @@ fn sums_in(b: &[u8]) -> Sums
     }
 }
 
-pub(crate) fn account_in(b: &[u8]) -> Account
-    requires { total_width widths ≤ length b.now }
+pub(crate) fn account_in(b: &[u8; SIZE]) -> Account
     ensures { result ≡ account_in b.now }
 {
-    let phase = phase_of(get(b, 1, 1));
-    let season = season_in(b);
-    let kind = hour_kind_of(get(b, 2, 1));
-    let sums = sums_in(b);
-    let sum = get(b, 33, 4) as u32;
-    let total = frames::signed(get(b, 37, 2) as u16);
     Account {
-        phase: phase,
-        season: season,
-        kind: kind,
-        sums: sums,
+        phase: phase_of(get(b, 1, 1)),
+        season: season_in(b),
+        kind: hour_kind_of(get(b, 2, 1)),
+        sums: sums_in(b),
         carried: Carried {
-            sum: sum,
-            total: total,
+            sum: get(b, 33, 4) as u32,
+            total: frames::signed(get(b, 37, 2) as u16),
         },
     }
 }

@@ -1,4 +1,5 @@
 -- Feeding a list that stands in bytes, by what the calls below it answer.
+use Rattle.std.specs.Prelude.{Result, Ok, Err}
 use Prim.Native.Nat.{ℕ, suc, ◌+◌, ◌*◌, ◌≤◌}
 use mathlib.Core.Path.{◌≡◌, refl, sym, ap, ◌∙◌}
 use mathlib.Core.Bool.{true, false}
@@ -9,14 +10,13 @@ use lib.Dec.{eqb, ltb}
 use lib.ListN.{length, take, drop, length-append, length-drop}
 use lib.Seq.{take_at}
 use Rattle.records.specs.declared.Refusal.{Refusal}
-use Rattle.records.specs.Answers.{Outcome, accepted, refused, reply, row_of}
+use Rattle.records.specs.Answers.{Outcome, accepted, refused, reply, row_of, outcome_of}
 use Rattle.records.proofs.AnswerLaws.{or-neither, refused-not-accepted}
 use Rattle.account_spec.specs.declared.Account.{Account}
 use Rattle.stored.specs.Packing.{total_width}
 use Rattle.stored.specs.Layout.{widths}
-use Rattle.list_spec.specs.declared.FedAll.{FedAll}
 use Rattle.list_spec.specs.Together.{left_together, Each}
-use Rattle.list_spec.specs.Feeding.{size_out, feed_all_of, fed_all_as}
+use Rattle.list_spec.specs.Feeding.{size_out, feed_all_of}
 use Rattle.list_spec.proofs.RunLaws.{accepted-fed}
 use Rattle.list.specs.FirstFed.{feed_first_of, FeedsFirst}
 use Rattle.stored_list.specs.InBytes.{accounts_bytes, accounts_in, count_in, list_in}
@@ -51,21 +51,21 @@ module _ (before line : List ℕ) where
 
   -- ---- refused before the list is fed
 
-  refused-by : (why : Refusal) → fed_listed_of before line ≡ refused (row_of why) → FeedsListed before line (FedAll.Refused why) before
+  refused-by : (why : Refusal) → fed_listed_of before line ≡ refused (row_of why) → FeedsListed before line (Err why) before
   refused-by why q = record { answers = ap reply (sym q); leaves = ap (listed_after before) (sym q); holds = λ ys e. refused-not-accepted (sym q ∙ e) }
 
-  pub listed-size : size_out count ≡ true → FeedsListed before line (FedAll.Refused Refusal.ListSize) before
+  pub listed-size : size_out count ≡ true → FeedsListed before line (Err Refusal.ListSize) before
   unfolding fed_listed_of
   listed-size out = refused-by Refusal.ListSize (rw out)
 
   module _ (fits : size_out count ≡ false) where
-    pub listed-none : refused (13, 0) ≡ list_in before → FeedsListed before line (FedAll.Refused Refusal.Account) before
+    pub listed-none : (why : Refusal) → refused (row_of why) ≡ list_in before → FeedsListed before line (Err why) before
     unfolding fed_listed_of
-    listed-none none = refused-by Refusal.Account (rw (fits, sym none))
+    listed-none why none = refused-by why (rw (fits, sym none))
 
     -- ---- the list fed
 
-    module _ (xs ys : List Account) (held : accepted (take count xs) ≡ list_in before) (answer : FedAll) (fed : FeedsFirst count xs line answer ys) where
+    module _ (xs ys : List Account) (held : accepted (take count xs) ≡ list_in before) (answer : Result Unit Refusal) (fed : FeedsFirst count xs line answer ys) where
       fed-first : feed_first_of count xs line ≡ feed_all_of (take count xs) line
       unfolding feed_first_of
       fed-first = rw (le-ltb 6 count (listed-few count fits))
@@ -74,19 +74,19 @@ module _ (before line : List ℕ) where
       unfolding fed_listed_of
       fed-is = rw (fits, sym held)
 
-      told : fed_all_as answer ≡ reply (feed_all_of (take count xs) line)
+      told : outcome_of answer ≡ reply (feed_all_of (take count xs) line)
       told = fed.answers ∙ ap reply fed-first
 
-      pub listed-refused : (why : Refusal) → answer ≡ FedAll.Refused why → FeedsListed before line (FedAll.Refused why) before
-      listed-refused why e = refused-by why (fed-is ∙ reply-refused (feed_all_of (take count xs) line) (row_of why) (sym told ∙ ap fed_all_as e))
+      pub listed-refused : (why : Refusal) → answer ≡ Err why → FeedsListed before line (Err why) before
+      listed-refused why e = refused-by why (fed-is ∙ reply-refused (feed_all_of (take count xs) line) (row_of why) (sym told ∙ ap outcome_of e))
 
       -- the list that it leaves
       abbrev left : List Account
       left = left_together (take count xs) (feed_all_of (take count xs) line)
 
-      module _ (after : List ℕ) (e : answer ≡ FedAll.Accepted) (stores : StoresAll (take count ys) before after) where
+      module _ (after : List ℕ) (e : answer ≡ (Ok tt)) (stores : StoresAll (take count ys) before after) where
         fed-left : feed_all_of (take count xs) line ≡ accepted left
-        fed-left = reply-accepted (take count xs) (feed_all_of (take count xs) line) (sym told ∙ ap fed_all_as e)
+        fed-left = reply-accepted (take count xs) (feed_all_of (take count xs) line) (sym told ∙ ap outcome_of e)
 
         left-length : length left ≡ count
         left-length = fed-length (take count xs) left line fed-left ∙ taken-length count before (take count xs) (sym held)
@@ -114,7 +114,7 @@ module _ (before line : List ℕ) where
             ∙ ap (accounts_in (length left)) after_is
             ∙ accounts-back left stores-left.back (drop (total_width widths * count) before)
 
-        pub listed-accepted : FeedsListed before line FedAll.Accepted after
+        pub listed-accepted : FeedsListed before line (Ok tt) after
         listed-accepted =
             let q : fed_listed_of before line ≡ accepted left = fed-is ∙ fed-left in
             record { answers = ap reply (sym q); leaves = after_is ∙ ap (listed_after before) (sym q); holds = λ zs f. after-held ∙ sym q ∙ f }

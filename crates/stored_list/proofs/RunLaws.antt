@@ -1,4 +1,6 @@
 -- Lines fed to a list that stands in bytes are a run of the list that they hold.
+use Rattle.records.specs.declared.Refusal.{Refusal}
+use Rattle.std.specs.Prelude.{Result}
 use Prim.Native.Nat.{ℕ}
 use mathlib.Core.Path.{◌≡◌, refl, sym, ap, ◌∙◌}
 use mathlib.Core.Bool.{Bool, true, false}
@@ -6,7 +8,6 @@ use mathlib.Core.List.{List}
 use lib.ListN.{length}
 use Rattle.records.specs.Answers.{Outcome, accepted, refused, row, onward, reply}
 use Rattle.account_spec.specs.declared.Account.{Account}
-use Rattle.list_spec.specs.declared.FedAll.{FedAll}
 use Rattle.list_spec.specs.Together.{left_together}
 use Rattle.list_spec.specs.Feeding.{size_out, feed_all_of, FeedsAll}
 use Rattle.list_spec.specs.Runs.{LineFed, ListRun}
@@ -29,11 +30,11 @@ module _ (b : List ℕ) (xs : List Account) (held : list_in b ≡ accepted xs) w
       ∙ row-again (size_out (count_in b)) (size_out (length xs)) _ (ap size_out (sym (taken-length (count_in b) b xs held)))
 
   -- the bytes that a line leaves hold the list that it leaves
-  left-held : (line after : List ℕ) (r : FedAll) → FeedsListed b line r after → (o : Outcome (List Account)) → fed_listed_of b line ≡ o → list_in after ≡ accepted (left_together xs o)
+  left-held : (line after : List ℕ) (r : Result Unit Refusal) → FeedsListed b line r after → (o : Outcome (List Account)) → fed_listed_of b line ≡ o → list_in after ≡ accepted (left_together xs o)
   left-held line after r k (accepted ys) e = k.holds ys e
   left-held line after r k (refused w) e = ap list_in (k.leaves ∙ ap (listed_after b) e) ∙ held
 
-  fed-all : (line after : List ℕ) (r : FedAll) → FeedsListed b line r after → FeedsAll xs line r (left_together xs (feed_all_of xs line))
+  fed-all : (line after : List ℕ) (r : Result Unit Refusal) → FeedsListed b line r after → FeedsAll xs line r (left_together xs (feed_all_of xs line))
   fed-all line after r k = record { answers = k.answers ∙ ap reply (fed-is line); leaves = refl }
 
 listed-run : (b left : List ℕ) (es : List LineFed) → ListedRun b es left → (xs : List Account) → list_in b ≡ accepted xs → HoldsRun xs es left

@@ -1,4 +1,6 @@
 -- Accounts are stored one after the other: those so far at the front, the next one at the front of the bytes that are left.
+use Rattle.records.specs.declared.Refusal.{Refusal}
+use Rattle.std.specs.Prelude.{Result}
 use Prim.Native.Nat.{ℕ, ◌+◌, ◌-◌, ◌*◌, ◌≤◌, ◌<◌}
 use mathlib.Core.Path.{◌≡◌, refl, sym, ap, subst, ◌∙◌}
 use mathlib.Core.List.{List, [], ◌∷◌, ◌++◌, append-nil, append_assoc}
@@ -7,7 +9,6 @@ use native.Mathlib.Numerals.{add-one}
 use borrow.Author.Tests.{le-ltb}
 use lib.ListN.{length, get_or, take, drop, length-append, length-drop}
 use lib.Seq.{drop_at, take-suc, drop-drop, length-take-le}
-use Rattle.records.specs.declared.Written.{Written}
 use Rattle.records.specs.Answers.{accepted}
 use Rattle.records.specs.Buffer.{Prints}
 use Rattle.account_spec.specs.declared.Account.{Account}
@@ -54,7 +55,7 @@ stores-none l = record { leaves = refl; back = tt }
 
 -- an account into the bytes that are left
 module _ (a : Account) (one : TakenUp a) where
-  stored-part : (d e : List ℕ) (w : Written) → total_width widths ≤ length d → Prints (accepted (account_bytes a)) d w e → e ≡ account_bytes a ++ drop (total_width widths) d
+  stored-part : (d e : List ℕ) (w : Result ℕ Refusal) → total_width widths ≤ length d → Prints (accepted (account_bytes a)) d w e → e ≡ account_bytes a ++ drop (total_width widths) d
   stored-part d e w h p =
       let size = account-length a in
       p.leaves ∙ rw (le-ltb (length d) (length (account_bytes a)) (omega arith), size)
@@ -66,7 +67,7 @@ module _ (a : Account) (one : TakenUp a) where
     abbrev rest : List ℕ
     rest = drop at before
 
-    stores-more : (e : List ℕ) (w : Written) → Prints (accepted (account_bytes a)) (take (length l - at) (drop at l)) w e
+    stores-more : (e : List ℕ) (w : Result ℕ Refusal) → Prints (accepted (account_bytes a)) (take (length l - at) (drop at l)) w e
         → StoresAll (xs ++ a ∷ []) before (take at l ++ (e ++ drop (length l - at) (drop at l)))
     stores-more e w p =
         let front = accounts_bytes xs in
@@ -84,7 +85,7 @@ module _ (a : Account) (one : TakenUp a) where
         }
 
 -- the next of some accounts
-pub stores-step : (xs : List Account) (i : ℕ) (none : Account) (before l e : List ℕ) (w : Written) → i < length xs → total_width widths * (i + 1) ≤ length before → StoresAll (take i xs) before l
+pub stores-step : (xs : List Account) (i : ℕ) (none : Account) (before l e : List ℕ) (w : Result ℕ Refusal) → i < length xs → total_width widths * (i + 1) ≤ length before → StoresAll (take i xs) before l
     → Prints (accepted (account_bytes (get_or xs i none))) (take (length l - total_width widths * i) (drop (total_width widths * i) l)) w e → TakenUp (get_or xs i none)
     → StoresAll (take (i + 1) xs) before (take (total_width widths * i) l ++ (e ++ drop (length l - total_width widths * i) (drop (total_width widths * i) l)))
 stores-step xs i none before l e w h room so_far p one =

@@ -1,19 +1,18 @@
 -- Accounts are taken up one after the other: those so far, then those in the bytes that are left.
+use Rattle.std.specs.Prelude.{Result, Ok, Err}
 use Prim.Native.Nat.{ℕ, zero, suc, ◌+◌, ◌-◌, ◌*◌, ◌<◌}
 use mathlib.Core.Path.{◌≡◌, refl, sym, ap, ◌∙◌}
-use mathlib.Core.Bool.{Bool, true, false, cond}
 use mathlib.Core.List.{List, [], ◌∷◌, ◌++◌, append-nil}
 use native.Mathlib.Omega.{arith}
 use native.Mathlib.Numerals.{add-one}
 use lib.ListN.{length, set, take, drop}
 use lib.Seq.{take-suc-set, drop-drop, append_snoc}
 use Rattle.records.specs.declared.Refusal.{Refusal}
-use Rattle.records.specs.Answers.{Outcome, accepted, refused, onward, row_of}
-use Rattle.records.proofs.AnswerLaws.{refused-not-accepted, accepted-same, onward-passed}
+use Rattle.records.specs.Answers.{Outcome, accepted, refused, onward, row_of, outcome_of}
+use Rattle.records.proofs.AnswerLaws.{accepted-same, onward-passed}
 use Rattle.account_spec.specs.declared.Account.{Account}
 use Rattle.stored.specs.Packing.{total_width}
-use Rattle.stored.specs.Layout.{widths, account_in, holds_none, take_up_of, held_as}
-use Rattle.stored.specs.declared.Held.{Held}
+use Rattle.stored.specs.Layout.{widths, take_up_of}
 use Rattle.stored_list.specs.InBytes.{accounts_in}
 use Rattle.stored_list.proofs.PartLaws.{part-lent}
 
@@ -37,15 +36,6 @@ taken-end n i l r xs all so_far =
 joined-more : (front : List Account) (a : Account) (o : Outcome (List Account)) → joined_to front (onward o (λ xs. accepted (a ∷ xs))) ≡ joined_to (front ++ a ∷ []) o
 joined-more front a (accepted xs) = ap accepted (sym (append_snoc front a xs))
 joined-more front a (refused w) = refl
-
--- bytes that hold no account are refused by row 13
-refused-row : (l : List ℕ) (w : ℕ × ℕ) → take_up_of l ≡ refused w → w ≡ (13, 0)
-unfolding take_up_of
-refused-row l w e = by-test (holds_none l) e
-  where
-    by-test : (t : Bool) → cond t (refused (13, 0)) (accepted (account_in l)) ≡ refused w → w ≡ (13, 0)
-    by-test true q = cc
-    by-test false q = refused-not-accepted (sym q)
 
 -- as many accounts as were asked for
 pub taken-length : (n : ℕ) (l : List ℕ) (xs : List Account) → accounts_in n l ≡ accepted xs → length xs ≡ n
@@ -72,18 +62,16 @@ module _ (l : List ℕ) (n i : ℕ) (room : i < n) where
       ∙ ap (λ (k : List ℕ). onward (take_up_of left) (λ a. onward (accounts_in (n - (i + 1)) k) (λ xs. accepted (a ∷ xs)))) (drop-drop (total_width widths) (total_width widths * i) l ∙ ap (λ (m : ℕ). drop m l) at)
 
   -- by what the bytes that are left hold at their front
-  module _ (xs : List Account) (so_far : accounts_in n l ≡ joined_to (take i xs) (accounts_in (n - i) left)) (held : Held) (taken : held_as held ≡ take_up_of (take (length l - total_width widths * i) left)) where
-    by-held : accounts_in n l ≡ joined_to (take i xs) (onward (held_as held) (λ a. onward next (λ ys. accepted (a ∷ ys))))
+  module _ (xs : List Account) (so_far : accounts_in n l ≡ joined_to (take i xs) (accounts_in (n - i) left)) (held : Result Account Refusal) (taken : outcome_of held ≡ take_up_of (take (length l - total_width widths * i) left)) where
+    by-held : accounts_in n l ≡ joined_to (take i xs) (onward (outcome_of held) (λ a. onward next (λ ys. accepted (a ∷ ys))))
     by-held =
-        let is : take_up_of left ≡ held_as held = ap take_up_of (sym (part-lent l (total_width widths * i))) ∙ sym taken in
+        let is : take_up_of left ≡ outcome_of held = ap take_up_of (sym (part-lent l (total_width widths * i))) ∙ sym taken in
         so_far ∙ ap (joined_to (take i xs)) (in_step ∙ ap (λ (o : Outcome Account). onward o (λ a. onward next (λ ys. accepted (a ∷ ys)))) is)
 
-    pub taken_step : (a : Account) → held ≡ Held.Account a → i < length xs → accounts_in n l ≡ joined_to (take (i + 1) (set xs i a)) next
+    pub taken_step : (a : Account) → held ≡ Ok a → i < length xs → accounts_in n l ≡ joined_to (take (i + 1) (set xs i a)) next
     taken_step a e h =
         let all : take (i + 1) (set xs i a) ≡ take i xs ++ a ∷ [] = rw add-one (take-suc-set xs i a h) in
         rw e at by-held ∙ joined-more (take i xs) a next ∙ ap (λ (ys : List Account). joined_to ys next) (sym all)
 
-    pub taken_none : (why : Refusal) → held ≡ Held.Refused why → refused (13, 0) ≡ accounts_in n l
-    taken_none why e =
-        let row-13 : row_of why ≡ (13, 0) = refused-row (take (length l - total_width widths * i) left) (row_of why) (sym taken ∙ ap held_as e) in
-        ap refused (sym row-13) ∙ sym (rw e at by-held)
+    pub taken_none : (why : Refusal) → held ≡ Err why → refused (row_of why) ≡ accounts_in n l
+    taken_none why e = sym (rw e at by-held)

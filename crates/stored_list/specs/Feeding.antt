@@ -1,11 +1,11 @@
 -- Feeding the list of accounts that stands in bytes: row 22 by their room, row 13 where the bytes of one hold none, then as any list is fed.
-use Rattle.std.specs.Prelude.{ℕ, ◌*◌, ◌≡◌, List, ◌++◌, drop}
-use Rattle.records.specs.Answers.{Outcome, accepted, refused, row, onward, reply}
+use Rattle.std.specs.Prelude.{ℕ, ◌*◌, ◌≡◌, List, ◌++◌, drop, Result}
+use Rattle.records.specs.declared.Refusal.{Refusal}
+use Rattle.records.specs.Answers.{Outcome, accepted, refused, row, onward, reply, outcome_of}
 use Rattle.account_spec.specs.declared.Account.{Account}
 use Rattle.stored.specs.Packing.{total_width}
 use Rattle.stored.specs.Layout.{widths}
-use Rattle.list_spec.specs.declared.FedAll.{FedAll}
-use Rattle.list_spec.specs.Feeding.{size_out, feed_all_of, fed_all_as}
+use Rattle.list_spec.specs.Feeding.{size_out, feed_all_of}
 use Rattle.stored_list.specs.InBytes.{accounts_bytes, count_in, list_in}
 
 unfoldable pub fed_listed_of : List ℕ → List ℕ → Outcome (List Account)
@@ -17,7 +17,7 @@ listed_after before (accepted ys) = accounts_bytes ys ++ drop (total_width width
 listed_after before (refused w) = before
 
 -- what `feed_all` promises of the bytes before and after: those left hold the list that the line leaves
-pub record FeedsListed (before line : List ℕ) (answer : FedAll) (after : List ℕ) : Type 0 where
-  pub answers : fed_all_as answer ≡ reply (fed_listed_of before line)
+pub record FeedsListed (before line : List ℕ) (answer : Result Unit Refusal) (after : List ℕ) : Type 0 where
+  pub answers : outcome_of answer ≡ reply (fed_listed_of before line)
   pub leaves : after ≡ listed_after before (fed_listed_of before line)
   pub holds : (ys : List Account) → fed_listed_of before line ≡ accepted ys → list_in after ≡ accepted ys

@@ -9,42 +9,21 @@ ghost use Rattle.stored_list.specs.Steps.{HasRoom, held_all_as, StoresAll};
 
 use account::Account;
 use frames::Refusal;
-use list_spec::FedAll;
-use stored::{Held, SIZE};
+use stored::SIZE;
 
 // The most accounts of a list.
 const MOST: usize = 6;
 
-// Whether bytes hold as many accounts as were asked for; those are the first of six.
-#[derive(Clone, Copy)]
-struct HeldAll {
-    all: bool,
-    accounts: [Account; MOST],
-}
-
-// The first accounts of a slice of bytes: that one of them is none, where its bytes hold none.
-fn take_up_all(bytes: &[u8], count: usize) -> HeldAll
+// The first accounts of a slice of bytes as the first of six: row 13 where the bytes of one hold none.
+fn take_up_all(bytes: &[u8], count: usize) -> Result<[Account; MOST], Refusal>
     requires { HasRoom count bytes.now }
     ensures { held_all_as count result ≡ accounts_in count bytes.now }
 {
     let mut accounts = [account::fresh(); MOST];
-    let mut i = 0;
-    while i < count {
-        let at = SIZE * i;
-        let held = stored::take_up(&bytes[at..]);
-        let Held::Account(account) = held else {
-            return HeldAll {
-                all: false,
-                accounts: accounts,
-            };
-        };
-        accounts[i] = account;
-        i += 1;
+    for i in 0..count {
+        accounts[i] = stored::take_up(&bytes[SIZE * i..])?;
     }
-    HeldAll {
-        all: true,
-        accounts: accounts,
-    }
+    Ok(accounts)
 }
 
 // The first of six accounts into the first bytes of a buffer.
@@ -52,37 +31,24 @@ fn store_all(accounts: [Account; MOST], count: usize, bytes: &mut [u8])
     requires { HasRoom count bytes.old }
     ensures { StoresAll (take count accounts) bytes.old bytes.new }
 {
-    let mut i = 0;
-    while i < count {
+    for i in 0..count {
         let at = SIZE * i;
-        let account = accounts[i];
-        stored::store(account, &mut bytes[at..]);
-        i += 1;
+        let _ = stored::store(accounts[i], &mut bytes[at..]);
     }
 }
 
 // A line to the accounts of a buffer: row 22, row 13 where the bytes of one hold none, then those of a list. The buffer is unchanged where a row refuses.
-pub fn feed_all(accounts: &mut [u8], line: &[u8]) -> FedAll
+pub fn feed_all(accounts: &mut [u8], line: &[u8]) -> Result<(), Refusal>
     ensures feeds_listed { FeedsListed accounts.old line.now result accounts.new }
     ensures promise { ListedPromise }
 {
     let count = accounts.len() / SIZE;
     if (count == 0) | (MOST < count) {
-        return FedAll::Refused(Refusal::ListSize);
+        return Err(Refusal::ListSize);
     }
-    let held = take_up_all(accounts, count);
-    if !held.all {
-        return FedAll::Refused(Refusal::Account);
-    }
-    let before = held.accounts;
+    let before = take_up_all(accounts, count)?;
     let six = list::feed_six(before, count, line);
-    let answer = six.answer;
-    match answer {
-        FedAll::Accepted => {
-            let next = six.accounts;
-            store_all(next, count, accounts);
-            FedAll::Accepted
-        },
-        FedAll::Refused(refusal) => FedAll::Refused(refusal),
-    }
+    six.answer?;
+    store_all(six.accounts, count, accounts);
+    Ok(())
 }

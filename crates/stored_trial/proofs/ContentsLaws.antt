@@ -1,25 +1,22 @@
 -- What bytes hold, by what the calls below answer.
+use Rattle.std.specs.Prelude.{Option, Some, None, Result, Ok, Err}
 use Prim.Native.Nat.{ℕ, ◌+◌, ◌<◌}
 use mathlib.Core.Path.{◌≡◌, refl, sym, ap, subst, ◌∙◌}
 use mathlib.Core.Bool.{Bool, true, false, not}
 use mathlib.Core.List.{List}
-use mathlib.Core.Option.{some}
 use native.Mathlib.Omega.{arith}
 use lib.ListN.{length, drop, length-drop}
 use Rattle.records.specs.declared.Refusal.{Refusal}
 use Rattle.records.specs.Answers.{Outcome, accepted, refused, row, onward, row_of}
 use Rattle.account_spec.specs.declared.Account.{Account}
-use Rattle.account_spec.specs.declared.Fed.{Fed}
-use Rattle.account_spec.specs.Rules.{fed_as, left_by}
+use Rattle.account_spec.specs.Rules.{fed_as, left_by, Fed}
 use Rattle.account_spec.specs.Reading.{Reads}
 use Rattle.stored.specs.Packing.{big_endian_at}
 use Rattle.stored.specs.Layout.{account_in, holds_none, take_up_of}
 use Rattle.stored.proofs.HeldLaws.{none-short, taken_none}
-use Rattle.answers.specs.declared.Coded.{Coded}
 use Rattle.answers.specs.Code.{code_of, is_code, coded_of, coded_as}
 use Rattle.answers.proofs.CodeLaws.{code-promise, named-code, unknown-code}
 use Rattle.trial_spec.specs.declared.Trial.{Trial}
-use Rattle.stored_trial.specs.declared.HeldTrial.{HeldTrial}
 use Rattle.stored_trial.specs.Layout.{Contents, code_width, account_width, trial_width, contents_in, Holds}
 
 -- ---- a code and two accounts
@@ -31,34 +28,34 @@ pub contents-same : {m n : ℕ} {a b x y : Account} → m ≡ n → a ≡ b → 
 contents-same {m = m} {n = n} {a = a} {b = b} {x = x} {y = y} e f g =
     ap (λ (k : ℕ). contents k a x) e ∙ ap (λ (z : Account). contents n z x) f ∙ ap (λ (z : Account). contents n b z) g
 
-trial-same : {t u : Trial} → HeldTrial.Trial t ≡ HeldTrial.Trial u → t ≡ u
+trial-same : {t u : Trial} → ◌≡◌ {A = Result Trial Refusal} (Ok t) (Ok u) → t ≡ u
 trial-same e = cc
 
 -- a refusal holds no trial
-pub holds-none : (o : Outcome Contents) (r : Refusal) → refused (row_of r) ≡ o → Holds o (HeldTrial.Refused r)
+pub holds-none : (o : Outcome Contents) (r : Refusal) → refused (row_of r) ≡ o → Holds o (Err r)
 holds-none o r e = record { answers = e; reading = λ t f. let z : ◌≡◌ {A = ℕ} 0 1 = cc in absurd (omega arith) }
 
-module _ (code : ℕ) (tried next : Account) (coded : Coded) (says : coded_as coded ≡ coded_of code) where
+module _ (code : ℕ) (tried next : Account) (coded : Option (Result Unit Refusal)) (says : coded_as coded ≡ coded_of code) where
   abbrev read : Outcome Contents
   read = row 13 (not (is_code code)) (accepted (contents code tried next))
 
-  pub holds-unknown : coded ≡ Coded.Unknown → Holds read (HeldTrial.Refused Refusal.Account)
+  pub holds-unknown : coded ≡ None → Holds read (Err Refusal.Account)
   holds-unknown e = holds-none read Refusal.Account (rw (unknown-code code (sym says ∙ ap coded_as e)) refl)
 
   -- a trial whose answer has this code and this account
-  holds-trial : (o : Outcome Unit) (f : Fed) (t : Trial) → coded_of code ≡ some o → code_of (fed_as f) ≡ code_of o → left_by f ≡ next
-      → (t.tried ≡ tried) × (t.answer ≡ f) → Reads (left_by f) t.reading → Holds read (HeldTrial.Trial t)
+  holds-trial : (o : Outcome Unit) (f : Fed) (t : Trial) → coded_of code ≡ Some o → code_of (fed_as f) ≡ code_of o → left_by f ≡ next
+      → (t.tried ≡ tried) × (t.answer ≡ f) → Reads (left_by f) t.reading → Holds read (Ok t)
   holds-trial o f t named same left is reads = record {
     answers = rw (named-code code o named)
         (ap accepted (contents-same (ap (λ (g : Fed). code_of (fed_as g)) is.1 ∙ same ∙ code-promise.same code o named) is.0 (ap left_by is.1 ∙ left)));
     reading = λ u e. subst (λ (v : Trial). Reads (left_by v.answer) v.reading) (trial-same e) (subst (λ (g : Fed). Reads (left_by g) t.reading) (sym is.1) reads);
   }
 
-  pub holds-accepted : (t : Trial) → coded ≡ Coded.Accepted → (t.tried ≡ tried) × (t.answer ≡ Fed.Accepted next) → Reads next t.reading → Holds read (HeldTrial.Trial t)
-  holds-accepted t e is reads = holds-trial (accepted tt) (Fed.Accepted next) t (sym says ∙ ap coded_as e) refl refl is reads
+  pub holds-accepted : (t : Trial) → coded ≡ Some (Ok tt) → (t.tried ≡ tried) × (t.answer ≡ Ok next) → Reads next t.reading → Holds read (Ok t)
+  holds-accepted t e is reads = holds-trial (accepted tt) (Ok next) t (sym says ∙ ap coded_as e) refl refl is reads
 
-  pub holds-refused : (r : Refusal) (t : Trial) → coded ≡ Coded.Refused r → (t.tried ≡ tried) × (t.answer ≡ Fed.Refused r next) → Reads next t.reading → Holds read (HeldTrial.Trial t)
-  holds-refused r t e is reads = holds-trial (refused (row_of r)) (Fed.Refused r next) t (sym says ∙ ap coded_as e) refl refl is reads
+  pub holds-refused : (r : Refusal) (t : Trial) → coded ≡ Some (Err r) → (t.tried ≡ tried) × (t.answer ≡ Err (r, next)) → Reads next t.reading → Holds read (Ok t)
+  holds-refused r t e is reads = holds-trial (refused (row_of r)) (Err (r, next)) t (sym says ∙ ap coded_as e) refl refl is reads
 
 -- ---- bytes
 
@@ -70,6 +67,9 @@ taken-row l w e = by (holds_none l) e
     by : (t : Bool) → row 13 t (accepted (account_in l)) ≡ refused w → row 13 t (accepted (account_in l)) ≡ refused (13, 0)
     by true e = refl
     by false e = let z : ◌≡◌ {A = ℕ} 0 1 = cc in absurd (omega arith)
+
+taken-which : (l : List ℕ) (w : ℕ × ℕ) → take_up_of l ≡ refused w → w ≡ (13, 0)
+taken-which l w e = let q = sym e ∙ taken-row l w e in cc
 
 -- the contents, by the test and the two accounts
 abbrev by_parts : ℕ → Bool → Outcome Account → Outcome Account → Outcome Contents
@@ -92,13 +92,13 @@ module _ (l : List ℕ) where
   abbrev code : ℕ
   code = big_endian_at code_width 0 l
 
-  pub none-in-first : (w : ℕ × ℕ) → take_up_of (drop code_width l) ≡ refused w → refused (13, 0) ≡ contents_in l
+  pub none-in-first : (w : ℕ × ℕ) → take_up_of (drop code_width l) ≡ refused w → refused w ≡ contents_in l
   unfolding contents_in
-  none-in-first w e = rw (taken-row (drop code_width l) w e) (first-none code (not (is_code code)) (take_up_of (drop (code_width + account_width) l)))
+  none-in-first w e = rw (taken-which (drop code_width l) w e, taken-row (drop code_width l) w e) (first-none code (not (is_code code)) (take_up_of (drop (code_width + account_width) l)))
 
-  pub none-in-second : (w : ℕ × ℕ) → take_up_of (drop (code_width + account_width) l) ≡ refused w → refused (13, 0) ≡ contents_in l
+  pub none-in-second : (w : ℕ × ℕ) → take_up_of (drop (code_width + account_width) l) ≡ refused w → refused w ≡ contents_in l
   unfolding contents_in
-  none-in-second w e = rw (taken-row (drop (code_width + account_width) l) w e) (second_none code (not (is_code code)) (drop code_width l))
+  none-in-second w e = rw (taken-which (drop (code_width + account_width) l) w e, taken-row (drop (code_width + account_width) l) w e) (second_none code (not (is_code code)) (drop code_width l))
 
   pub contents-short : length l < trial_width → refused (13, 0) ≡ contents_in l
   contents-short h =
@@ -111,7 +111,7 @@ module _ (l : List ℕ) where
   unfolding contents_in
   contents-is tried next e f = rw (e, f) refl
 
-  pub holds-in : (n : ℕ) (tried next : Account) (held : HeldTrial) → n ≡ code → take_up_of (drop code_width l) ≡ accepted tried → take_up_of (drop (code_width + account_width) l) ≡ accepted next
+  pub holds-in : (n : ℕ) (tried next : Account) (held : Result Trial Refusal) → n ≡ code → take_up_of (drop code_width l) ≡ accepted tried → take_up_of (drop (code_width + account_width) l) ≡ accepted next
       → Holds (row 13 (not (is_code n)) (accepted (contents n tried next))) held → Holds (contents_in l) held
   holds-in n tried next held is e f h =
       subst (λ (o : Outcome Contents). Holds o held) (ap (λ (k : ℕ). row 13 (not (is_code k)) (accepted (contents k tried next))) is ∙ contents-is tried next e f) h

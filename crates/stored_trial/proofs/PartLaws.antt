@@ -1,4 +1,6 @@
 -- An account in a part of a slice: the part from a place on, and what putting an account there leaves.
+use Rattle.records.specs.declared.Refusal.{Refusal}
+use Rattle.std.specs.Prelude.{Result}
 use Prim.Native.Nat.{ℕ, ◌+◌, ◌-◌, ◌≤◌}
 use mathlib.Core.Path.{◌≡◌, refl, sym, ap, ◌∙◌}
 use mathlib.Core.List.{List, [], ◌++◌, append_assoc, append-nil}
@@ -9,7 +11,6 @@ use lib.ListN.{length, take, drop, length-drop}
 use lib.Seq.{sets, sets-eq, take_all, drop-drop, drop-length}
 use Rattle.records.specs.Answers.{accepted}
 use Rattle.records.specs.Buffer.{Prints}
-use Rattle.records.specs.declared.Written.{Written}
 
 -- the part from a place on
 pub part-is : (at : ℕ) (l : List ℕ) → mid_of at (length l - at) l ≡ drop at l
@@ -22,14 +23,14 @@ module _ (xs l : List ℕ) (at : ℕ) (h : at + length xs ≤ length l) where
   part-long : length xs ≤ length part
   part-long = rw (part-is at l, length-drop) (omega arith)
 
-  after_is : (after : List ℕ) (w : Written) → Prints (accepted xs) part w after → after ≡ xs ++ drop (at + length xs) l
+  after_is : (after : List ℕ) (w : Result ℕ Refusal) → Prints (accepted xs) part w after → after ≡ xs ++ drop (at + length xs) l
   after_is after w p =
       p.leaves
       ∙ rw (le-ltb (length part) (length xs) part-long) refl
       ∙ ap (λ (k : List ℕ). xs ++ drop (length xs) k) (part-is at l)
       ∙ ap (λ (k : List ℕ). xs ++ k) (drop-drop (length xs) at l)
 
-  pub put-part : (after : List ℕ) (w : Written) → Prints (accepted xs) part w after → put_mid at (length l - at) l after ≡ sets l at xs
+  pub put-part : (after : List ℕ) (w : Result ℕ Refusal) → Prints (accepted xs) part w after → put_mid at (length l - at) l after ≡ sets l at xs
   put-part after w p =
       let none : post_of at (length l - at) l ≡ [] = Post-is at (length l) l (omega arith) ∙ drop-length l in
       ap (λ (k : List ℕ). take at l ++ (after ++ k)) none

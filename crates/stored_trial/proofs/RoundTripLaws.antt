@@ -1,4 +1,6 @@
 -- Trials stored and taken up, taken up and stored.
+use Rattle.records.specs.declared.Refusal.{Refusal}
+use Rattle.std.specs.Prelude.{Result, Ok, Err}
 use Prim.Native.Nat.{ℕ, ◌+◌, ◌*◌, ◌/◌, ◌%◌, ◌≤◌, ◌<◌}
 use mathlib.Core.Path.{◌≡◌, refl, sym, ap, subst, ◌∙◌}
 use mathlib.Core.Bool.{true, not}
@@ -10,8 +12,7 @@ use lib.Seq.{sets, sets-eq, drop_at, drop-drop, get_or-drop}
 use Rattle.records.specs.Answers.{accepted}
 use Rattle.records.proofs.AnswerLaws.{row-passed, onward-passed, accepted-same, refused-not-accepted}
 use Rattle.account_spec.specs.declared.Account.{Account}
-use Rattle.account_spec.specs.declared.Fed.{Fed}
-use Rattle.account_spec.specs.Rules.{fed_as, left_by}
+use Rattle.account_spec.specs.Rules.{fed_as, left_by, Fed}
 use Rattle.account_spec.specs.Reading.{Reads}
 use Rattle.stored.specs.Packing.{big_endian, big_endian_at}
 use Rattle.stored.specs.Layout.{account_bytes, take_up_of}
@@ -25,7 +26,6 @@ use Rattle.answers.proofs.CodeLaws.{code_is, code-answer}
 use Rattle.trial_spec.specs.declared.Trial.{Trial}
 use Rattle.trial_spec.specs.Trial.{Tries}
 use Rattle.trial_spec.proofs.TrialLaws.{taken_is}
-use Rattle.stored_trial.specs.declared.HeldTrial.{HeldTrial}
 use Rattle.stored_trial.specs.Layout.{Contents, contents_of, carried_by, code_width, account_width, trial_width, trial_bytes, contents_in, Holds}
 use Rattle.stored_trial.specs.RoundTrip.{TriedAgain, TrialTakenUp, TrialStoredBack}
 
@@ -71,14 +71,14 @@ contents-back c is small tried next rest =
 
 code-valid : (f : Fed) → is_code (code_of (fed_as f)) ≡ true
 unfolding is_code
-code-valid (Fed.Accepted b) = refl
-code-valid (Fed.Refused r b) = code_is r
+code-valid (Ok b) = refl
+code-valid (Err (r, b)) = code_is r
 
 -- the answer is that of its code
 pub fed-answer : (f : Fed) → answer_of (code_of (fed_as f)) (left_by f) ≡ fed_as f
 unfolding answer_of
-fed-answer (Fed.Accepted b) = refl
-fed-answer (Fed.Refused r b) = code-answer r b
+fed-answer (Ok b) = refl
+fed-answer (Err (r, b)) = code-answer r b
 
 -- a trial with the contents of one that was made, and with its own reading, is made so
 tries-again : (a : Account) (l : List ℕ) (t u : Trial) → Tries a l t → contents_of u ≡ contents_of t → Reads (left_by u.answer) u.reading → Tries a l u
@@ -94,11 +94,11 @@ module _ (t : Trial) (small : code_of (fed_as t.answer) < 65536) (tried : TakenU
   back : (rest : List ℕ) → contents_in (trial_bytes (contents_of t) ++ rest) ≡ accepted (contents_of t)
   back = contents-back (contents_of t) (code-valid t.answer) small tried next
 
-  again : (a : Account) (l : List ℕ) → Tries a l t → (rest : List ℕ) (held : HeldTrial) → Holds (contents_in (trial_bytes (contents_of t) ++ rest)) held → TriedAgain a l held
-  again a l made rest (HeldTrial.Trial u) h =
+  again : (a : Account) (l : List ℕ) → Tries a l t → (rest : List ℕ) (held : Result Trial Refusal) → Holds (contents_in (trial_bytes (contents_of t) ++ rest)) held → TriedAgain a l held
+  again a l made rest (Ok u) h =
       let tries = tries-again a l t u made (accepted-same (h.answers ∙ back rest)) (h.reading u refl) in
       record { trial = u; same = refl; tries = tries; fed = taken_is a l u tries }
-  again a l made rest (HeldTrial.Refused r) h = refused-not-accepted (h.answers ∙ back rest)
+  again a l made rest (Err r) h = refused-not-accepted (h.answers ∙ back rest)
 
   pub trial-taken-up : TrialTakenUp t
   trial-taken-up = record { back = back; again = again }

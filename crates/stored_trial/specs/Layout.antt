@@ -1,6 +1,7 @@
 -- A trial as bytes: the code of its answer, the account tried and the account that would follow (W-206). Its reading is left out: it is that of the account that
 -- would follow.
-use Rattle.std.specs.Prelude.{ℕ, ◌+◌, ◌≡◌, not, List, ◌++◌, drop}
+use Rattle.std.specs.Prelude.{ℕ, ◌+◌, ◌≡◌, not, List, ◌++◌, drop, Result, Ok, Err}
+use Rattle.records.specs.declared.Refusal.{Refusal}
 use Rattle.records.specs.Answers.{Outcome, accepted, refused, row, onward, row_of}
 use Rattle.account_spec.specs.declared.Account.{Account}
 use Rattle.account_spec.specs.Rules.{fed_as, left_by}
@@ -9,7 +10,6 @@ use Rattle.stored.specs.Packing.{big_endian, big_endian_at, total_width}
 use Rattle.stored.specs.Layout.{widths, account_bytes, take_up_of}
 use Rattle.answers.specs.Code.{code_of, is_code, answer_of}
 use Rattle.trial_spec.specs.declared.Trial.{Trial}
-use Rattle.stored_trial.specs.declared.HeldTrial.{HeldTrial}
 
 -- what a trial's bytes hold
 pub record Contents : Type 0 where
@@ -50,11 +50,11 @@ contents_in l =
 
 -- ---- what taking up gives
 
-abbrev pub held_as : HeldTrial → Outcome Contents
-held_as (HeldTrial.Trial t) = accepted (contents_of t)
-held_as (HeldTrial.Refused r) = refused (row_of r)
+abbrev pub held_as : Result Trial Refusal → Outcome Contents
+held_as (Ok t) = accepted (contents_of t)
+held_as (Err r) = refused (row_of r)
 
 -- a trial with these contents, or their refusal; a trial's reading is that of the account that would follow
-pub record Holds (contents : Outcome Contents) (held : HeldTrial) : Type 0 where
+pub record Holds (contents : Outcome Contents) (held : Result Trial Refusal) : Type 0 where
   pub answers : held_as held ≡ contents
-  pub reading : (t : Trial) → held ≡ HeldTrial.Trial t → Reads (left_by t.answer) t.reading
+  pub reading : (t : Trial) → held ≡ Ok t → Reads (left_by t.answer) t.reading

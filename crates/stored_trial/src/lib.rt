@@ -4,7 +4,7 @@
 
 ghost use Rattle.std.specs.Prelude.{◌≡◌, not, [], ◌+◌, ◌≤◌, ◌<◌, length};
 ghost use Rattle.std.proofs.lemmas.List.Edits.{sets};
-ghost use Rattle.records.specs.Answers.{accepted, row, written_as};
+ghost use Rattle.records.specs.Answers.{accepted, row, outcome_of};
 ghost use Rattle.records.specs.Buffer.{Prints};
 ghost use Rattle.account_spec.specs.Rules.{left_by};
 ghost use Rattle.account_spec.specs.Reading.{Reads};
@@ -16,17 +16,8 @@ ghost use Rattle.stored_trial.specs.Layout.{contents_of, code_width, account_wid
 ghost use Rattle.stored_trial.specs.RoundTrip.{TrialTakenUp, TrialStoredBack};
 
 use account_spec::{Account, Fed};
-use answers::Coded;
-use frames::{Refusal, Written};
-use stored::Held;
+use frames::Refusal;
 use trial_spec::Trial;
-
-// What bytes hold at their front: a trial, or none (row 13).
-#[derive(Clone, Copy)]
-pub enum HeldTrial {
-    Trial(Trial),
-    Refused(Refusal),
-}
 
 // The bytes of a trial.
 pub const SIZE: usize = 178;
@@ -44,7 +35,7 @@ fn put_account(account: Account, buffer: &mut [u8], at: usize)
     ensures is { buffer.new ≡ sets buffer.old at (account_bytes account) }
     ensures back { TakenUp account }
 {
-    stored::store(account, &mut buffer[at..]);
+    let _ = stored::store(account, &mut buffer[at..]);
 }
 
 // A code into the first two bytes, the field first.
@@ -52,41 +43,31 @@ fn put_code(code: u16, buffer: &mut [u8])
     requires { code_width ≤ length buffer.old }
     ensures { buffer.new ≡ sets buffer.old 0 (big_endian code_width code []) }
 {
-    buffer[0] = (code / 256) as u8;
-    buffer[1] = (code % 256) as u8;
+    buffer[..TRIED].copy_from_slice(&code.to_be_bytes());
 }
 
 // A trial into the first bytes of a lent buffer: row 12 where it is too short.
-pub fn store(trial: Trial, buffer: &mut [u8]) -> Written
+pub fn store(trial: Trial, buffer: &mut [u8]) -> Result<usize, Refusal>
     ensures prints { Prints (accepted (trial_bytes (contents_of trial))) buffer.old result buffer.new }
-    ensures back { written_as result ≡ accepted trial_width → TrialTakenUp trial }
+    ensures back { outcome_of result ≡ accepted trial_width → TrialTakenUp trial }
 {
     if buffer.len() < SIZE {
-        return Written::Refused(Refusal::Buffer);
+        return Err(Refusal::Buffer);
     }
-    let tried = trial.tried;
-    let answer = trial.answer;
-    put_code(answers::of_fed(answer), buffer);
-    put_account(tried, buffer, TRIED);
-    let next = trial::left_by(answer);
+    put_code(answers::of_fed(trial.answer), buffer);
+    put_account(trial.tried, buffer, TRIED);
+    let next = trial::left_by(trial.answer);
     put_account(next, buffer, NEXT);
-    Written::Bytes(SIZE)
+    Ok(SIZE)
 }
 
 // ---- taking up
-
-fn wide(x: u8) -> u16
-    ensures is { result ≡ x }
-    ensures small { result < 256 }
-{
-    x as u16
-}
 
 fn code_in(bytes: &[u8]) -> u16
     requires { code_width ≤ length bytes.now }
     ensures { result ≡ big_endian_at code_width 0 bytes.now }
 {
-    wide(bytes[0]) * 256 + wide(bytes[1])
+    u16::from_be_bytes([bytes[0], bytes[1]])
 }
 
 // The trial of an account that got this answer.
@@ -97,43 +78,33 @@ fn with_reading(tried: Account, answer: Fed) -> Trial
     let next = trial::left_by(answer);
     let reading = account_read::read(next);
     Trial {
-        tried: tried,
-        answer: answer,
-        reading: reading,
+        tried,
+        answer,
+        reading,
     }
 }
 
 // The trial with these contents: row 13 where the number is no code.
-fn trial_with(code: u16, tried: Account, next: Account) -> HeldTrial
+fn trial_with(code: u16, tried: Account, next: Account) -> Result<Trial, Refusal>
     ensures { Holds (row 13 (not (is_code code)) (accepted (record { code = code; tried = tried; next = next }))) result }
 {
-    let coded = answers::answer_of(code);
-    match coded {
-        Coded::Accepted => HeldTrial::Trial(with_reading(tried, Fed::Accepted(next))),
-        Coded::Refused(refusal) => HeldTrial::Trial(with_reading(
-            tried,
-            Fed::Refused(refusal, next),
-        )),
-        Coded::Unknown => HeldTrial::Refused(Refusal::Account),
+    match answers::answer_of(code) {
+        Some(Ok(())) => Ok(with_reading(tried, Ok(next))),
+        Some(Err(refusal)) => Ok(with_reading(tried, Err((refusal, next)))),
+        None => Err(Refusal::Account),
     }
 }
 
 // The trial in the first bytes of a slice: row 13 where there is none.
-pub fn take_up(bytes: &[u8]) -> HeldTrial
+pub fn take_up(bytes: &[u8]) -> Result<Trial, Refusal>
     ensures holds { Holds (contents_in bytes.now) result }
     ensures same { TrialStoredBack bytes.now }
 {
     if bytes.len() < SIZE {
-        return HeldTrial::Refused(Refusal::Account);
+        return Err(Refusal::Account);
     }
     let code = code_in(bytes);
-    let first = stored::take_up(&bytes[TRIED..]);
-    let second = stored::take_up(&bytes[NEXT..]);
-    let Held::Account(tried) = first else {
-        return HeldTrial::Refused(Refusal::Account);
-    };
-    let Held::Account(next) = second else {
-        return HeldTrial::Refused(Refusal::Account);
-    };
+    let tried = stored::take_up(&bytes[TRIED..])?;
+    let next = stored::take_up(&bytes[NEXT..])?;
     trial_with(code, tried, next)
 }

@@ -3,7 +3,10 @@
 
 mod stretches;
 
+// A read or a write that fails ends it.
 fn main(rt: HostRuntime) {
-    let mut buf = cases::buffer();
-    stretches::print_cases(&rt, &mut buf);
+    let Ok(input) = cases::read_all(&rt) else {
+        return;
+    };
+    let _ = stretches::print_cases(&rt, input.as_slice());
 }

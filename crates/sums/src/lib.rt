@@ -5,7 +5,7 @@ ghost use Rattle.std.specs.Prelude.{◌-◌, ◌<◌, ◌≡◌, cond};
 ghost use Rattle.records.specs.Ozone.{is_missing, read_as};
 ghost use Rattle.flux_spec.specs.Dose.{excess};
 
-use frames::{Hour, Ozone};
+use frames::Hour;
 
 // max(ozone - 400, 0)
 fn excess(ozone: u16) -> u32
@@ -32,7 +32,7 @@ pub fn ozone_sums(ceiling: u16, h: Hour) -> OzoneSums
 {
     let ozone = h.ozone;
     match ozone {
-        Ozone::Tenths(n) => {
+        Some(n) => {
             let over = excess(n);
             OzoneSums {
                 least: over,
@@ -40,7 +40,7 @@ pub fn ozone_sums(ceiling: u16, h: Hour) -> OzoneSums
                 missing: 0,
             }
         },
-        Ozone::Missing => OzoneSums {
+        None => OzoneSums {
             least: 0,
             most: excess(ceiling),
             missing: 1,

@@ -2,6 +2,9 @@
 -- What reading an entry of a table asks for, and the pair that it gives: the larger of f_min and the entry, and of f_min and the next number, in units of 10⁻⁹.
 use Rattle.std.specs.Prelude.{ℕ, ◌+◌, ◌-◌, ◌*◌, ◌<◌, ◌≤◌, max, ◌≡◌, List, length, get_or}
 use Rattle.exact.specs.declared.Bounds.{Bounds}
+use Rattle.trees.specs.declared.Figures.{Figures}
+use Rattle.trees.specs.Temperature.{temperature_pair}
+use Rattle.trees.specs.TemperatureTable.{IsTrimmed}
 
 -- the table begins at the reading `from`; neither its first entry nor its last is under f_min
 pub record Readable (fmin : ℕ) (table : List ℕ) (from x : ℕ) : Type 0 where
@@ -16,3 +19,12 @@ pub record ReadAs (fmin : ℕ) (table : List ℕ) (from x : ℕ) (r : Bounds) : 
   pub asked : Readable fmin table from x
   pub lower : r.lower ≡ max (fmin * 10000000) (get_or table (x - from) 0)
   pub upper : r.upper ≡ max (fmin * 10000000) (get_or table (x - from) 0 + 1)
+
+-- the tree's f_min, and its whole table from the reading `first` on
+pub record IsTable (f : Figures) (fmin first : ℕ) (table : List ℕ) : Type 0 where
+  pub floor : fmin ≡ f.fmin
+  pub percent : fmin ≤ 100
+  pub filled : 0 < length table
+  pub trimmed : IsTrimmed f first (first + length table - 1)
+  pub readable : (x : ℕ) → first ≤ x → x < first + length table → Readable fmin table first x
+  pub pairs : {x : ℕ} {r : Bounds} → ReadAs fmin table first x r → r ≡ temperature_pair f x

@@ -1,4 +1,5 @@
 -- The six trees' figures have the f_temp of their curve.
+use Rattle.std.specs.Prelude.{Some}
 use Prim.Native.Nat.{ℕ}
 use mathlib.Core.Path.{◌≡◌, refl, sym, ap, ◌∙◌}
 use Rattle.trees.specs.declared.Curve.{Curve}
@@ -6,7 +7,6 @@ use Rattle.trees.specs.declared.Curve.TheVariants.{BorealSpruce, Birch, Continen
 use Rattle.trees.specs.declared.Source.{Source}
 use Rattle.trees.specs.declared.Source.TheVariants.{Tabled, Worked}
 use Rattle.trees.specs.declared.Figures.{Figures}
-use Rattle.trees.specs.declared.Choice.TheVariants.{Tree}
 use Rattle.trees.specs.Figures.{owner_of, figures_of}
 use Rattle.trees.specs.Steps.{HasTable}
 use Rattle.trees.specs.Temperature.{temperature_pair}
@@ -17,7 +17,7 @@ abbrev curve_or : Curve → Source → Curve
 curve_or other (Tabled curve) = curve
 curve_or other Worked = other
 
-pub figures-tabled : (t : ℕ) (f : Figures) → figures_of t ≡ Tree f → HasTable f
+pub figures-tabled : (t : ℕ) (f : Figures) → figures_of t ≡ Some f → HasTable f
 figures-tabled =
     let own : (g : Figures) (mine : Curve) → g.source ≡ Tabled mine → owner_of mine ≡ g → HasTable g = λ g mine named e. record {
       pair = λ curve other x. let same : mine ≡ curve = ap (curve_or mine) (sym named ∙ other) in ap (λ f. temperature_pair f x) (sym e ∙ ap owner_of same);

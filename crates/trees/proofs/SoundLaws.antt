@@ -1,12 +1,11 @@
 -- The six trees' figures are sound.
+use Rattle.std.specs.Prelude.{Option, Some, None}
 use Prim.Native.Nat.{ℕ}
 use mathlib.Core.Path.{◌≡◌}
 use mathlib.Core.Bool.{Bool, true, false, cond}
 use native.Mathlib.Omega.{arith}
 use lib.Dec.{eqb}
 use Rattle.trees.specs.declared.Figures.{Figures}
-use Rattle.trees.specs.declared.Choice.{Choice}
-use Rattle.trees.specs.declared.Choice.TheVariants.{Tree, Unknown}
 use Rattle.trees.specs.Figures.{boreal_spruce, birch, continental_spruce, beech, oak, evergreen, figures_of}
 use Rattle.trees.specs.Sound.{Sound}
 
@@ -31,17 +30,17 @@ evergreen-sound = omega arith
 -- what holds of the six holds of any tree that is chosen
 
 module _ (P : Figures → Type 0) where
-  abbrev Chosen : Choice → Type 0
-  Chosen (Tree f) = P f
-  Chosen Unknown = Unit
+  abbrev Chosen : Option Figures → Type 0
+  Chosen (Some f) = P f
+  Chosen None = Unit
 
-  either : (t : Bool) (f : Figures) (rest : Choice) → P f → Chosen rest → Chosen (cond t (Tree f) rest)
+  either : (t : Bool) (f : Figures) (rest : Option Figures) → P f → Chosen rest → Chosen (cond t (Some f) rest)
   either true f rest s r = s
   either false f rest s r = r
 
   pub figures-all :
       P boreal_spruce → P birch → P continental_spruce → P beech → P oak → P evergreen →
-      (t : ℕ) (f : Figures) → figures_of t ≡ Tree f → P f
+      (t : ℕ) (f : Figures) → figures_of t ≡ Some f → P f
   unfolding figures_of
   figures-all a b c d e g t f chosen =
       let all : Chosen (figures_of t) =
@@ -50,9 +49,9 @@ module _ (P : Figures → Type 0) where
       (either (eqb t 3) continental_spruce _ c
       (either (eqb t 4) beech _ d
       (either (eqb t 5) oak _ e
-      (either (eqb t 6) evergreen Unknown g tt))))) in
+      (either (eqb t 6) evergreen None g tt))))) in
       rw chosen at all
 
-pub figures-sound : (t : ℕ) (f : Figures) → figures_of t ≡ Tree f → Sound f
+pub figures-sound : (t : ℕ) (f : Figures) → figures_of t ≡ Some f → Sound f
 figures-sound =
     figures-all Sound boreal_spruce-sound birch-sound continental_spruce-sound beech-sound oak-sound evergreen-sound

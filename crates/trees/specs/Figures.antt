@@ -1,5 +1,5 @@
 -- The tree table (document 01, "Tree table"): each tree's figures, in the units of src/lib.rt.
-use Rattle.std.specs.Prelude.{ℕ, ◌+◌, cond, ◌||◌, eqb, ltb}
+use Rattle.std.specs.Prelude.{ℕ, ◌+◌, cond, ◌||◌, eqb, ltb, Option, Some, None}
 use Rattle.trees.specs.declared.Measure.{Measure}
 use Rattle.trees.specs.declared.Measure.TheVariants.{Suction, Water}
 use Rattle.trees.specs.declared.Phenology.{Phenology}
@@ -8,8 +8,6 @@ use Rattle.trees.specs.declared.Curve.{Curve}
 use Rattle.trees.specs.declared.Curve.TheVariants.{BorealSpruce, Birch, ContinentalSpruce, Beech, Oak, Evergreen}
 use Rattle.trees.specs.declared.Source.TheVariants.{Tabled}
 use Rattle.trees.specs.declared.Figures.{Figures}
-use Rattle.trees.specs.declared.Choice.{Choice}
-use Rattle.trees.specs.declared.Choice.TheVariants.{Tree, Unknown}
 
 -- degrees Celsius as whole degrees above -50 °C
 abbrev celsius : ℕ → ℕ
@@ -71,20 +69,20 @@ owner_of Oak = oak
 owner_of Evergreen = evergreen
 
 -- by the tree's number; a number outside 1 to 6 is none of these six
-unfoldable pub figures_of : ℕ → Choice
+unfoldable pub figures_of : ℕ → Option Figures
 figures_of tree =
-    cond (eqb tree 1) (Tree boreal_spruce)
-    (cond (eqb tree 2) (Tree birch)
-    (cond (eqb tree 3) (Tree continental_spruce)
-    (cond (eqb tree 4) (Tree beech)
-    (cond (eqb tree 5) (Tree oak)
-    (cond (eqb tree 6) (Tree evergreen)
-    Unknown)))))
+    cond (eqb tree 1) (Some boreal_spruce)
+    (cond (eqb tree 2) (Some birch)
+    (cond (eqb tree 3) (Some continental_spruce)
+    (cond (eqb tree 4) (Some beech)
+    (cond (eqb tree 5) (Some oak)
+    (cond (eqb tree 6) (Some evergreen)
+    None)))))
 
 -- document 01's number for each case of a choice: no row for a tree, row 5 for what is none
-abbrev pub choice_row : Choice → ℕ
-choice_row (Tree f) = 0
-choice_row Unknown = 5
+abbrev pub choice_row : Option Figures → ℕ
+choice_row (Some f) = 0
+choice_row None = 5
 
 -- row 5 as far as these six go; with tree 7 (W-212) it is `number_row`, crates/measured/specs/Figures.antt
 abbrev pub tree_row : ℕ → ℕ

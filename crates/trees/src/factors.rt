@@ -1,5 +1,5 @@
 // The factors of the vapour pressure deficit and of the soil's water (document 01, "Factors").
-ghost use Rattle.std.specs.Prelude.{◌≡◌, ◌-◌, ◌*◌, ◌≤◌, max};
+ghost use Rattle.std.specs.Prelude.{◌≡◌, ◌-◌, ◌*◌, ◌≤◌};
 ghost use Rattle.exact.specs.Frac.{Is, straight};
 ghost use Rattle.trees.specs.Deficit.{falling, IsDeficitPair};
 ghost use Rattle.trees.specs.Facts.{FactorFacts};
@@ -32,24 +32,18 @@ pub(crate) fn straight(from: u16, to: u16, d: u16, s: u16) -> Fraction
     line(from, to, d as u64, s as u64)
 }
 
-// How far a number is past another; 0 where it is not.
-pub(crate) fn past(start: u16, n: u16) -> u16
-    ensures { result ≡ n - start }
-{
-    if start < n { n - start } else { 0 }
-}
-
 // How much drier a soil reading is than another: more suction, less water; 0 where it is not.
 fn drier(measure: Measure, than: u16, reading: u16) -> u16
     ensures { result ≡ drier measure than reading }
 {
     match measure {
-        Measure::Suction => past(than, reading),
-        Measure::Water => past(reading, than),
+        Measure::Suction => reading.saturating_sub(than),
+        Measure::Water => than.saturating_sub(reading),
     }
 }
 
 // The straight line from 1 to f_min, d of s steps along it; past its end f_min.
+#[tactic(auto, unfolding(crate::specs::Deficit::falling))]
 fn falling(fmin: u16, d: u64, s: u64) -> Fraction
     requires { s ≤ 65535 * 4294967295 }
     ensures { Is result (falling fmin d s) }
@@ -57,27 +51,13 @@ fn falling(fmin: u16, d: u64, s: u64) -> Fraction
     line(100, fmin, d, s)
 }
 
-// n less m, or 0 where m is the greater.
-fn less(n: u64, m: u64) -> u64
-    ensures { result ≡ n - m }
-{
-    if m < n { n - m } else { 0 }
-}
-
-// A divisor; 0 is read as 1.
-fn divisor(den: u32) -> u32
-    ensures { result ≡ max 1 den }
-{
-    if den == 0 { 1 } else { den }
-}
-
 // f_VPD of the deficit n/den, in Pa, by its "max" and "min".
 fn deficit_factor(fmin: u16, max: u16, min: u16, n: u64, den: u32) -> Fraction
     ensures { Is result (falling fmin (n - max * den) ((min - max) * den)) }
 {
     let steps = den as u64;
-    let d = less(n, (max as u64) * steps);
-    falling(fmin, d, (past(max, min) as u64) * steps)
+    let d = n.saturating_sub((max as u64) * steps);
+    falling(fmin, d, (min.saturating_sub(max) as u64) * steps)
 }
 
 // f_VPD between two factors: the lower one is that of the upper deficit, the upper one that of the lower deficit.
@@ -85,7 +65,7 @@ pub fn f_vpd(f: Figures, vpd: Deficits) -> FactorPair
     ensures deficit_pair { IsDeficitPair f vpd result }
     ensures facts { FactorFacts }
 {
-    let den = divisor(vpd.den);
+    let den = vpd.den.max(1);
     let lower = deficit_factor(f.fmin, f.vpdmax, f.vpdmin, vpd.upper, den);
     let upper = deficit_factor(f.fmin, f.vpdmax, f.vpdmin, vpd.lower, den);
     FactorPair { lower, upper }

@@ -1,16 +1,17 @@
-// The tree table of document 01: each tree's figures, as constants that belong to that tree's type.
+// The tree table of document 01: each tree's figures, as a constant that belongs to that tree's type.
 #![tactic(auto)]
 
 pub mod factors;
 pub mod phen;
 
 ghost use Rattle.std.specs.Prelude.{◌≡◌};
+ghost use Rattle.trees.specs.declared.Figures.{Figures};
 ghost use Rattle.trees.specs.Figures.{boreal_spruce, birch, continental_spruce, beech, oak, evergreen, figures_of, choice_row, tree_row, ramp_days};
 
 use exact::Fraction;
 
 // What a soil reading measures: suction in kPa, or available water in tenths of a percent.
-#[derive(Clone, Copy)]
+#[derive(Clone, Copy, PartialEq)]
 pub enum Measure {
     Suction,
     Water,
@@ -77,7 +78,7 @@ pub struct Figures {
 }
 
 // Leaf age by warmth (W-213): the temperature sums, in °C days, within which f_phen rises, within which it falls, and at which it ends; all 0 where none was fed.
-#[derive(Clone, Copy)]
+#[derive(Clone, Copy, Default, PartialEq, Eq)]
 pub struct Warmth {
     pub rise: u16,
     pub fall: u16,
@@ -99,443 +100,216 @@ pub struct FactorPair {
     pub upper: Fraction,
 }
 
-// What a tree's number names: the tree's figures, or nothing (row 5).
-#[derive(Clone, Copy)]
-pub enum Choice {
-    Tree(Figures),
-    Unknown,
-}
-
 // 0 °C in whole degrees above -50 °C.
 const ZERO: u16 = 50;
+
+// A tree of the table: its figures are a constant of its type.
+pub trait Tree {
+    ghost FIGURES: { Figures };
+
+    const FIGURES: Figures;
+}
 
 #[derive(Clone, Copy)]
 pub struct BorealSpruce;
 
-impl BorealSpruce {
-    pub const GMAX: u16 = 125;
+impl Tree for BorealSpruce {
+    ghost FIGURES = { boreal_spruce };
 
-    pub const FMIN: u16 = 10;
-
-    pub const LIGHTA: u16 = 60;
-
-    pub const TMIN: u16 = ZERO + 0;
-
-    pub const TOPT: u16 = ZERO + 20;
-
-    pub const TMAX: u16 = ZERO + 200;
-
-    pub const P: u16 = 9;
-
-    pub const Q: u16 = 1;
-
-    pub const VPDMAX: u16 = 800;
-
-    pub const VPDMIN: u16 = 2800;
-
-    pub const SOILMAX: u16 = 150;
-
-    pub const SOILMIN: u16 = 10;
-
-    pub const LEAF: u16 = 8;
-
-    pub const A: u16 = 0;
-
-    pub const E: u16 = 0;
-
-    pub const F1: u16 = 20;
-
-    pub const F4: u16 = 30;
-
-    pub const Y: u16 = 1;
-
-    fn figures() -> Figures
-        ensures { result ≡ boreal_spruce }
-    {
-        Figures {
-            gmax: BorealSpruce::GMAX,
-            fmin: BorealSpruce::FMIN,
-            lighta: BorealSpruce::LIGHTA,
-            tmin: BorealSpruce::TMIN,
-            topt: BorealSpruce::TOPT,
-            tmax: BorealSpruce::TMAX,
-            p: BorealSpruce::P,
-            q: BorealSpruce::Q,
-            source: Source::Tabled(Curve::BorealSpruce),
-            vpdmax: BorealSpruce::VPDMAX,
-            vpdmin: BorealSpruce::VPDMIN,
-            measure: Measure::Water,
-            soilmax: BorealSpruce::SOILMAX,
-            soilmin: BorealSpruce::SOILMIN,
-            leaf: BorealSpruce::LEAF,
-            phenology: Phenology::Ramps,
-            a: BorealSpruce::A,
-            e: BorealSpruce::E,
-            f1: BorealSpruce::F1,
-            f4: BorealSpruce::F4,
-            y: BorealSpruce::Y,
-        }
-    }
+    const FIGURES: Figures = Figures {
+        gmax: 125,
+        fmin: 10,
+        lighta: 60,
+        tmin: ZERO + 0,
+        topt: ZERO + 20,
+        tmax: ZERO + 200,
+        p: 9,
+        q: 1,
+        source: Source::Tabled(Curve::BorealSpruce),
+        vpdmax: 800,
+        vpdmin: 2800,
+        measure: Measure::Water,
+        soilmax: 150,
+        soilmin: 10,
+        leaf: 8,
+        phenology: Phenology::Ramps,
+        a: 0,
+        e: 0,
+        f1: 20,
+        f4: 30,
+        y: 1,
+    };
 }
 
 #[derive(Clone, Copy)]
 pub struct Birch;
 
-impl Birch {
-    pub const GMAX: u16 = 240;
+impl Tree for Birch {
+    ghost FIGURES = { birch };
 
-    pub const FMIN: u16 = 10;
-
-    pub const LIGHTA: u16 = 42;
-
-    pub const TMIN: u16 = ZERO + 5;
-
-    pub const TOPT: u16 = ZERO + 20;
-
-    pub const TMAX: u16 = ZERO + 200;
-
-    pub const P: u16 = 12;
-
-    pub const Q: u16 = 1;
-
-    pub const VPDMAX: u16 = 500;
-
-    pub const VPDMIN: u16 = 2700;
-
-    pub const SOILMAX: u16 = 150;
-
-    pub const SOILMIN: u16 = 10;
-
-    pub const LEAF: u16 = 50;
-
-    pub const A: u16 = 0;
-
-    pub const E: u16 = 0;
-
-    pub const F1: u16 = 20;
-
-    pub const F4: u16 = 30;
-
-    pub const Y: u16 = 1;
-
-    fn figures() -> Figures
-        ensures { result ≡ birch }
-    {
-        Figures {
-            gmax: Birch::GMAX,
-            fmin: Birch::FMIN,
-            lighta: Birch::LIGHTA,
-            tmin: Birch::TMIN,
-            topt: Birch::TOPT,
-            tmax: Birch::TMAX,
-            p: Birch::P,
-            q: Birch::Q,
-            source: Source::Tabled(Curve::Birch),
-            vpdmax: Birch::VPDMAX,
-            vpdmin: Birch::VPDMIN,
-            measure: Measure::Water,
-            soilmax: Birch::SOILMAX,
-            soilmin: Birch::SOILMIN,
-            leaf: Birch::LEAF,
-            phenology: Phenology::Ramps,
-            a: Birch::A,
-            e: Birch::E,
-            f1: Birch::F1,
-            f4: Birch::F4,
-            y: Birch::Y,
-        }
-    }
+    const FIGURES: Figures = Figures {
+        gmax: 240,
+        fmin: 10,
+        lighta: 42,
+        tmin: ZERO + 5,
+        topt: ZERO + 20,
+        tmax: ZERO + 200,
+        p: 12,
+        q: 1,
+        source: Source::Tabled(Curve::Birch),
+        vpdmax: 500,
+        vpdmin: 2700,
+        measure: Measure::Water,
+        soilmax: 150,
+        soilmin: 10,
+        leaf: 50,
+        phenology: Phenology::Ramps,
+        a: 0,
+        e: 0,
+        f1: 20,
+        f4: 30,
+        y: 1,
+    };
 }
 
 #[derive(Clone, Copy)]
 pub struct ContinentalSpruce;
 
-impl ContinentalSpruce {
-    pub const GMAX: u16 = 130;
+impl Tree for ContinentalSpruce {
+    ghost FIGURES = { continental_spruce };
 
-    pub const FMIN: u16 = 16;
-
-    pub const LIGHTA: u16 = 100;
-
-    pub const TMIN: u16 = ZERO + 0;
-
-    pub const TOPT: u16 = ZERO + 14;
-
-    pub const TMAX: u16 = ZERO + 35;
-
-    pub const P: u16 = 3;
-
-    pub const Q: u16 = 2;
-
-    pub const VPDMAX: u16 = 500;
-
-    pub const VPDMIN: u16 = 3000;
-
-    pub const SOILMAX: u16 = 50;
-
-    pub const SOILMIN: u16 = 500;
-
-    pub const LEAF: u16 = 8;
-
-    pub const A: u16 = 0;
-
-    pub const E: u16 = 0;
-
-    pub const F1: u16 = 0;
-
-    pub const F4: u16 = 0;
-
-    pub const Y: u16 = 1;
-
-    fn figures() -> Figures
-        ensures { result ≡ continental_spruce }
-    {
-        Figures {
-            gmax: ContinentalSpruce::GMAX,
-            fmin: ContinentalSpruce::FMIN,
-            lighta: ContinentalSpruce::LIGHTA,
-            tmin: ContinentalSpruce::TMIN,
-            topt: ContinentalSpruce::TOPT,
-            tmax: ContinentalSpruce::TMAX,
-            p: ContinentalSpruce::P,
-            q: ContinentalSpruce::Q,
-            source: Source::Tabled(Curve::ContinentalSpruce),
-            vpdmax: ContinentalSpruce::VPDMAX,
-            vpdmin: ContinentalSpruce::VPDMIN,
-            measure: Measure::Suction,
-            soilmax: ContinentalSpruce::SOILMAX,
-            soilmin: ContinentalSpruce::SOILMIN,
-            leaf: ContinentalSpruce::LEAF,
-            phenology: Phenology::Temperature,
-            a: ContinentalSpruce::A,
-            e: ContinentalSpruce::E,
-            f1: ContinentalSpruce::F1,
-            f4: ContinentalSpruce::F4,
-            y: ContinentalSpruce::Y,
-        }
-    }
+    const FIGURES: Figures = Figures {
+        gmax: 130,
+        fmin: 16,
+        lighta: 100,
+        tmin: ZERO + 0,
+        topt: ZERO + 14,
+        tmax: ZERO + 35,
+        p: 3,
+        q: 2,
+        source: Source::Tabled(Curve::ContinentalSpruce),
+        vpdmax: 500,
+        vpdmin: 3000,
+        measure: Measure::Suction,
+        soilmax: 50,
+        soilmin: 500,
+        leaf: 8,
+        phenology: Phenology::Temperature,
+        a: 0,
+        e: 0,
+        f1: 0,
+        f4: 0,
+        y: 1,
+    };
 }
 
 #[derive(Clone, Copy)]
 pub struct Beech;
 
-impl Beech {
-    pub const GMAX: u16 = 155;
+impl Tree for Beech {
+    ghost FIGURES = { beech };
 
-    pub const FMIN: u16 = 13;
-
-    pub const LIGHTA: u16 = 60;
-
-    pub const TMIN: u16 = ZERO + 5;
-
-    pub const TOPT: u16 = ZERO + 16;
-
-    pub const TMAX: u16 = ZERO + 33;
-
-    pub const P: u16 = 17;
-
-    pub const Q: u16 = 11;
-
-    pub const VPDMAX: u16 = 1000;
-
-    pub const VPDMIN: u16 = 3100;
-
-    pub const SOILMAX: u16 = 50;
-
-    pub const SOILMIN: u16 = 1250;
-
-    pub const LEAF: u16 = 70;
-
-    pub const A: u16 = 0;
-
-    pub const E: u16 = 40;
-
-    pub const F1: u16 = 20;
-
-    pub const F4: u16 = 20;
-
-    pub const Y: u16 = 1;
-
-    fn figures() -> Figures
-        ensures { result ≡ beech }
-    {
-        Figures {
-            gmax: Beech::GMAX,
-            fmin: Beech::FMIN,
-            lighta: Beech::LIGHTA,
-            tmin: Beech::TMIN,
-            topt: Beech::TOPT,
-            tmax: Beech::TMAX,
-            p: Beech::P,
-            q: Beech::Q,
-            source: Source::Tabled(Curve::Beech),
-            vpdmax: Beech::VPDMAX,
-            vpdmin: Beech::VPDMIN,
-            measure: Measure::Suction,
-            soilmax: Beech::SOILMAX,
-            soilmin: Beech::SOILMIN,
-            leaf: Beech::LEAF,
-            phenology: Phenology::Ramps,
-            a: Beech::A,
-            e: Beech::E,
-            f1: Beech::F1,
-            f4: Beech::F4,
-            y: Beech::Y,
-        }
-    }
+    const FIGURES: Figures = Figures {
+        gmax: 155,
+        fmin: 13,
+        lighta: 60,
+        tmin: ZERO + 5,
+        topt: ZERO + 16,
+        tmax: ZERO + 33,
+        p: 17,
+        q: 11,
+        source: Source::Tabled(Curve::Beech),
+        vpdmax: 1000,
+        vpdmin: 3100,
+        measure: Measure::Suction,
+        soilmax: 50,
+        soilmin: 1250,
+        leaf: 70,
+        phenology: Phenology::Ramps,
+        a: 0,
+        e: 40,
+        f1: 20,
+        f4: 20,
+        y: 1,
+    };
 }
 
 #[derive(Clone, Copy)]
 pub struct Oak;
 
-impl Oak {
-    pub const GMAX: u16 = 265;
+impl Tree for Oak {
+    ghost FIGURES = { oak };
 
-    pub const FMIN: u16 = 13;
-
-    pub const LIGHTA: u16 = 60;
-
-    pub const TMIN: u16 = ZERO + 0;
-
-    pub const TOPT: u16 = ZERO + 22;
-
-    pub const TMAX: u16 = ZERO + 35;
-
-    pub const P: u16 = 13;
-
-    pub const Q: u16 = 22;
-
-    pub const VPDMAX: u16 = 1100;
-
-    pub const VPDMIN: u16 = 3100;
-
-    pub const SOILMAX: u16 = 1000;
-
-    pub const SOILMIN: u16 = 2000;
-
-    pub const LEAF: u16 = 42;
-
-    pub const A: u16 = 30;
-
-    pub const E: u16 = 30;
-
-    pub const F1: u16 = 15;
-
-    pub const F4: u16 = 20;
-
-    pub const Y: u16 = 1;
-
-    fn figures() -> Figures
-        ensures { result ≡ oak }
-    {
-        Figures {
-            gmax: Oak::GMAX,
-            fmin: Oak::FMIN,
-            lighta: Oak::LIGHTA,
-            tmin: Oak::TMIN,
-            topt: Oak::TOPT,
-            tmax: Oak::TMAX,
-            p: Oak::P,
-            q: Oak::Q,
-            source: Source::Tabled(Curve::Oak),
-            vpdmax: Oak::VPDMAX,
-            vpdmin: Oak::VPDMIN,
-            measure: Measure::Suction,
-            soilmax: Oak::SOILMAX,
-            soilmin: Oak::SOILMIN,
-            leaf: Oak::LEAF,
-            phenology: Phenology::Ramps,
-            a: Oak::A,
-            e: Oak::E,
-            f1: Oak::F1,
-            f4: Oak::F4,
-            y: Oak::Y,
-        }
-    }
+    const FIGURES: Figures = Figures {
+        gmax: 265,
+        fmin: 13,
+        lighta: 60,
+        tmin: ZERO + 0,
+        topt: ZERO + 22,
+        tmax: ZERO + 35,
+        p: 13,
+        q: 22,
+        source: Source::Tabled(Curve::Oak),
+        vpdmax: 1100,
+        vpdmin: 3100,
+        measure: Measure::Suction,
+        soilmax: 1000,
+        soilmin: 2000,
+        leaf: 42,
+        phenology: Phenology::Ramps,
+        a: 30,
+        e: 30,
+        f1: 15,
+        f4: 20,
+        y: 1,
+    };
 }
 
 #[derive(Clone, Copy)]
 pub struct Evergreen;
 
-impl Evergreen {
-    pub const GMAX: u16 = 195;
+impl Tree for Evergreen {
+    ghost FIGURES = { evergreen };
 
-    pub const FMIN: u16 = 2;
-
-    pub const LIGHTA: u16 = 120;
-
-    pub const TMIN: u16 = ZERO + 1;
-
-    pub const TOPT: u16 = ZERO + 23;
-
-    pub const TMAX: u16 = ZERO + 39;
-
-    pub const P: u16 = 8;
-
-    pub const Q: u16 = 11;
-
-    pub const VPDMAX: u16 = 2200;
-
-    pub const VPDMIN: u16 = 4000;
-
-    pub const SOILMAX: u16 = 1000;
-
-    pub const SOILMIN: u16 = 4500;
-
-    pub const LEAF: u16 = 30;
-
-    pub const A: u16 = 100;
-
-    pub const E: u16 = 100;
-
-    pub const F1: u16 = 0;
-
-    pub const F4: u16 = 0;
-
-    pub const Y: u16 = 1;
-
-    fn figures() -> Figures
-        ensures { result ≡ evergreen }
-    {
-        Figures {
-            gmax: Evergreen::GMAX,
-            fmin: Evergreen::FMIN,
-            lighta: Evergreen::LIGHTA,
-            tmin: Evergreen::TMIN,
-            topt: Evergreen::TOPT,
-            tmax: Evergreen::TMAX,
-            p: Evergreen::P,
-            q: Evergreen::Q,
-            source: Source::Tabled(Curve::Evergreen),
-            vpdmax: Evergreen::VPDMAX,
-            vpdmin: Evergreen::VPDMIN,
-            measure: Measure::Suction,
-            soilmax: Evergreen::SOILMAX,
-            soilmin: Evergreen::SOILMIN,
-            leaf: Evergreen::LEAF,
-            phenology: Phenology::Dip,
-            a: Evergreen::A,
-            e: Evergreen::E,
-            f1: Evergreen::F1,
-            f4: Evergreen::F4,
-            y: Evergreen::Y,
-        }
-    }
+    const FIGURES: Figures = Figures {
+        gmax: 195,
+        fmin: 2,
+        lighta: 120,
+        tmin: ZERO + 1,
+        topt: ZERO + 23,
+        tmax: ZERO + 39,
+        p: 8,
+        q: 11,
+        source: Source::Tabled(Curve::Evergreen),
+        vpdmax: 2200,
+        vpdmin: 4000,
+        measure: Measure::Suction,
+        soilmax: 1000,
+        soilmin: 4500,
+        leaf: 30,
+        phenology: Phenology::Dip,
+        a: 100,
+        e: 100,
+        f1: 0,
+        f4: 0,
+        y: 1,
+    };
 }
 
 // The figures of the tree with a number, 1 to 6.
-pub fn figures_of(tree: u8) -> Choice
+#[tactic(auto, unfolding(crate::specs::Figures::figures_of))]
+pub fn figures_of(tree: u8) -> Option<Figures>
     ensures value { result ≡ figures_of tree }
     ensures row { choice_row result ≡ tree_row tree }
 {
     match tree {
-        1 => Choice::Tree(BorealSpruce::figures()),
-        2 => Choice::Tree(Birch::figures()),
-        3 => Choice::Tree(ContinentalSpruce::figures()),
-        4 => Choice::Tree(Beech::figures()),
-        5 => Choice::Tree(Oak::figures()),
-        6 => Choice::Tree(Evergreen::figures()),
-        _ => Choice::Unknown,
+        1 => Some(BorealSpruce::FIGURES),
+        2 => Some(Birch::FIGURES),
+        3 => Some(ContinentalSpruce::FIGURES),
+        4 => Some(Beech::FIGURES),
+        5 => Some(Oak::FIGURES),
+        6 => Some(Evergreen::FIGURES),
+        _ => None,
     }
 }
 

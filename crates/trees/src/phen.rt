@@ -9,11 +9,11 @@ use exact::Fraction;
 fn by_ramps(f: Figures, first: u16, last: u16, day: u16) -> Fraction
     ensures { Is result (by_ramps f first last day) }
 {
-    let left = factors::past(day, last);
+    let left = last.saturating_sub(day);
     if left < f.f4 {
         factors::straight(f.e, 100, left, f.f4)
     } else {
-        factors::straight(f.a, 100, factors::past(first, day), f.f1)
+        factors::straight(f.a, 100, day.saturating_sub(first), f.f1)
     }
 }
 

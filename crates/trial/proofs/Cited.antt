@@ -3,8 +3,7 @@ use Prim.Native.Nat.{ℕ}
 use mathlib.Core.List.{List, []}
 use denote.Ref.{Bor}
 use Rattle.account_spec.specs.declared.Account.{Account}
-use Rattle.account_spec.specs.declared.Fed.{Fed}
-use Rattle.account_spec.specs.Rules.{left_by, Feeds}
+use Rattle.account_spec.specs.Rules.{left_by, Feeds, Fed}
 use Rattle.account_spec.specs.Reading.{Reads}
 use Rattle.trial_spec.specs.declared.Trial.{Trial}
 use Rattle.trial_spec.specs.Promise.{TrialPromise}
@@ -25,8 +24,8 @@ Taken a t r = take-reads.Post tt (a, (t, tt)) r (a, (t, tt))
 made-taken : (a : Account) (l : List ℕ) (t : Trial) → Made a l t → (r : Fed) → Taken a t r → Feeds a l r × Reads (left_by r) t.reading
 made-taken a l t made r k = trial-promise.taken a l t made r k.0
 
-pub promise-cited : TrialPromise
-promise-cited = record {
+pub promise_cited : TrialPromise
+promise_cited = record {
   same = trial-promise.same;
   taken = λ a l t made r k. made-taken a l t made r (k, trial-promise);
   other = trial-promise.other;

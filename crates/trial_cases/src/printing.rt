@@ -1,45 +1,54 @@
 // Answers as words.
-use account::{Reading, Verdict};
-use cases::{print, print_next, print_number};
-use cases_account::{print_account, print_fed, print_refusal};
+use account::{Fed, Totals, Verdict};
+use cases::Refused;
+use cases_account::{Answer, Fields};
+use frames::Refusal;
+use std::{fmt, io};
 use trial::Trial;
 
-fn print_verdict(rt: &impl Print, verdict: Verdict) {
-    match verdict {
-        Verdict::None => print(rt, b" none"),
-        Verdict::Undecided => print(rt, b" undecided"),
-        Verdict::Exceeded => print(rt, b" exceeded"),
-        Verdict::Below => print(rt, b" below"),
+// An answer, and the account that it leaves.
+#[derive(Clone, Copy)]
+pub(crate) struct Answered(pub(crate) Fed);
+
+impl fmt::Display for Answered {
+    fn fmt<W: fmt::Write>(&self, f: &mut fmt::Formatter<W>) -> fmt::Result {
+        write!(f, "{}: {}", Answer(self.0), Fields(trial::left_by(self.0)))
     }
 }
 
-fn print_reading(rt: &impl Print, reading: Reading) {
-    match reading {
-        Reading::Given(totals) => {
-            let sums = totals.sums;
-            let verdict = totals.verdict;
-            print_number(rt, sums.hours as u64);
-            print_next(rt, sums.counted as u64);
-            print_next(rt, sums.missing as u64);
-            print_next(rt, sums.lower);
-            print_next(rt, sums.upper);
-            print_next(rt, sums.least as u64);
-            print_next(rt, sums.most as u64);
-            print_verdict(rt, verdict);
-        },
-        Reading::Refused(refusal) => print_refusal(rt, refusal),
+fn word_of(verdict: Verdict) -> &'static str {
+    match verdict {
+        Verdict::None => "none",
+        Verdict::Undecided => "undecided",
+        Verdict::Exceeded => "exceeded",
+        Verdict::Below => "below",
+    }
+}
+
+#[derive(Clone, Copy)]
+struct Reading(Result<Totals, Refusal>);
+
+impl fmt::Display for Reading {
+    fn fmt<W: fmt::Write>(&self, f: &mut fmt::Formatter<W>) -> fmt::Result {
+        match self.0 {
+            Ok(Totals { sums, verdict }) => {
+                write!(f, "{} {} {} ", sums.hours, sums.counted, sums.missing)?;
+                write!(
+                    f,
+                    "{} {} {} {} ",
+                    sums.lower, sums.upper, sums.least, sums.most
+                )?;
+                f.write_str(word_of(verdict))
+            }
+            Err(refusal) => write!(f, "{}", Refused(refusal)),
+        }
     }
 }
 
 // The account tried, the answer with the account that would follow, the reading that would follow.
-pub(crate) fn print_trial(rt: &impl Print, made: Trial) {
-    let tried = made.tried;
-    let answer = made.answer;
-    let reading = made.reading;
-    print_account(rt, tried);
-    print(rt, b": ");
-    print_fed(rt, answer);
-    print(rt, b": ");
-    print_reading(rt, reading);
-    print(rt, b"\n");
+pub(crate) fn print_trial(rt: &impl Print, made: Trial) -> io::Result<()> {
+    let tried = Fields(made.tried);
+    let answered = Answered(made.answer);
+    let reading = Reading(made.reading);
+    println!(rt; "{tried}: {answered}: {reading}")
 }

@@ -1,19 +1,15 @@
 -- Two accounts are the same exactly where they are equal: each field is a number of the list, and the numbers determine the fields.
 use Prim.Native.Nat.{ℕ}
 use mathlib.Core.Path.{◌≡◌, refl, sym, ap, ◌∙◌}
-use mathlib.Core.Bool.{Bool, true, false, cond, ◌&&◌, and-true, and-false, and_assoc}
+use mathlib.Core.Bool.{true, cond}
 use mathlib.Core.List.{List, [], ◌∷◌}
 use mathlib.Core.Logic.{◌↔◌}
 use borrow.Author.Tests.{eqb-true, eq-eqb}
 use lib.Dec.{eqb}
 use lib.IntN.{ℤ, pos, negsuc}
 use lib.ListN.{get_or, drop}
-use mir.Syntax.{w16}
-use mir.Val.{SFits, to_z, of_z}
-use Rattle.records.specs.Numbers.{same_numbers}
 use Rattle.records.proofs.AnswerLaws.{and_both}
 use Rattle.records.proofs.NumberLaws.{numbers-equal, numbers-same}
-use Rattle.records.proofs.SignedLaws.{plain}
 use Rattle.account_spec.specs.declared.Phase.{Phase}
 use Rattle.account_spec.specs.declared.Phase.TheVariants.{Fresh, Open, Closed}
 use Rattle.account_spec.specs.declared.HourKind.{HourKind}
@@ -103,34 +99,3 @@ account-same a =
 
 pub same-is : (a b : Account) → (is_same a b ≡ true) ↔ (a ≡ b)
 same-is a b = (account-equal a b, λ e. rw e (account-same b))
-
--- ---- numbers compared one after another, from the left
-
-abbrev same_after : Bool → List ℕ → List ℕ → Bool
-same_after t [] [] = t
-same_after t [] (n ∷ ns) = false
-same_after t (m ∷ ms) [] = false
-same_after t (m ∷ ms) (n ∷ ns) = same_after (t && eqb m n) ms ns
-
-pub same-after-is : (t : Bool) (ms ns : List ℕ) → same_after t ms ns ≡ (t && same_numbers ms ns)
-same-after-is t [] [] = sym (and-true t)
-same-after-is t [] (n ∷ ns) = sym (and-false t)
-same-after-is t (m ∷ ms) [] = sym (and-false t)
-same-after-is t (m ∷ ms) (n ∷ ns) = same-after-is (t && eqb m n) ms ns ∙ and_assoc t (eqb m n) (same_numbers ms ns)
-
--- ---- two signed numbers as the machine compares them
-
-either_way : (s t : Bool) → (s ≡ true → t ≡ true) → (t ≡ true → s ≡ true) → s ≡ t
-either_way true t p q = sym (p refl)
-either_way false true p q = q refl
-either_way false false p q = refl
-
-pub signed_same : (y z : ℤ) → SFits w16 y → SFits w16 z → eqb (of_z w16 y) (of_z w16 z) ≡ same_numbers (signed_numbers y) (signed_numbers z)
-signed_same y z f g =
-    either_way (eqb (of_z w16 y) (of_z w16 z)) _
-    (λ e.
-    let same : y ≡ z = sym (plain y f) ∙ ap (to_z w16) (eqb-true (of_z w16 y) (of_z w16 z) e) ∙ plain z g in
-    rw same (numbers-same (signed_numbers z)))
-    (λ e.
-    let same : y ≡ z = unique signed_at signed_numbers signed_back (numbers-equal (signed_numbers y) (signed_numbers z) e) in
-    eq-eqb (of_z w16 y) (of_z w16 z) (ap (of_z w16) same))

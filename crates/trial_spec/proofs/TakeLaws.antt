@@ -1,13 +1,13 @@
 -- What taking a trial answers, by what each test says.
+use Rattle.std.specs.Prelude.{Ok, Err}
 use Prim.Native.Nat.{ℕ}
 use mathlib.Core.Path.{◌≡◌, refl, sym, ap, ◌∙◌}
 use mathlib.Core.Bool.{Bool, true, false, not}
 use Rattle.records.specs.declared.Refusal.{Refusal}
 use Rattle.records.specs.Answers.{Outcome, accepted, refused, row, row_of}
 use Rattle.account_spec.specs.declared.Account.{Account}
-use Rattle.account_spec.specs.declared.Fed.{Fed}
 use Rattle.account_spec.specs.Account.{impossible}
-use Rattle.account_spec.specs.Rules.{left_of, fed_as}
+use Rattle.account_spec.specs.Rules.{left_of, fed_as, Fed}
 use Rattle.trial_spec.specs.declared.Trial.{Trial}
 use Rattle.trial_spec.specs.Same.{is_same}
 use Rattle.trial_spec.specs.Taking.{answer_in, take_with, take_of, TakesTrial}
@@ -39,32 +39,32 @@ module _ (a tried : Account) (answer : Outcome Account) where
 -- ---- the replies
 
 module _ (a : Account) (t : Trial) where
-  replies-refused : (r : Refusal) → take_of a t ≡ refused (row_of r) → TakesTrial a t (Fed.Refused r a)
+  replies-refused : (r : Refusal) → take_of a t ≡ refused (row_of r) → TakesTrial a t (Err (r, a))
   replies-refused r e = record { answers = sym e; leaves = ap (left_of a) (sym e) }
 
-  pub takes-impossible : impossible a ≡ true → TakesTrial a t (Fed.Refused Refusal.Account a)
+  pub takes-impossible : impossible a ≡ true → TakesTrial a t (Err (Refusal.Account, a))
   unfolding take_of
   takes-impossible e = replies-refused Refusal.Account (take-impossible a t.tried (fed_as t.answer) e)
 
   module _ (possible : impossible a ≡ false) where
-    pub takes-other : is_same a t.tried ≡ false → TakesTrial a t (Fed.Refused Refusal.Tried a)
+    pub takes-other : is_same a t.tried ≡ false → TakesTrial a t (Err (Refusal.Tried, a))
     unfolding take_of
     takes-other e = replies-refused Refusal.Tried (take-other a t.tried (fed_as t.answer) possible e)
 
     module _ (same : is_same a t.tried ≡ true) where
-      pub takes-refused : (r : Refusal) (b : Account) → t.answer ≡ Fed.Refused r b → TakesTrial a t (Fed.Refused r a)
+      pub takes-refused : (r : Refusal) (b : Account) → t.answer ≡ Err (r, b) → TakesTrial a t (Err (r, a))
       unfolding take_of
       takes-refused r b e = replies-refused r (take-carried a t.tried (fed_as t.answer) possible same ∙ ap (λ (f : Fed). answer_in (fed_as f)) e)
 
-      module _ (b : Account) (accepts : t.answer ≡ Fed.Accepted b) where
+      module _ (b : Account) (accepts : t.answer ≡ Ok b) where
         next-is : take_of a t ≡ row 13 (impossible b) (accepted b)
         unfolding take_of
         next-is = take-carried a t.tried (fed_as t.answer) possible same ∙ ap (λ (f : Fed). answer_in (fed_as f)) accepts
 
-        pub takes-next-impossible : impossible b ≡ true → TakesTrial a t (Fed.Refused Refusal.Account a)
+        pub takes-next-impossible : impossible b ≡ true → TakesTrial a t (Err (Refusal.Account, a))
         takes-next-impossible e = replies-refused Refusal.Account (next-is ∙ row-true 13 (impossible b) (accepted b) e)
 
-        pub takes-next : impossible b ≡ false → TakesTrial a t (Fed.Accepted b)
+        pub takes-next : impossible b ≡ false → TakesTrial a t (Ok b)
         takes-next e =
             let is = next-is ∙ row-false 13 (impossible b) (accepted b) e in
             record { answers = sym is; leaves = ap (left_of a) (sym is) }

@@ -4,13 +4,12 @@ use mathlib.Core.Path.{◌≡◌, refl, sym, ap, subst, ◌∙◌}
 use mathlib.Core.Bool.{Bool, true, false, not}
 use mathlib.Core.List.{List}
 use borrow.Author.Tests.{not-false}
-use Rattle.records.specs.Answers.{Outcome, accepted, refused, row}
+use Rattle.records.specs.Answers.{Outcome, accepted, refused, row, outcome_of}
 use Rattle.records.proofs.AnswerLaws.{row-passed, accepted-same, refused-not-accepted}
 use Rattle.account_spec.specs.declared.Account.{Account}
-use Rattle.account_spec.specs.declared.Fed.{Fed}
 use Rattle.account_spec.specs.Account.{impossible}
-use Rattle.account_spec.specs.Rules.{feed_of, left_of, fed_as, left_by, Answers, Feeds}
-use Rattle.account_spec.specs.Reading.{read_of, reading_as, Reads}
+use Rattle.account_spec.specs.Rules.{feed_of, left_of, fed_as, left_by, Answers, Feeds, Fed}
+use Rattle.account_spec.specs.Reading.{read_of, Reads}
 use Rattle.trial_spec.specs.declared.Trial.{Trial}
 use Rattle.trial_spec.specs.Same.{is_same}
 use Rattle.trial_spec.specs.Trial.{Tries}
@@ -97,7 +96,7 @@ module _ (a : Account) (l : List ℕ) (t : Trial) (made : Tries a l t) where
       let same = ap (left_of a) e in
       (made.answer.leaves ∙ same, subst (λ (x : Account). Reads x t.reading) same made.reading)
 
-  impossible-tried : impossible a ≡ true → (fed_as t.answer ≡ refused (13, 0)) × (reading_as t.reading ≡ refused (13, 0))
+  impossible-tried : impossible a ≡ true → (fed_as t.answer ≡ refused (13, 0)) × (outcome_of t.reading ≡ refused (13, 0))
   unfolding read_of
   impossible-tried e = (made.answer.answers ∙ feed-impossible a l e, made.reading.answers ∙ rw (feed-impossible a l e, e) refl)
 

@@ -1,11 +1,10 @@
 -- What holds of every trial that is taken (W-206).
 use Rattle.std.specs.Prelude.{ℕ, ◌≡◌, true, false, List, ◌↔◌}
-use Rattle.records.specs.Answers.{accepted, refused, row}
+use Rattle.records.specs.Answers.{accepted, refused, row, outcome_of}
 use Rattle.account_spec.specs.declared.Account.{Account}
-use Rattle.account_spec.specs.declared.Fed.{Fed}
 use Rattle.account_spec.specs.Account.{impossible}
-use Rattle.account_spec.specs.Rules.{feed_of, fed_as, left_by, Feeds}
-use Rattle.account_spec.specs.Reading.{reading_as, Reads}
+use Rattle.account_spec.specs.Rules.{feed_of, fed_as, left_by, Feeds, Fed}
+use Rattle.account_spec.specs.Reading.{Reads}
 use Rattle.trial_spec.specs.declared.Trial.{Trial}
 use Rattle.trial_spec.specs.Same.{is_same}
 use Rattle.trial_spec.specs.Trial.{Tries}
@@ -28,4 +27,4 @@ pub record TrialPromise : Type 0 where
   pub refused_tried : (a : Account) (l : List ℕ) (t : Trial) → Tries a l t → (w : ℕ × ℕ) → feed_of a l ≡ refused w → (left_by t.answer ≡ a) × Reads a t.reading
   -- the trial of an impossible account answers row 13, and so does its reading
   pub impossible_tried : (a : Account) (l : List ℕ) (t : Trial) → Tries a l t → impossible a ≡ true
-      → (fed_as t.answer ≡ refused (13, 0)) × (reading_as t.reading ≡ refused (13, 0))
+      → (fed_as t.answer ≡ refused (13, 0)) × (outcome_of t.reading ≡ refused (13, 0))

@@ -2,9 +2,8 @@
 use Rattle.std.specs.Prelude.{not}
 use Rattle.records.specs.Answers.{Outcome, accepted, refused, row}
 use Rattle.account_spec.specs.declared.Account.{Account}
-use Rattle.account_spec.specs.declared.Fed.{Fed}
 use Rattle.account_spec.specs.Account.{impossible}
-use Rattle.account_spec.specs.Rules.{fed_as, Answers}
+use Rattle.account_spec.specs.Rules.{fed_as, Answers, Fed}
 use Rattle.trial_spec.specs.declared.Trial.{Trial}
 use Rattle.trial_spec.specs.Same.{is_same}
 

@@ -1,8 +1,7 @@
 -- What reading a text answers.
-use Rattle.std.specs.Prelude.{ℕ}
-use Rattle.words.specs.declared.input.Got.{Got}
+use Rattle.std.specs.Prelude.{ℕ, Option, Some, None}
 
 -- the bytes that are there: none where a read failed
-abbrev pub bytes_in : Got → ℕ
-bytes_in (Got.Bytes n) = n
-bytes_in Got.Failed = 0
+abbrev pub bytes_in : Option ℕ → ℕ
+bytes_in (Some n) = n
+bytes_in None = 0

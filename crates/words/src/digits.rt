@@ -1,50 +1,29 @@
 // The number that a word says.
-ghost use Rattle.std.specs.Prelude.{◌≤◌, min, ◌≡◌};
-ghost use Rattle.words.specs.Number.{greatest, number_of, said_as};
+ghost use Rattle.std.specs.Prelude.{◌≡◌};
+ghost use Rattle.words.specs.Number.{number_of};
 
 use crate::input::{word_at, word_buffer};
 use std::env::Env;
 
-// A number, the greatest of its type for any that is greater; or the word is no number.
-#[derive(Clone, Copy)]
-pub enum Said {
-    Number(u16),
-    None,
-}
-
-fn least(n: u32) -> u32
-    ensures is { result ≡ min n greatest }
-    ensures small { result ≤ greatest }
-{
-    if n < 65535 { n } else { 65535 }
-}
-
 // What a word of decimal digits says.
-pub fn number(word: &[u8]) -> Said
-    ensures { said_as result ≡ number_of word.now }
+pub fn number(word: &[u8]) -> Option<u16>
+    ensures { result ≡ number_of word.now }
 {
-    if word.len() == 0 {
-        return Said::None;
+    if word.is_empty() {
+        return None;
     }
-    let mut held: u32 = 0;
-    let mut i = 0;
-    while i < word.len() {
-        let c = word[i];
-        if c < b'0' {
-            return Said::None;
+    let mut held: u16 = 0;
+    for c in word {
+        if !c.is_ascii_digit() {
+            return None;
         }
-        if b'9' < c {
-            return Said::None;
-        }
-        held = least(held * 10 + ((c - b'0') as u32));
-        i += 1;
+        held = held.saturating_mul(10).saturating_add(u16::from(*c - b'0'));
     }
-    Said::Number(held as u16)
+    Some(held)
 }
 
 // What the program's word at a place says, its own name being at place 0.
-pub fn number_at(rt: &impl Env, place: usize) -> Said {
-    let mut word = word_buffer();
-    let n = word_at(rt, place, &mut word);
-    number(&word[..n])
+pub fn number_at(rt: &impl Env, place: usize) -> Option<u16> {
+    let mut buf = word_buffer();
+    number(word_at(rt, place, &mut buf))
 }

@@ -5,6 +5,6 @@ mod digits;
 mod input;
 mod output;
 
-pub use digits::{Said, number, number_at};
-pub use input::{Got, fill, read_named, text_buffer, word_at, word_buffer, word_count};
-pub use output::{front, print, print_written};
+pub use digits::{number, number_at};
+pub use input::{fill, read_named, text_buffer, word_at, word_buffer, word_count};
+pub use output::{front, print_written};

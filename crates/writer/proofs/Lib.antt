@@ -3,7 +3,6 @@ pub mod OzoneLaws
 pub mod FieldLaws
 pub mod WidthLaws
 pub mod LineLaws
-pub mod PutLaws
 pub mod WriterLaws
 pub mod RowLaws
 pub mod RoundTrip

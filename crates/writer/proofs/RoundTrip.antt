@@ -1,4 +1,6 @@
 -- The round trip: a record that the writer accepts is read back as itself, a line that is read is written back, and the writer answers no other rows.
+use Rattle.trees.specs.declared.Figures.{Figures}
+use Rattle.std.specs.Prelude.{Option, Some, None}
 use Prim.Native.Nat.{ℕ, ◌≤◌}
 use mathlib.Core.Path.{◌≡◌, refl, sym, ap, subst, ◌∙◌}
 use mathlib.Core.List.{List, ◌++◌}
@@ -9,7 +11,6 @@ use lib.Seq.{take_at}
 use Rattle.measured.specs.Parameters.{no_parameters, parameters_of}
 use Rattle.measured.specs.Warmth.{warmth_of}
 use Rattle.measured.specs.Figures.{figures_in}
-use Rattle.trees.specs.declared.Choice.{Choice}
 use Rattle.trees.specs.declared.Measure.{Measure}
 use Rattle.records.specs.Answers.{accepted}
 use Rattle.frames.specs.Digits.{byte_at}
@@ -52,10 +53,10 @@ hour-back : (h : Hour) (m : Measure) → m ≡ measure_in h.soil → HourIn h
 unfolding hour_of
 hour-back h m e i = rw (e, ozone-back h.ozone i.ozone, signed-complement h.temperature i.temperature, soil-back h.soil)
 
-hour-measured : (choice : Choice) (h : Hour) → HasMeasure choice (measure_in h.soil) → HourIn h
+hour-measured : (choice : Option Figures) (h : Hour) → HasMeasure choice (measure_in h.soil) → HourIn h
     → on_tree choice (λ f. sound_of (Record.Hour (hour_of (raw_hour_of h.air (hour_numbers h)) f.measure))) ≡ sound_of (Record.Hour h)
-hour-measured (Choice.Tree f) h m i = rw (hour-back h f.measure m i)
-hour-measured Choice.Unknown h m i = absurd m
+hour-measured (Some f) h m i = rw (hour-back h f.measure m i)
+hour-measured None h m i = absurd m
 
 hour-frame : (h : Hour) (a : Air) → h.air ≡ a → frame_of (air_kind h.air) (hour_numbers h) ≡ Raw.Hour (raw_hour_of h.air (hour_numbers h))
 unfolding frame_of

@@ -1,8 +1,8 @@
 -- Written and read back is the same record, read and written back the same line; and the rows that the writer can answer (document 01, "Frames").
-use Rattle.std.specs.Prelude.{ℕ, ◌<◌, ◌≤◌, true, ◌≡◌, List, [], ◌∷◌, ◌++◌, length, take, drop}
+use Rattle.std.specs.Prelude.{ℕ, ◌<◌, ◌≤◌, true, ◌≡◌, List, [], ◌∷◌, ◌++◌, length, take, drop, Option, Some, None}
+use Rattle.trees.specs.declared.Figures.{Figures}
 use Rattle.measured.specs.Parameters.{no_parameters}
 use Rattle.measured.specs.Figures.{figures_in}
-use Rattle.trees.specs.declared.Choice.{Choice}
 use Rattle.trees.specs.declared.Measure.{Measure}
 use Rattle.records.specs.Answers.{accepted, refused}
 use Rattle.records.specs.Buffer.{buffer_after}
@@ -28,9 +28,9 @@ measure_in (Suction n) = Measure.Suction
 measure_in (Water n) = Measure.Water
 
 -- a tree that has this soil measure
-abbrev pub HasMeasure : Choice → Measure → Type 0
-HasMeasure (Choice.Tree f) m = f.measure ≡ m
-HasMeasure Choice.Unknown m = ⊥
+abbrev pub HasMeasure : Option Figures → Measure → Type 0
+HasMeasure (Some f) m = f.measure ≡ m
+HasMeasure None m = ⊥
 
 -- a tree of the hour's soil measure; for any other record any number will do
 abbrev pub OfMeasure : ℕ → Record → Type 0

@@ -6,6 +6,7 @@ ghost use Rattle.frames.specs.Kinds.{one, two, size_of, span};
 
 use frames::widths::{BYTE, NUMBER};
 
+#[tactic(auto, unfolding(frames::specs::Digits::digit_of))]
 fn digit(n: u8) -> u8
     requires { n < 16 }
     ensures { result ≡ digit_of n }

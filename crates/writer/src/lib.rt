@@ -8,16 +8,14 @@ ghost use Rattle.records.specs.Buffer.{Prints};
 ghost use Rattle.writer.specs.Writer.{text_of};
 ghost use Rattle.writer.specs.RoundTrip.{RoundTrip};
 
-use frames::{Checked, Record, Written};
+use frames::{Record, Refusal};
 
 // A record's line into a lent buffer, without a line feed.
-pub fn write_frame(record: Record, buf: &mut [u8]) -> Written
+#[tactic(auto, using(crate::proofs::RoundTrip::round_trip), unfolding(crate::specs::Writer::text_of))]
+pub fn write_frame(record: Record, buf: &mut [u8]) -> Result<usize, Refusal>
     ensures prints { Prints (text_of «record») buf.old result buf.new }
     ensures round_trip { RoundTrip }
 {
-    let answer = frames::check(record);
-    if let Checked::Refused(refusal) = answer {
-        return Written::Refused(refusal);
-    }
+    frames::check(record)?;
     writing::put(record, buf)
 }

@@ -13,18 +13,19 @@ use crate::digits::{put_byte, put_four, put_number, put_two};
 use frames::widths::{
     FIELDS, HeaderLine, HourLine, KIND, NUMBER, ParameterLine, PressureLine, WarmthLine,
 };
-use frames::{Air, Header, Hour, Parameters, Record, Refusal, Warmth, Written};
+use frames::{Air, Header, Hour, Parameters, Record, Refusal, Warmth};
 
-fn put_header(h: Header, buf: &mut [u8]) -> Written
+#[tactic(auto, unfolding(frames::specs::Layout::frame_line))]
+fn put_header(h: Header, buf: &mut [u8]) -> Result<usize, Refusal>
     ensures { Prints (accepted (frame_line (Record.Header h))) buf.old result buf.new }
 {
     if buf.len() < HeaderLine::DIGITS {
-        return Written::Refused(Refusal::Buffer);
+        return Err(Refusal::Buffer);
     }
     put_byte(buf, KIND, 1);
     put_byte(buf, HeaderLine::TREE, h.tree);
     put_four(buf, HeaderLine::DAYS, h.days, h.first, h.last, h.level);
-    Written::Bytes(HeaderLine::DIGITS)
+    Ok(HeaderLine::DIGITS)
 }
 
 // What a line of any kind of hour begins with: the kind, and the nine numbers of kind 02.
@@ -33,12 +34,9 @@ fn put_hour_fields(kind: u8, h: Hour, buf: &mut [u8])
     ensures { buf.new ≡ sets buf.old 0 (digits_of (one ∷ widths_of 2) (kind ∷ hour_numbers h)) }
 {
     let t = frames::complement(h.temperature);
-    let reading = h.ozone;
-    let ozone = frames::ozone_number(reading);
-    let air = h.air;
-    let vapour = frames::vapour_number(air);
-    let soil = h.soil;
-    let n = frames::soil_number(soil);
+    let ozone = frames::ozone_number(h.ozone);
+    let vapour = frames::vapour_number(h.air);
+    let n = frames::soil_number(h.soil);
     put_byte(buf, KIND, kind);
     put_number(buf, HourLine::DAY, h.day);
     put_byte(buf, HourLine::HOUR, h.hour);
@@ -48,38 +46,34 @@ fn put_hour_fields(kind: u8, h: Hour, buf: &mut [u8])
 }
 
 // An hour of a kind with those numbers only.
-fn put_hour_line(kind: u8, h: Hour, buf: &mut [u8]) -> Written
+fn put_hour_line(kind: u8, h: Hour, buf: &mut [u8]) -> Result<usize, Refusal>
     ensures { Prints (accepted (digits_of (one ∷ widths_of 2) (kind ∷ hour_numbers h))) buf.old result buf.new }
 {
     if buf.len() < HourLine::DIGITS {
-        return Written::Refused(Refusal::Buffer);
+        return Err(Refusal::Buffer);
     }
     put_hour_fields(kind, h, buf);
-    Written::Bytes(HourLine::DIGITS)
+    Ok(HourLine::DIGITS)
 }
 
 // An hour of kind 04, its pressure given.
-fn put_pressure_line(h: Hour, pressure: u16, buf: &mut [u8]) -> Written
+fn put_pressure_line(h: Hour, pressure: u16, buf: &mut [u8]) -> Result<usize, Refusal>
     ensures { Prints (accepted (digits_of (one ∷ widths_of 2) (4 ∷ hour_numbers h) ++ number pressure [])) buf.old result buf.new }
 {
     if buf.len() < PressureLine::DIGITS {
-        return Written::Refused(Refusal::Buffer);
+        return Err(Refusal::Buffer);
     }
     put_hour_fields(4, h, buf);
     put_number(buf, PressureLine::PRESSURE, pressure);
-    Written::Bytes(PressureLine::DIGITS)
+    Ok(PressureLine::DIGITS)
 }
 
-fn put_hour(h: Hour, buf: &mut [u8]) -> Written
+fn put_hour(h: Hour, buf: &mut [u8]) -> Result<usize, Refusal>
     ensures { Prints (accepted (frame_line (Record.Hour h))) buf.old result buf.new }
 {
-    let air = h.air;
-    match air {
+    match h.air {
         Air::Deficit(_) => put_hour_line(2, h, buf),
-        Air::Pressure {
-            deficit: _,
-            pressure: n,
-        } => put_pressure_line(h, n, buf),
+        Air::Pressure { pressure, .. } => put_pressure_line(h, pressure, buf),
         Air::Humidity(_) => put_hour_line(5, h, buf),
     }
 }
@@ -87,23 +81,24 @@ fn put_hour(h: Hour, buf: &mut [u8]) -> Written
 const ONE_NUMBER: usize = FIELDS + NUMBER;
 
 // A line of a kind with one number: 03 and 06.
-fn put_number_line(kind: u8, n: u16, buf: &mut [u8]) -> Written
+fn put_number_line(kind: u8, n: u16, buf: &mut [u8]) -> Result<usize, Refusal>
     ensures { Prints (accepted (digits_of (one ∷ two ∷ []) (kind ∷ n ∷ []))) buf.old result buf.new }
 {
     if buf.len() < ONE_NUMBER {
-        return Written::Refused(Refusal::Buffer);
+        return Err(Refusal::Buffer);
     }
     put_byte(buf, KIND, kind);
     put_number(buf, FIELDS, n);
-    Written::Bytes(ONE_NUMBER)
+    Ok(ONE_NUMBER)
 }
 
 // Kind 07.
-fn put_parameters(p: Parameters, buf: &mut [u8]) -> Written
+#[tactic(auto, unfolding(frames::specs::Layout::frame_line))]
+fn put_parameters(p: Parameters, buf: &mut [u8]) -> Result<usize, Refusal>
     ensures { Prints (accepted (frame_line (Record.Parameters p))) buf.old result buf.new }
 {
     if buf.len() < ParameterLine::DIGITS {
-        return Written::Refused(Refusal::Buffer);
+        return Err(Refusal::Buffer);
     }
     put_byte(buf, KIND, 7);
     put_four(buf, ParameterLine::GMAX, p.gmax, p.fmin, p.lighta, p.tmin);
@@ -117,24 +112,26 @@ fn put_parameters(p: Parameters, buf: &mut [u8]) -> Written
         p.a,
     );
     put_four(buf, ParameterLine::E, p.e, p.f1, p.f4, p.y);
-    Written::Bytes(ParameterLine::DIGITS)
+    Ok(ParameterLine::DIGITS)
 }
 
 // Kind 08.
-fn put_warmth(w: Warmth, buf: &mut [u8]) -> Written
+#[tactic(auto, unfolding(frames::specs::Layout::frame_line))]
+fn put_warmth(w: Warmth, buf: &mut [u8]) -> Result<usize, Refusal>
     ensures { Prints (accepted (frame_line (Record.Warmth w))) buf.old result buf.new }
 {
     if buf.len() < WarmthLine::DIGITS {
-        return Written::Refused(Refusal::Buffer);
+        return Err(Refusal::Buffer);
     }
     put_byte(buf, KIND, 8);
     put_two(buf, WarmthLine::RISE, w.rise, w.fall);
     put_number(buf, WarmthLine::END, w.end);
-    Written::Bytes(WarmthLine::DIGITS)
+    Ok(WarmthLine::DIGITS)
 }
 
 // A record's line, whatever its kind.
-pub(crate) fn put(record: Record, buf: &mut [u8]) -> Written
+#[tactic(auto, unfolding(frames::specs::Layout::frame_line))]
+pub(crate) fn put(record: Record, buf: &mut [u8]) -> Result<usize, Refusal>
     ensures { Prints (accepted (frame_line «record»)) buf.old result buf.new }
 {
     match record {

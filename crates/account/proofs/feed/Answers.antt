@@ -2,8 +2,8 @@
 use Rattle.account_spec.proofs.RuleLaws.{frame-feeds, unread-feeds}
 use Rattle.account.proofs.feed.Goals as goal
 
-pub returns-in-Frame : goal.returns-in-Frame
-returns-in-Frame c = frame-feeds _ _ _ c.parse-parsed.ensures _ _ c.in-Frame.is c.feed_frame.ensures
+pub returns-in-Ok : goal.returns-in-Ok
+returns-in-Ok c = frame-feeds _ _ _ c.parse.ensures _ _ c.in-Ok.is c.feed_frame.ensures
 
-pub returns-in-Refused : goal.returns-in-Refused
-returns-in-Refused c = unread-feeds _ _ _ c.parse-parsed.ensures _ _ c.in-Refused.is c.refused_by.ensures
+pub returns-in-Err : goal.returns-in-Err
+returns-in-Err c = unread-feeds _ _ _ c.parse.ensures _ _ c.in-Err.is c.refused_by.ensures

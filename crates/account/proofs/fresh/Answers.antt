@@ -1,7 +1,9 @@
--- `account::fresh` meets its contract, the promises of a season and of filling its gaps among it.
-use mathlib.Core.Path.{refl}
+-- `account::fresh` keeps the promises of a season and of filling its gaps.
 use Rattle.account.proofs.Cited.{season-cited, filling-cited}
 use Rattle.account.proofs.fresh.Goals as goal
 
-pub returns : goal.returns
-returns c = record { value = rw (c.no_parameters.ensures, c.no_warmth.ensures) refl; season = season-cited; filling = filling-cited }
+pub returns-clause-season : goal.returns-clause-season
+returns-clause-season c = season-cited
+
+pub returns-clause-filling : goal.returns-clause-filling
+returns-clause-filling c = filling-cited

@@ -1,16 +1,23 @@
--- `flux::tree_of` meets its contract: row 24, then the tree's figures or row 5.
-use Rattle.std.proofs.Common.{◌≡◌, false, ◌&&◌, eqb, sym, ◌∙◌}
+-- `flux::tree_of` meets its contract.
+use Rattle.std.specs.Prelude.{ℕ, Option, Some, None}
+use Rattle.std.specs.Option.{ok_or}
+use Rattle.std.proofs.Common.{◌≡◌, false, ◌&&◌, eqb, sym, ap, ◌∙◌}
+use Rattle.trees.specs.declared.Figures.{Figures}
+use Rattle.measured.specs.declared.Parameters.{Parameters}
+use Rattle.measured.specs.Figures.{figures_in}
+use Rattle.records.specs.declared.Refusal.{Refusal}
 use Rattle.records.specs.Parameters.{parameter_out}
+use Rattle.records.specs.Answers.{outcome_of}
+use Rattle.flux_spec.specs.HourDose.{tree_of}
 use Rattle.flux_spec.proofs.HourDoseLaws.{parameters-out-is, tree_is, no-figures-is}
 use Rattle.flux.proofs.tree_of.Goals as goal
+
+chosen : (p : Parameters) (tree : ℕ) → (eqb tree 7 && parameter_out p) ≡ false → (o : Option Figures) → o ≡ figures_in p tree → outcome_of (ok_or o Refusal.Tree) ≡ tree_of p tree
+chosen p tree passed (Some f) e = tree_is _ _ passed _ (sym e)
+chosen p tree passed None e = no-figures-is _ _ passed (sym e)
 
 pub returns-then-measured_out : goal.returns-then-measured_out
 returns-then-measured_out c = parameters-out-is _ _ (sym c.measured_out.ensures ∙ c.if-measured_out.true)
 
-pub returns-in-Tree : goal.returns-in-Tree
-returns-in-Tree c = let passed : let a = c.args in eqb a.tree 7 && parameter_out a.parameters ≡ false = sym c.measured_out.ensures ∙ c.if-measured_out.false in
-    tree_is _ _ (passed) _ (sym c.figures_in-choice.ensures.value ∙ c.in-Tree.is)
-
-pub returns-in-Unknown : goal.returns-in-Unknown
-returns-in-Unknown c = let passed : let a = c.args in eqb a.tree 7 && parameter_out a.parameters ≡ false = sym c.measured_out.ensures ∙ c.if-measured_out.false in
-    no-figures-is _ _ (passed) (sym c.figures_in-choice.ensures.value ∙ c.in-Unknown.is)
+pub returns : goal.returns
+returns c = ap outcome_of c.ok_or.ensures.value ∙ chosen _ _ (sym c.measured_out.ensures ∙ c.if-measured_out.false) _ c.figures_in.ensures.value

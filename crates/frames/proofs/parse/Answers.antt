@@ -20,11 +20,11 @@ line_of-read-requires c = let sized : is_length (length c.args.line.now) ≡ tru
 
 pub returns-then-not-read : goal.returns-then-not-read
 returns-then-not-read c = let sized : is_length (length c.args.line.now) ≡ true = sym c.is_length.ensures ∙ not-false _ c.if-not-is_length.false-raw in
-    digits-out _ (sized) (sym c.line_of-read.ensures.digits ∙ not-true _ c.if-not-read.true)
+    digits-out _ (sized) (sym c.line_of-read.ensures.digits ∙ c.if-not-read.true)
 
 pub returns-then-length_of-line : goal.returns-then-length_of-line
 returns-then-length_of-line c = let sized : is_length (length c.args.line.now) ≡ true = sym c.is_length.ensures ∙ not-false _ c.if-not-is_length.false-raw in
-    let whole : all_digits c.args.line.now ≡ true = sym c.line_of-read.ensures.digits ∙ not-false _ c.if-not-read.false in
+    let whole : all_digits c.args.line.now ≡ true = sym c.line_of-read.ensures.digits ∙ c.if-not-read.false in
     let says : Says c.line_of-read.result.values c.args.line.now = c.line_of-read.ensures.says whole in
     let span : c.length_of.result ≡ length_of (byte_at 0 c.args.line.now) = c.length_of.ensures ∙ ap length_of (c.byte_at.ensures c.args.line.now (says) (length-ge (length c.args.line.now) (sized))) in
     kind-out _ (sized) (whole)
@@ -32,7 +32,7 @@ returns-then-length_of-line c = let sized : is_length (length c.args.line.now) �
 
 pub returns : goal.returns
 returns c = let sized : is_length (length c.args.line.now) ≡ true = sym c.is_length.ensures ∙ not-false _ c.if-not-is_length.false-raw in
-    let whole : all_digits c.args.line.now ≡ true = sym c.line_of-read.ensures.digits ∙ not-false _ c.if-not-read.false in
+    let whole : all_digits c.args.line.now ≡ true = sym c.line_of-read.ensures.digits ∙ c.if-not-read.false in
     let says : Says c.line_of-read.result.values c.args.line.now = c.line_of-read.ensures.says whole in
     let span : c.length_of.result ≡ length_of (byte_at 0 c.args.line.now) = c.length_of.ensures ∙ ap length_of (c.byte_at.ensures c.args.line.now (says) (length-ge (length c.args.line.now) (sized))) in
     let fit : length_of (byte_at 0 (c.args.line.now)) ≡ length (c.args.line.now) = sym (span) ∙ c.if-length_of-line.false in

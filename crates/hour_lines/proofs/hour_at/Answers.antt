@@ -13,42 +13,27 @@ use Rattle.hour_lines.specs.Steps.{HourIn, hour_in}
 use Rattle.hour_lines.proofs.ChunkLaws.{number-says}
 use Rattle.hour_lines.proofs.HourLaws.{hour-is, pressure-says, soil-before, soil-last, air-pressure, air-humidity, air-deficit}
 use Rattle.hour_lines.proofs.hour_at.Goals as goal
-use Rattle.hour_lines.proofs.hour_at.Goals.{in-4, in-5, in_default}
+use Rattle.hour_lines.proofs.hour_at.Goals.{in-4, in-5, in_default, then-kind-eq4, else-kind-eq4}
 
-pub returns-then-kind-eq4 : goal.returns-then-kind-eq4
-returns-then-kind-eq4 c = let air-is : (l : List ℕ) → HourIn c.args.kind l c.args.a.now c.args.b.now c.args.c.now → c.match-kind.air ≡ air_of c.args.kind (fields_at c.args.kind l) = λ l h. let vapour = c.number-vapour.ensures ∙ number-says l 16 _ h.second 8 24 (omega arith) (omega arith) in
-    elim c.match-kind.branch [
+pub returns : goal.returns
+returns c = λ l h.
+    let vapour = c.number-vapour.ensures ∙ number-says l 16 _ h.second 8 24 (omega arith) (omega arith) in
+    let air : c.match-kind.air ≡ air_of c.args.kind (fields_at c.args.kind l) = elim c.match-kind.branch [
       | in-4 w ↦ w.air-is ∙ ap₂ Pressure vapour (c.number-last.ensures ∙ pressure-says _ l _ _ _ h w.in-4.is) ∙ air-pressure _ l w.in-4.is
       | in-5 w ↦ w.air-is ∙ ap Humidity vapour ∙ air-humidity _ l w.in-5.is
       | in_default w ↦ w.air-is ∙ ap Deficit vapour ∙ air-deficit _ l (deficit-left _ h.sized.hour (λ e. omega arith) (λ e. omega arith))
     ] in
-    let but-soil : (l : List ℕ) → HourIn c.args.kind l c.args.a.now c.args.b.now c.args.c.now → (soil : ℕ) → soil ≡ number_at 32 l → record { day = c.number.result; hour = get_or c.args.a.now 6 0; ozone = c.number-2.result; ppfd = c.number-3.result; radiation = c.number-4.result; temperature = c.number-5.result; air = c.match-kind.air; wind = c.number-6.result; soil = soil } ≡ hour_in (c.args.kind) l = λ l h soil said. hour-is l h.sized.hour
+    let soil : c.if-kind-eq4.soil ≡ number_at 32 l = elim c.if-kind-eq4.branch [
+      | then-kind-eq4 w ↦ w.soil-is ∙ w.number-soil.ensures ∙ soil-before _ l _ _ _ h w.if-kind-eq4.true
+      | else-kind-eq4 w ↦ w.soil-is ∙ c.number-last.ensures ∙ soil-last _ l _ _ _ h w.if-kind-eq4.false
+    ] in
+    hour-is l h.sized.hour
     (c.number.ensures ∙ number-says l 0 _ h.first 2 2 (omega arith) (omega arith))
     (h.first.byte 6 (omega arith))
     (c.number-2.ensures ∙ number-says l 0 _ h.first 8 8 (omega arith) (omega arith))
     (c.number-3.ensures ∙ number-says l 0 _ h.first 12 12 (omega arith) (omega arith))
     (c.number-4.ensures ∙ number-says l 16 _ h.second 0 16 (omega arith) (omega arith))
     (c.number-5.ensures ∙ number-says l 16 _ h.second 4 20 (omega arith) (omega arith))
-    (air-is l h)
+    air
     (c.number-6.ensures ∙ number-says l 16 _ h.second 12 28 (omega arith) (omega arith))
-    said in
-    λ l h. but-soil l h _ (c.number-then-kind-eq4.ensures ∙ soil-before _ l _ _ _ h c.if-kind-eq4.true)
-
-pub returns-else-kind-eq4 : goal.returns-else-kind-eq4
-returns-else-kind-eq4 c = let air-is : (l : List ℕ) → HourIn c.args.kind l c.args.a.now c.args.b.now c.args.c.now → c.match-kind.air ≡ air_of c.args.kind (fields_at c.args.kind l) = λ l h. let vapour = c.number-vapour.ensures ∙ number-says l 16 _ h.second 8 24 (omega arith) (omega arith) in
-    elim c.match-kind.branch [
-      | in-4 w ↦ w.air-is ∙ ap₂ Pressure vapour (c.number-last.ensures ∙ pressure-says _ l _ _ _ h w.in-4.is) ∙ air-pressure _ l w.in-4.is
-      | in-5 w ↦ w.air-is ∙ ap Humidity vapour ∙ air-humidity _ l w.in-5.is
-      | in_default w ↦ w.air-is ∙ ap Deficit vapour ∙ air-deficit _ l (deficit-left _ h.sized.hour (λ e. omega arith) (λ e. omega arith))
-    ] in
-    let but-soil : (l : List ℕ) → HourIn c.args.kind l c.args.a.now c.args.b.now c.args.c.now → (soil : ℕ) → soil ≡ number_at 32 l → record { day = c.number.result; hour = get_or c.args.a.now 6 0; ozone = c.number-2.result; ppfd = c.number-3.result; radiation = c.number-4.result; temperature = c.number-5.result; air = c.match-kind.air; wind = c.number-6.result; soil = soil } ≡ hour_in (c.args.kind) l = λ l h soil said. hour-is l h.sized.hour
-    (c.number.ensures ∙ number-says l 0 _ h.first 2 2 (omega arith) (omega arith))
-    (h.first.byte 6 (omega arith))
-    (c.number-2.ensures ∙ number-says l 0 _ h.first 8 8 (omega arith) (omega arith))
-    (c.number-3.ensures ∙ number-says l 0 _ h.first 12 12 (omega arith) (omega arith))
-    (c.number-4.ensures ∙ number-says l 16 _ h.second 0 16 (omega arith) (omega arith))
-    (c.number-5.ensures ∙ number-says l 16 _ h.second 4 20 (omega arith) (omega arith))
-    (air-is l h)
-    (c.number-6.ensures ∙ number-says l 16 _ h.second 12 28 (omega arith) (omega arith))
-    said in
-    λ l h. but-soil l h _ (c.number-last.ensures ∙ soil-last _ l _ _ _ h c.if-kind-eq4.false)
+    soil

@@ -17,10 +17,10 @@ pub returns-then-h-gt-WETTEST : goal.returns-then-h-gt-WETTEST
 returns-then-h-gt-WETTEST c = record { result_value = above-100 _ _ (search rules) (search rules); facts = humidity-facts }
 
 pub returns : goal.returns
-returns c = record { result_value = in-range _ _ (search rules) (search rules) (rw c.saturation-s.ensures); facts = humidity-facts }
+returns c = record { result_value = in-range _ _ (search rules) (search rules) (rw c.entry_at-s.ensures); facts = humidity-facts }
 
 pub overflow_mul-result : goal.overflow_mul-result
-overflow_mul-result c = let h = c.args.h in omega (arith, product_le {dry = 1000 - h} {s = c.saturation-s.result} (omega arith) (omega arith))
+overflow_mul-result c = let h = c.args.h in omega (arith, product_le {dry = 1000 - h} {s = c.entry_at-s.result} (omega arith) (omega arith))
 
 pub overflow_mul-result-2 : goal.overflow_mul-result-2
-overflow_mul-result-2 c = let h = c.args.h in omega (arith, product_le {dry = 1000 - h} {s = c.saturation-s.result + 1} (omega arith) (omega arith))
+overflow_mul-result-2 c = let h = c.args.h in omega (arith, product_le {dry = 1000 - h} {s = c.entry_at-s.result + 1} (omega arith) (omega arith))

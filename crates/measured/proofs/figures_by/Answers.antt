@@ -1,14 +1,26 @@
 -- `measured::figures_by` meets its contract.
-use Rattle.measured.specs.Figures.{measured_figures}
+use Rattle.std.specs.Prelude.{◌≡◌, Option, Some, None}
+use Rattle.std.specs.Option.{unwrap_or}
+use Rattle.std.proofs.Common.{refl, ap, ◌∙◌}
+use Rattle.power.specs.declared.Ratio.{Ratio}
+use Rattle.measured.specs.Figures.{p_in, q_in, powers_in, measured_figures}
 use Rattle.measured.proofs.figures_by.Goals as goal
+
+abbrev no_ratio : Ratio
+no_ratio = record { p = 0; q = 0 }
+
+p-is : (o : Option Ratio) → (unwrap_or o no_ratio).p ≡ p_in o
+p-is (Some r) = refl
+p-is None = refl
+
+q-is : (o : Option Ratio) → (unwrap_or o no_ratio).q ≡ q_in o
+q-is (Some r) = refl
+q-is None = refl
 
 pub returns : goal.returns
 unfolding measured_figures
-returns c = simp (
-  c.q_in.ensures,
-  c.p_in.ensures,
-  c.degrees-3.ensures,
-  c.degrees-2.ensures,
-  c.degrees.ensures,
-  c.requires,
-)
+returns c = let a = c.args in
+    let is = ap (λ (o : Option Ratio). unwrap_or o no_ratio) c.requires in
+    let p : c.unwrap_or-ratio.result.p ≡ p_in (powers_in a.p) = ap (λ (r : Ratio). r.p) (c.unwrap_or-ratio.ensures ∙ is) ∙ p-is (powers_in a.p) in
+    let q : c.unwrap_or-ratio.result.q ≡ q_in (powers_in a.p) = ap (λ (r : Ratio). r.q) (c.unwrap_or-ratio.ensures ∙ is) ∙ q-is (powers_in a.p) in
+    simp (p, q, c.degrees-3.ensures, c.degrees-2.ensures, c.degrees.ensures)

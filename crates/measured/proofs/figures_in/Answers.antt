@@ -1,14 +1,14 @@
 -- `measured::figures_in` meets its contract: 7 is the measured tree, every other number is left to the six.
+use Rattle.std.specs.Prelude.{Some}
 use mathlib.Core.Path.{ap, ◌∙◌}
 use borrow.Author.Tests.{ne_eqb}
-use Rattle.trees.specs.declared.Choice.TheVariants.{Tree}
 use Rattle.measured.specs.Figures.{figures_in}
 use Rattle.measured.proofs.MeasuredLaws.{number-row-is}
 use Rattle.measured.proofs.figures_in.Goals as goal
 
 pub returns-then-tree-eq-MEASURED : goal.returns-then-tree-eq-MEASURED
 unfolding figures_in
-returns-then-tree-eq-MEASURED c = record { value = rw c.if-tree-eq-MEASURED.true (ap Tree c.figures.ensures.value); row = rw c.if-tree-eq-MEASURED.true }
+returns-then-tree-eq-MEASURED c = record { value = rw c.if-tree-eq-MEASURED.true (ap Some c.figures.ensures.value); row = rw c.if-tree-eq-MEASURED.true }
 
 pub returns : goal.returns
 unfolding figures_in

@@ -1,15 +1,13 @@
 -- `part::pod1_feed` meets its contract.
+use borrow.Author.Rules.{rules}
+use Rattle.account_spec.specs.Rules.{feed_of}
 use Rattle.part_spec.specs.Calls.{fed_in}
-use Rattle.part_spec.proofs.CallLaws.{held-room, leaves_none, leaves-next}
+use Rattle.part_spec.proofs.CallLaws.{onward-given, given-room}
 use Rattle.part.proofs.pod1_feed.Goals as goal
 
 pub leave-requires : goal.leave-requires
-leave-requires c = held-room _ _ c.take_up-held.ensures.result_value _ c.in-Account.is
+leave-requires c = given-room _ (λ a. feed_of a c.args.line.now) _ (onward-given _ (λ a. feed_of a c.args.line.now) _ _ (λ a k. search rules) _ c.take_up.ensures.result_value c.and_then-next.ensures)
 
-pub returns-in-Account : goal.returns-in-Account
+pub returns : goal.returns
 unfolding fed_in
-returns-in-Account c = leaves-next _ _ c.take_up-held.ensures.result_value _ _ c.in-Account.is _ c.feed-fed.ensures _ _ c.leave.ensures
-
-pub returns-in-Refused : goal.returns-in-Refused
-unfolding fed_in
-returns-in-Refused c = leaves_none _ _ c.take_up-held.ensures.result_value _ _ _ c.in-Refused.is c.code_of.ensures
+returns c = rw (onward-given _ (λ a. feed_of a c.args.line.now) _ _ (λ a k. search rules) _ c.take_up.ensures.result_value c.and_then-next.ensures) at c.leave.ensures

@@ -3,5 +3,8 @@ use Rattle.part_spec.proofs.CallLaws.{stores}
 use Rattle.part.proofs.Cited.{part-cited}
 use Rattle.part.proofs.pod1_fresh.Goals as goal
 
-pub returns : goal.returns
-returns c = record { stores = stores _ _ _ _ (rw c.fresh-fresh.ensures.value at c.store-written.ensures.prints) (rw c.fresh-fresh.ensures.value at c.store-written.ensures.back) _ c.of_written.ensures; season = part-cited c.fresh-fresh.ensures.season }
+pub returns-clause-season : goal.returns-clause-season
+returns-clause-season c = part-cited c.fresh.ensures.season
+
+pub returns-clause-stores : goal.returns-clause-stores
+returns-clause-stores c = stores _ _ _ _ (rw c.fresh.ensures.value at c.store.ensures.prints) (rw c.fresh.ensures.value at c.store.ensures.back) _ c.of_answer.ensures

@@ -2,11 +2,8 @@
 use native.Mathlib.Omega.{arith}
 use mathlib.Core.Bool.{not}
 use mathlib.Core.Path.{ap, ◌∙◌}
-use Rattle.stored.proofs.HeldLaws.{none-short, none-version, none-phase, none-kind}
+use Rattle.stored.proofs.HeldLaws.{none-version, none-phase, none-kind}
 use Rattle.stored.proofs.holds_none.Goals as goal
-
-pub returns-then-bytes-lt-SIZE : goal.returns-then-bytes-lt-SIZE
-returns-then-bytes-lt-SIZE c = none-short _ (omega arith)
 
 pub returns-then-bytes-ne-VERSION : goal.returns-then-bytes-ne-VERSION
 returns-then-bytes-ne-VERSION c = none-version c.args.bytes.now c.if-bytes-ne-VERSION.true

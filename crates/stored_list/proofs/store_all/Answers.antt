@@ -4,10 +4,7 @@ use Rattle.stored_list.proofs.StoringLaws.{stores-none, stores-step}
 use Rattle.stored_list.proofs.store_all.Goals as goal
 
 pub loop-i-init : goal.loop-i-init
-loop-i-init c = record { within = omega arith; stored = stores-none _ }
+loop-i-init c = stores-none _
 
 pub loop-i-preserved : goal.loop-i-preserved
-loop-i-preserved c = record {
-  within = omega arith;
-  stored = stores-step c.args.accounts c.loop-i.i _ c.args.bytes.now c.loop-i.bytes _ _ (omega arith) (omega arith) c.loop-i.invariant.stored c.store.ensures.prints c.store.ensures.back;
-}
+loop-i-preserved c = stores-step c.args.accounts c.loop-i.i _ c.args.bytes.now c.loop-i.bytes _ _ (omega arith) (omega arith) c.loop-i.invariant c.store.ensures.prints c.store.ensures.back

@@ -3,19 +3,23 @@ use native.Mathlib.Omega.{arith}
 use mathlib.Core.Path.{refl}
 use lib.ListN.{length-set}
 use Rattle.stored_list.proofs.TakingLaws.{taken_start, taken_step, taken_none, taken-end}
+use borrow.Author.Rules.{rules}
+use mathlib.Core.Path.{◌≡◌}
+use Rattle.std.specs.Prelude.{Err}
 use Rattle.stored_list.proofs.take_up_all.Goals as goal
 
 pub loop-i-init : goal.loop-i-init
-loop-i-init c = record { within = omega arith; long = refl; taken = taken_start c.args.count c.args.bytes.now }
+loop-i-init c = record { long = refl; taken = taken_start c.args.count c.args.bytes.now }
 
-pub returns-in_default : goal.returns-in_default
-returns-in_default c = taken_none c.args.bytes.now c.args.count c.loop-i.i (omega arith) c.loop-i.accounts c.loop-i.invariant.taken _ c.take_up-held.ensures.result_value _ c.in_default.is
+pub returns-in_err-accounts : goal.returns-in_err-accounts
+returns-in_err-accounts c =
+    let e : c.from_residual.result ≡ Err c.in_err-accounts.field-0.0 = search rules in
+    rw e (taken_none c.args.bytes.now c.args.count c.loop-i.i (omega arith) c.loop-i.accounts c.loop-i.invariant.taken _ c.take_up.ensures.result_value _ c.in_err-accounts.was)
 
 pub loop-i-preserved : goal.loop-i-preserved
 loop-i-preserved c = record {
-  within = omega arith;
   long = simp length-set c.loop-i.invariant.long;
-  taken = taken_step c.args.bytes.now c.args.count c.loop-i.i (omega arith) c.loop-i.accounts c.loop-i.invariant.taken _ c.take_up-held.ensures.result_value _ c.in-Account.is (omega arith);
+  taken = taken_step c.args.bytes.now c.args.count c.loop-i.i (omega arith) c.loop-i.accounts c.loop-i.invariant.taken _ c.take_up.ensures.result_value _ c.in_ok-accounts.was (omega arith);
 }
 
 pub returns : goal.returns

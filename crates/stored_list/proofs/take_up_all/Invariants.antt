@@ -1,6 +1,6 @@
 -- `stored_list::take_up_all`: the accounts below i are taken up, and the rest stand in the bytes that are left.
 use mathlib.Core.Path.{◌≡◌}
-use Prim.Native.Nat.{◌-◌, ◌*◌, ◌≤◌}
+use Prim.Native.Nat.{◌-◌, ◌*◌}
 use lib.ListN.{length, take, drop}
 use Rattle.stored.specs.Packing.{total_width}
 use Rattle.stored.specs.Layout.{widths}
@@ -10,10 +10,6 @@ use Rattle.stored_list.proofs.take_up_all.Given as goal
 
 abbrev pub invariant-loop-i : goal.invariant-loop-i
 invariant-loop-i l = record {
-  within : l.i ≤ l.count;
   long : length l.accounts ≡ 6;
   taken : accounts_in l.count l.bytes ≡ joined_to (take l.i l.accounts) (accounts_in (l.count - l.i) (drop (total_width widths * l.i) l.bytes));
 }
-
-abbrev pub decreases-loop-i : goal.decreases-loop-i
-decreases-loop-i l = l.count - l.i

@@ -5,4 +5,4 @@ use Rattle.stored_trial.proofs.code_in.Goals as goal
 
 pub returns : goal.returns
 unfolding big_endian_at
-returns c = omega (arith, c.wide.ensures.is, c.wide-2.ensures.is)
+returns c = rw c.from_be_bytes.ensures (omega arith)

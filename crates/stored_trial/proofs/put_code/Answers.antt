@@ -1,14 +1,11 @@
 -- `stored_trial::put_code` meets its contract.
-use Prim.Native.Nat.{ℕ, ◌/◌, ◌%◌}
-use mathlib.Core.Path.{◌≡◌, ap}
+use mathlib.Core.List.{[]}
 use native.Mathlib.Omega.{arith}
-use lib.ListN.{set}
+use lib.Seq.{sets-eq}
 use Rattle.stored.specs.Packing.{big_endian}
+use Rattle.stored_trial.specs.Layout.{code_width}
 use Rattle.stored_trial.proofs.put_code.Goals as goal
 
 pub returns : goal.returns
 unfolding big_endian
-returns c = let b = c.args.buffer.now in
-    let code = c.args.code in
-    let high : code / 256 ≡ code / 256 % 256 = omega arith in
-    ap (λ (n : ℕ). set (set b 0 n) 1 (code % 256)) high
+returns c = rw (c.copy_from_slice.ensures.after, c.to_be_bytes.ensures, sets-eq (big_endian code_width c.args.code []) c.args.buffer.now 0 (omega arith))

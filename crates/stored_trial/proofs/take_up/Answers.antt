@@ -1,12 +1,16 @@
 -- `stored_trial::take_up` meets its contract.
-use Prim.Native.Nat.{◌+◌}
+use Rattle.records.specs.Answers.{outcome_of}
+use Rattle.account_spec.specs.declared.Account.{Account}
+use Rattle.records.specs.declared.Refusal.{Refusal}
+use Rattle.std.specs.Prelude.{Result, Err}
+use borrow.Author.Rules.{rules}
+use mathlib.Core.List.{List}
+use Prim.Native.Nat.{ℕ, ◌+◌, ◌-◌}
 use mathlib.Core.Path.{◌≡◌, sym, ap, ◌∙◌}
 use native.Mathlib.Omega.{arith}
-use lib.ListN.{drop}
-use Rattle.stored.specs.declared.Held.{Held}
-use Rattle.stored.specs.Layout.{take_up_of, held_as}
+use lib.ListN.{length, take, drop}
+use Rattle.stored.specs.Layout.{take_up_of}
 use Rattle.stored_trial.specs.Layout.{code_width, account_width}
-use Rattle.stored_trial.specs.RoundTrip.{TrialStoredBack}
 use Rattle.stored_trial.proofs.PartLaws.{part-is}
 use Rattle.stored_trial.proofs.ContentsLaws.{holds-none, none-in-first, none-in-second, contents-short, holds-in}
 use Rattle.stored_trial.proofs.RoundTripLaws.{trial-stored-back}
@@ -14,20 +18,28 @@ use Rattle.stored_trial.proofs.take_up.Goals as goal
 
 pub returns-then-bytes-lt-SIZE : goal.returns-then-bytes-lt-SIZE
 returns-then-bytes-lt-SIZE c = let l = c.args.bytes.now in
-    record { holds = holds-none _ _ (contents-short l (omega arith)); same = trial-stored-back l (λ i. omega (arith, c.shared_slice_known-1.given i)) }
+    record { holds = holds-none _ _ (contents-short l (omega arith)); same = trial-stored-back l (λ i. omega (arith, c.type_inv.bytes i)) }
 
-pub returns-in_default : goal.returns-in_default
-returns-in_default c = let in-first : (held : Held) → c.take_up-first.result ≡ held → take_up_of (drop code_width c.args.bytes.now) ≡ held_as held = λ held e. ap take_up_of (sym (part-is code_width c.args.bytes.now)) ∙ sym c.take_up-first.ensures.result_value ∙ ap held_as e in
-    let back : TrialStoredBack c.args.bytes.now = trial-stored-back c.args.bytes.now (λ i. omega (arith, c.shared_slice_known-1.given i)) in
-    record { holds = holds-none _ _ (none-in-first _ _ (in-first _ c.in_default.is)); same = back }
+-- what an account's bytes hold, by what taking it up gave
+module _ (l : List ℕ) where
+  abbrev TakesUp : ℕ → Result Account Refusal → Type 0
+  TakesUp at held = outcome_of held ≡ take_up_of (take (length l - at) (drop at l))
 
-pub returns-in_default-second : goal.returns-in_default-second
-returns-in_default-second c = let in-second : (held : Held) → c.take_up-second.result ≡ held → take_up_of (drop (code_width + account_width) c.args.bytes.now) ≡ held_as held = λ held e. ap take_up_of (sym (part-is (code_width + account_width) c.args.bytes.now)) ∙ sym c.take_up-second.ensures.result_value ∙ ap held_as e in
-    let back : TrialStoredBack c.args.bytes.now = trial-stored-back c.args.bytes.now (λ i. omega (arith, c.shared_slice_known-1.given i)) in
-    record { holds = holds-none _ _ (none-in-second _ _ (in-second _ c.in_default-second.is)); same = back }
+  in-part : (at : ℕ) (given held : Result Account Refusal) → TakesUp at given → given ≡ held → take_up_of (drop at l) ≡ outcome_of held
+  in-part at given held is e = ap take_up_of (sym (part-is at l)) ∙ sym is ∙ ap outcome_of e
+
+pub returns-in_err-tried : goal.returns-in_err-tried
+returns-in_err-tried c = let l = c.args.bytes.now in
+    let e : c.from_residual.result ≡ Err c.in_err-tried.field-0.0 = search rules in
+    record { holds = rw e (holds-none _ _ (none-in-first l _ (in-part l code_width _ _ c.take_up.ensures.result_value c.in_err-tried.was))); same = trial-stored-back l (λ i. omega (arith, c.type_inv.bytes i)) }
+
+pub returns-in_err-next : goal.returns-in_err-next
+returns-in_err-next c = let l = c.args.bytes.now in
+    let e : c.from_residual-in_err-next.result ≡ Err c.in_err-next.field-0.0 = search rules in
+    record { holds = rw e (holds-none _ _ (none-in-second l _ (in-part l (code_width + account_width) _ _ c.take_up-2.ensures.result_value c.in_err-next.was))); same = trial-stored-back l (λ i. omega (arith, c.type_inv.bytes i)) }
 
 pub returns : goal.returns
-returns c = let in-first : (held : Held) → c.take_up-first.result ≡ held → take_up_of (drop code_width c.args.bytes.now) ≡ held_as held = λ held e. ap take_up_of (sym (part-is code_width c.args.bytes.now)) ∙ sym c.take_up-first.ensures.result_value ∙ ap held_as e in
-    let in-second : (held : Held) → c.take_up-second.result ≡ held → take_up_of (drop (code_width + account_width) c.args.bytes.now) ≡ held_as held = λ held e. ap take_up_of (sym (part-is (code_width + account_width) c.args.bytes.now)) ∙ sym c.take_up-second.ensures.result_value ∙ ap held_as e in
-    let back : TrialStoredBack c.args.bytes.now = trial-stored-back c.args.bytes.now (λ i. omega (arith, c.shared_slice_known-1.given i)) in
-    record { holds = holds-in _ _ _ _ _ c.code_in-code.ensures (in-first _ c.in-Account.is) (in-second _ c.in-Account-second.is) c.trial_with.ensures; same = back }
+returns c = let l = c.args.bytes.now in
+    let first = in-part l code_width _ _ c.take_up.ensures.result_value c.in_ok-tried.was in
+    let second = in-part l (code_width + account_width) _ _ c.take_up-2.ensures.result_value c.in_ok-next.was in
+    record { holds = holds-in _ _ _ _ _ c.code_in-code.ensures first second c.trial_with.ensures; same = trial-stored-back l (λ i. omega (arith, c.type_inv.bytes i)) }

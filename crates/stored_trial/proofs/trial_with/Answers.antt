@@ -1,12 +1,16 @@
 -- `stored_trial::trial_with` meets its contract.
+use mathlib.Core.Path.{ap, ◌∙◌}
+use Rattle.std.specs.Prelude.{Some}
 use Rattle.stored_trial.proofs.ContentsLaws.{holds-accepted, holds-refused, holds-unknown}
 use Rattle.stored_trial.proofs.trial_with.Goals as goal
 
-pub returns-in-Accepted : goal.returns-in-Accepted
-returns-in-Accepted c = holds-accepted _ _ _ _ c.answer_of-coded.ensures.result_value _ c.in-Accepted.is c.with_reading.ensures.is c.with_reading.ensures.reading
+pub returns-in-Some-Ok : goal.returns-in-Some-Ok
+returns-in-Some-Ok c = let is = c.in-Some-Ok.is ∙ ap Some c.in-Some-Ok.field-0-is in
+    holds-accepted _ _ _ _ c.answer_of.ensures.result_value _ is c.with_reading.ensures.is c.with_reading.ensures.reading
 
-pub returns-in-Refused : goal.returns-in-Refused
-returns-in-Refused c = holds-refused _ _ _ _ c.answer_of-coded.ensures.result_value _ _ c.in-Refused.is c.with_reading-in-Refused.ensures.is c.with_reading-in-Refused.ensures.reading
+pub returns-in-Some-Err : goal.returns-in-Some-Err
+returns-in-Some-Err c = let is = c.in-Some-Err.is ∙ ap Some c.in-Some-Err.field-0-is in
+    holds-refused _ _ _ _ c.answer_of.ensures.result_value _ _ is c.with_reading-in-Some-Err.ensures.is c.with_reading-in-Some-Err.ensures.reading
 
-pub returns-in-Unknown : goal.returns-in-Unknown
-returns-in-Unknown c = holds-unknown _ _ _ _ c.answer_of-coded.ensures.result_value c.in-Unknown.is
+pub returns-in-None : goal.returns-in-None
+returns-in-None c = holds-unknown _ _ _ _ c.answer_of.ensures.result_value c.in-None.is

@@ -8,5 +8,5 @@ pub returns : goal.returns
 returns c = record {
   tried = refl;
   answer = c.feed-answer.ensures;
-  reading = subst (λ (a : Account). Reads a c.read-reading.result) (c.left_by-next.ensures ∙ c.feed-answer.ensures.leaves) c.read-reading.ensures;
+  reading = subst (λ (a : Account). Reads a c.read.result) (c.left_by.ensures ∙ c.feed-answer.ensures.leaves) c.read.ensures;
 }

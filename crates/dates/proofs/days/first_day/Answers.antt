@@ -5,4 +5,4 @@ use Rattle.dates.proofs.days.first_day.Goals as goal
 
 pub returns : goal.returns
 returns c = let a = c.args in
-    omega (arith, c.less-north.ensures, c.less-south.ensures, c.less-start.ensures, first_day-is a.latitude a.height)
+    omega (arith, c.saturating_sub-north.ensures, c.saturating_sub-south.ensures, c.saturating_sub-start.ensures, first_day-is a.latitude a.height)

@@ -9,29 +9,29 @@ pub size_of-requires : goal.size_of-requires
 unfolding of_bits
 size_of-requires c = is_T c.if-x.true
 
-pub returns-in_default : goal.returns-in_default
+pub returns-in_err-n : goal.returns-in_err-n
 unfolding of_bits
-returns-in_default c = plus-broken _ c.if-x.true (sym c.in_default.is ∙ c.size_of.ensures)
+returns-in_err-n c = rw c.from_residual.ensures (plus-broken _ c.if-x.true (sym c.in_err-n.was ∙ c.size_of.ensures))
 
 pub returns-then-x : goal.returns-then-x
 unfolding of_bits
-returns-then-x c = plus-number _ _ c.if-x.true (sym c.in-Of.is ∙ c.size_of.ensures)
+returns-then-x c = plus-number _ _ c.if-x.true (sym c.in_ok-n.was ∙ c.size_of.ensures)
 
 pub size_of-requires-then-x-2 : goal.size_of-requires-then-x-2
 unfolding of_bits
 size_of-requires-then-x-2 c = negated-ge _ c.if-x-2.true
 
-pub returns-in_default-size_of : goal.returns-in_default-size_of
+pub returns-in_err-n-2 : goal.returns-in_err-n-2
 unfolding of_bits
-returns-in_default-size_of c = minus-broken _ (sym c.in_default-size_of.is ∙ c.size_of-then-x-2.ensures)
+returns-in_err-n-2 c = rw c.from_residual-in_err-n-2.ensures (minus-broken _ (sym c.in_err-n-2.was ∙ c.size_of-then-x-2.ensures))
 
 pub overflow_sub-result : goal.overflow_sub-result
 unfolding of_bits
-overflow_sub-result c = size-pos _ _ c.if-x-2.true (sym c.in-Of-size_of.is ∙ c.size_of-then-x-2.ensures)
+overflow_sub-result c = size-pos _ _ c.if-x-2.true (sym c.in_ok-n-2.was ∙ c.size_of-then-x-2.ensures)
 
 pub returns-then-x-2 : goal.returns-then-x-2
 unfolding of_bits
-returns-then-x-2 c = minus_number _ _ c.if-x-2.true (sym c.in-Of-size_of.is ∙ c.size_of-then-x-2.ensures)
+returns-then-x-2 c = minus_number _ _ c.if-x-2.true (sym c.in_ok-n-2.was ∙ c.size_of-then-x-2.ensures)
 
 pub returns : goal.returns
 unfolding of_bits

@@ -11,4 +11,4 @@ root-requires c = tenth-lt _ _ (omega arith) (omega arith)
 
 pub returns : goal.returns
 unfolding root_low
-returns c = rw c.read.ensures at c.root.ensures
+returns c = rw c.max.ensures at c.root.ensures

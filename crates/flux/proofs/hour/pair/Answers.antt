@@ -21,8 +21,8 @@ overflow_add-quotient c = let a = c.args in
 pub returns : goal.returns
 returns c = let a = c.args in
     record {
-      lower = c.less.ensures
+      lower = c.saturating_sub.ensures
           ∙ ap (λ q. q - 3600 * a.y) (c.quotient.ensures ∙ ap (λ r. quotient a.gmax a.c.lower a.s.lower (r + 1) 1) c.root_low-r.ensures);
-      upper = c.less-2.ensures
+      upper = c.saturating_sub-2.ensures
           ∙ ap (λ q. (q + 1) - 3600 * a.y) (c.quotient-2.ensures ∙ ap (λ r. quotient a.gmax a.c.upper a.s.upper r 0) c.root_low-r.ensures);
     }

@@ -1,19 +1,17 @@
--- `flux::hour::tabled` meets its contract: no refusal comes up.
-use Rattle.std.proofs.Common.{◌≡◌, ℕ, sym, refl, ap, ◌∙◌, arith}
-use Rattle.trees.specs.Figures.{owner_of}
-use Rattle.trees.specs.Temperature.{temperature_pair}
-use Rattle.records.specs.Answers.{accepted}
-use Rattle.records.proofs.AnswerLaws.{accepted-same}
-use Rattle.tables.specs.Answers.{factored_as}
+-- `flux::hour::tabled` meets its contract.
+use Rattle.std.specs.Prelude.{Result, Ok, Err}
+use Rattle.std.specs.Result.{result_unwrap_or}
+use Rattle.std.proofs.Common.{◌≡◌, sym, refl, ◌∙◌}
+use Rattle.exact.specs.declared.Bounds.{Bounds}
+use Rattle.records.specs.declared.Refusal.{Refusal}
+use Rattle.records.specs.Answers.{accepted, outcome_of}
+use Rattle.records.proofs.AnswerLaws.{accepted-same, refused-not-accepted}
 use Rattle.tables.proofs.AnswerLaws.{up-to-60}
 use Rattle.flux.proofs.hour.tabled.Goals as goal
 
-pub returns-in_default : goal.returns-in_default
-returns-in_default c = let answer : factored_as c.f_temp.result ≡ accepted (temperature_pair (owner_of c.args.curve) c.args.t) = c.f_temp.ensures.result_value ∙ sym (up-to-60 _ _ c.requires.highest refl) in
-    let e = sym (ap factored_as c.in_default.is) ∙ answer in
-    let z : ◌≡◌ {A = ℕ} 0 1 = cc in
-    absurd (omega arith)
+accepted-or : (r : Result Bounds Refusal) (other pair : Bounds) → outcome_of r ≡ accepted pair → result_unwrap_or r other ≡ pair
+accepted-or (Ok p) other pair e = accepted-same e
+accepted-or (Err w) other pair e = refused-not-accepted e
 
 pub returns : goal.returns
-returns c = let answer : factored_as c.f_temp.result ≡ accepted (temperature_pair (owner_of c.args.curve) c.args.t) = c.f_temp.ensures.result_value ∙ sym (up-to-60 _ _ c.requires.highest refl) in
-    accepted-same (sym (ap factored_as c.in-Pair.is) ∙ answer)
+returns c = c.unwrap_or.ensures ∙ accepted-or _ _ _ (c.f_temp.ensures.result_value ∙ sym (up-to-60 _ _ c.requires.highest refl))

@@ -8,15 +8,11 @@ pub overflow_mul-lighta : goal.overflow_mul-lighta
 overflow_mul-lighta c = omega (arith, mul-le-mul c.requires.steep c.requires.bright)
 
 pub decay-e-requires : goal.decay-e-requires
-decay-e-requires c = record { small = omega (arith, mul-le-mul c.requires.steep c.requires.bright); ones = c.requires.ones; hundreds = c.requires.hundreds; myriads = c.requires.myriads }
+decay-e-requires c = omega (arith, mul-le-mul c.requires.steep c.requires.bright)
 
 pub overflow_sub-upper : goal.overflow_sub-upper
 overflow_sub-upper c = let a = c.args in omega (arith, decay_low-le (a.lighta * a.ppfd))
 
-pub returns-then-upper-gt-SLACK : goal.returns-then-upper-gt-SLACK
+pub returns : goal.returns
 unfolding light_low_of light_up_of
-returns-then-upper-gt-SLACK c = record { lower = omega arith; upper = omega arith }
-
-pub returns-else-upper-gt-SLACK : goal.returns-else-upper-gt-SLACK
-unfolding light_low_of light_up_of
-returns-else-upper-gt-SLACK c = record { lower = omega arith; upper = omega arith }
+returns c = record { lower = omega arith; upper = omega arith }

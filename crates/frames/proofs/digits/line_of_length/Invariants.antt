@@ -1,14 +1,10 @@
 -- `frames::digits::line_of_length` meets its contract: what is read and what is left of the line have the answer of the whole.
-use Prim.Native.Nat.{◌≤◌, ◌-◌}
 use mathlib.Core.Path.{◌≡◌}
 use mathlib.Core.Bool.{◌&&◌}
-use lib.ListN.{length, drop}
+use lib.ListN.{drop}
 use Rattle.frames.specs.Digits.{all_digits}
 use Rattle.frames.proofs.ValueLaws.{ReadTo}
 use Rattle.frames.proofs.digits.line_of_length.Given as goal
 
 abbrev pub invariant-loop-i : goal.invariant-loop-i
-invariant-loop-i l = (l.i ≤ length l.s) × ((l.digits && all_digits (drop l.i l.s)) ≡ all_digits l.s) × ReadTo l.s l.i l.values
-
-abbrev pub decreases-loop-i : goal.decreases-loop-i
-decreases-loop-i l = length l.s - l.i
+invariant-loop-i l = ((l.digits && all_digits (drop l.i l.s)) ≡ all_digits l.s) × ReadTo l.s l.i l.values

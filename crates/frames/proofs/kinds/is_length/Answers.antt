@@ -10,11 +10,11 @@ use Rattle.frames.proofs.kinds.is_length.Goals as goal
 
 pub returns-then-length_of-digits : goal.returns-then-length_of-digits
 unfolding length_of
-returns-then-length_of-digits c = sym (among-found (0 ∷ lengths) c.loop-kind.kind c.args.digits (omega arith) (sym c.length_of.ensures ∙ c.if-length_of-digits.true)) ∙ c.loop-kind.invariant.2
+returns-then-length_of-digits c = sym (among-found (0 ∷ lengths) c.loop-kind.kind c.args.digits (omega arith) (sym c.length_of.ensures ∙ c.if-length_of-digits.true)) ∙ c.loop-kind.invariant
 
 pub loop-kind-preserved : goal.loop-kind-preserved
 unfolding length_of
-loop-kind-preserved c = (search rules, search rules, sym (among-passed (0 ∷ lengths) c.loop-kind.kind c.args.digits (omega arith) (λ e. c.if-length_of-digits.false (c.length_of.ensures ∙ e))) ∙ c.loop-kind.invariant.2)
+loop-kind-preserved c = sym (among-passed (0 ∷ lengths) c.loop-kind.kind c.args.digits (omega arith) (λ e. c.if-length_of-digits.false (c.length_of.ensures ∙ e))) ∙ c.loop-kind.invariant
 
 pub returns : goal.returns
-returns c = sym (among_none c.args.digits) ∙ rw (drop_of_length-le (0 ∷ lengths) {i = c.loop-kind.kind} (omega arith)) at c.loop-kind.invariant.2
+returns c = sym (among_none c.args.digits) ∙ rw (drop_of_length-le (0 ∷ lengths) {i = c.loop-kind.kind} (omega arith)) at c.loop-kind.invariant

@@ -7,7 +7,4 @@ use Rattle.frames.specs.Kinds.{lengths, among, is_length}
 use Rattle.frames.proofs.kinds.is_length.Given as goal
 
 abbrev pub invariant-loop-kind : goal.invariant-loop-kind
-invariant-loop-kind l = (1 ≤ l.kind) × (l.kind ≤ length (0 ∷ lengths)) × (among (drop l.kind (0 ∷ lengths)) l.digits ≡ is_length l.digits)
-
-abbrev pub decreases-loop-kind : goal.decreases-loop-kind
-decreases-loop-kind l = length (0 ∷ lengths) - l.kind
+invariant-loop-kind l = among (drop l.kind (0 ∷ lengths)) l.digits ≡ is_length l.digits

@@ -7,4 +7,4 @@ use Rattle.walk_spec.specs.Lines.{line_feed}
 use Rattle.lines.proofs.calls.end.Goals as goal
 
 pub returns : goal.returns
-returns c = record { text = c.byte_before.ensures.text ∙ ap (λ (l : List ℕ). line_feed ∷ l) c.empty.ensures.text; room = (c.byte_before.ensures.room.0, omega (arith, c.byte_before.ensures.room.1, c.empty.ensures.room.1)) }
+returns c = record { text = c.byte_before.ensures.text ∙ ap (λ (l : List ℕ). line_feed ∷ l) c.empty.ensures.text; room = omega (arith, c.byte_before.ensures.room, c.empty.ensures.room) }

@@ -6,4 +6,4 @@ use Rattle.lines.specs.Calls.{word_none_yet}
 use Rattle.lines.proofs.calls.of_none_yet.Goals as goal
 
 pub returns : goal.returns
-returns c = record { text = c.word_before.ensures.text ∙ ap (λ (l : List ℕ). word_none_yet ++ l) c.end.ensures.text; room = c.word_before.ensures.room.0 }
+returns c = record { text = c.word_before.ensures.text ∙ ap (λ (l : List ℕ). word_none_yet ++ l) c.end.ensures.text }

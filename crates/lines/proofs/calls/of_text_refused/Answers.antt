@@ -10,5 +10,4 @@ pub returns : goal.returns
 returns c = record {
   text = c.phrase_before.ensures.text ∙ ap (phrase word_text _) (c.byte_before.ensures.text ∙ ap (λ (l : List ℕ). space ∷ l)
       (c.phrase_before-refused.ensures.text ∙ ap (phrase word_refused _) (c.phrase_before-place.ensures.text ∙ ap (phrase word_line _) c.end.ensures.text)));
-  room = c.phrase_before.ensures.room.0;
 }

@@ -6,4 +6,4 @@ use native.Mathlib.Omega.{arith}
 use Rattle.lines.proofs.calls.phrase_before.Goals as goal
 
 pub returns : goal.returns
-returns c = record { text = c.word_before.ensures.text ∙ ap (λ (l : List ℕ). c.args.word.now ++ l) c.number_before.ensures.text; room = (c.word_before.ensures.room.0, omega (arith, c.word_before.ensures.room.1, c.number_before.ensures.room.1)) }
+returns c = record { text = c.word_before.ensures.text ∙ ap (λ (l : List ℕ). c.args.word.now ++ l) c.number_before.ensures.text; room = omega (arith, c.word_before.ensures.room, c.number_before.ensures.room) }

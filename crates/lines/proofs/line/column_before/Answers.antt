@@ -5,4 +5,4 @@ use Rattle.report_spec.specs.Text.{decimal}
 use Rattle.lines.proofs.line.column_before.Goals as goal
 
 pub returns : goal.returns
-returns c = record { text = c.number_before.ensures.text ∙ ap (decimal _) c.byte_before.ensures.text; room = (c.number_before.ensures.room.0, omega (arith, c.number_before.ensures.room.1, c.byte_before.ensures.room.1)) }
+returns c = record { text = c.number_before.ensures.text ∙ ap (decimal _) c.byte_before.ensures.text; room = omega (arith, c.number_before.ensures.room, c.byte_before.ensures.room) }

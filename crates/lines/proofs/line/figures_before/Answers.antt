@@ -6,4 +6,4 @@ use Rattle.lines.proofs.line.figures_before.Goals as goal
 
 pub returns : goal.returns
 returns c = let a = c.args in
-    record { text = figures-is a.sums (text_in a.t) c.column_before-least.ensures.text c.column_before-upper.ensures.text c.column_before-lower.ensures.text c.column_before.ensures.text; room = (c.column_before.ensures.room.0, omega (arith, c.column_before.ensures.room.1, c.column_before-lower.ensures.room.1, c.column_before-upper.ensures.room.1, c.column_before-least.ensures.room.1)) }
+    record { text = figures-is a.sums (text_in a.t) c.column_before-least.ensures.text c.column_before-upper.ensures.text c.column_before-lower.ensures.text c.column_before.ensures.text; room = omega (arith, c.column_before.ensures.room, c.column_before-lower.ensures.room, c.column_before-upper.ensures.room, c.column_before-least.ensures.room) }

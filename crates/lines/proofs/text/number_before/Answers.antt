@@ -10,10 +10,10 @@ use Rattle.report_spec.proofs.TextLaws.{room-start, room-step}
 use Rattle.lines.proofs.text.number_before.Goals as goal
 
 pub loop-left-init : goal.loop-left-init
-loop-left-init c = (search rules, room-start _ _ (search rules), search rules)
+loop-left-init c = (room-start _ _ (search rules), search rules)
 
 pub loop-left-preserved : goal.loop-left-preserved
-loop-left-preserved c = (search rules, room-step _ c.loop-left.made.at _ c.loop-left.left c.loop-left.invariant.1 (omega arith) (omega arith), ap (λ l. decimal (c.loop-left.left / 10) l) c.byte_before-made.ensures.text ∙ sym (decimal_step c.loop-left.left (text_in c.loop-left.made) (omega arith)) ∙ c.loop-left.invariant.2)
+loop-left-preserved c = (room-step _ c.loop-left.made.at _ c.loop-left.left c.loop-left.invariant.0 (omega arith) (omega arith), ap (λ l. decimal (c.loop-left.left / 10) l) c.byte_before-made.ensures.text ∙ sym (decimal_step c.loop-left.left (text_in c.loop-left.made) (omega arith)) ∙ c.loop-left.invariant.1)
 
 pub returns : goal.returns
-returns c = record { text = c.byte_before.ensures.text ∙ sym (decimal-last c.loop-left.left (text_in c.loop-left.made) (omega arith)) ∙ c.loop-left.invariant.2; room = search rules }
+returns c = record { text = c.byte_before.ensures.text ∙ sym (decimal-last c.loop-left.left (text_in c.loop-left.made) (omega arith)) ∙ c.loop-left.invariant.1; room = search rules }

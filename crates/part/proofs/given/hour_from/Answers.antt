@@ -5,4 +5,4 @@ use Rattle.part.proofs.given.hour_from.Goals as goal
 
 pub returns : goal.returns
 returns c = let t = c.args.readings in
-    rw (c.ozone_of-ozone.ensures, c.soil_from-soil.ensures, plain t.temperature (search rules))
+    rw (c.ozone_of.ensures, c.soil_from.ensures, plain t.temperature (search rules))

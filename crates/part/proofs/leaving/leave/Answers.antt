@@ -1,10 +1,9 @@
 -- `part::leaving::leave` meets its contract.
-use borrow.Author.Rules.{rules}
 use Rattle.part_spec.proofs.CallLaws.{accepted-leaves, refused-leaves}
 use Rattle.part.proofs.leaving.leave.Goals as goal
 
-pub returns-in-Accepted : goal.returns-in-Accepted
-returns-in-Accepted c = accepted-leaves _ _ (search rules) _ _ _ _ c.in-Accepted.is c.store-written.ensures.prints c.store-written.ensures.back c.of_written.ensures
+pub returns-in-Ok : goal.returns-in-Ok
+returns-in-Ok c = accepted-leaves _ _ (c.requires _ c.in-Ok.is) _ _ _ _ c.in-Ok.is c.store.ensures.prints c.store.ensures.back c.of_answer.ensures
 
-pub returns-in-Refused : goal.returns-in-Refused
-returns-in-Refused c = refused-leaves _ _ _ _ _ c.in-Refused.is c.code_of.ensures
+pub returns-in-Err : goal.returns-in-Err
+returns-in-Err c = refused-leaves _ _ _ _ c.in-Err.is c.code_of.ensures

@@ -1,15 +1,15 @@
 -- `part::writing::pod1_write_place` meets its contract: by whether the place has a header.
+use Rattle.records.specs.Answers.{outcome_of}
 use mathlib.Core.Path.{refl, sym, ap, ◌∙◌}
-use Rattle.dates_spec.specs.Rules.{placed_as}
 use Rattle.part_spec.specs.Frames.{placed_text}
 use Rattle.part_spec.proofs.CallLaws.{prints-refused}
 use Rattle.part.proofs.writing.pod1_write_place.Goals as goal
 
-pub returns-in-Header : goal.returns-in-Header
+pub returns-in-Ok : goal.returns-in-Ok
 unfolding placed_text
-returns-in-Header c = record { prints_bytes = rw (sym c.header_at-placed.ensures.result_value ∙ ap placed_as c.in-Header.is) c.write.ensures.prints_bytes; promise = c.header_at-placed.ensures.promise }
+returns-in-Ok c = record { prints_bytes = rw (sym c.header_at.ensures.result_value ∙ ap outcome_of c.in-Ok.is) c.write.ensures.prints_bytes; promise = c.header_at.ensures.promise }
 
-pub returns-in-Refused : goal.returns-in-Refused
+pub returns-in-Err : goal.returns-in-Err
 unfolding placed_text
-returns-in-Refused c = let q = sym c.header_at-placed.ensures.result_value ∙ ap placed_as c.in-Refused.is in
-    record { prints_bytes = prints-refused _ _ _ _ _ _ c.printed_of.ensures c.in-Refused.refusal q refl refl; promise = c.header_at-placed.ensures.promise }
+returns-in-Err c = let q = sym c.header_at.ensures.result_value ∙ ap outcome_of c.in-Err.is in
+    record { prints_bytes = prints-refused _ _ _ _ _ _ c.printed_of.ensures c.in-Err.refusal q refl refl; promise = c.header_at.ensures.promise }

@@ -1,7 +1,7 @@
 -- `power::root::search` meets its contract: what passes stays at or below the root, what does not above it.
 use Rattle.std.proofs.Common.{◌≡◌, ℕ, ◌+◌, ◌<◌, sym, ◌∙◌, subst, arith, leb-false, leb-true}
 use Rattle.power.specs.Steps.{left, right}
-use Rattle.power.proofs.RootLaws.{zero-under}
+use Rattle.power.proofs.RootLaws.{zero-under, one-over}
 use Rattle.power.proofs.root.search.Goals as goal
 
 pub loop-high-init : goal.loop-high-init
@@ -10,8 +10,8 @@ loop-high-init c = (
   omega arith,
   omega arith,
   record { above = λ h. omega arith; below = λ h. omega arith },
-  zero-under _ c.requires.0,
-  c.requires.0.most,
+  zero-under _ c.args.s.asked.q_in.0,
+  one-over c.args.s,
 )
 
 pub next-probe-requires : goal.next-probe-requires
@@ -24,7 +24,7 @@ pub loop-high-preserved-then-passes : goal.loop-high-preserved-then-passes
 loop-high-preserved-then-passes c = (
   c.loop-high.invariant.3.below (omega arith),
   c.loop-high.invariant.1,
-  c.doubled-step.ensures,
+  omega (arith, c.saturating_mul-step.ensures),
   c.next-probe.ensures,
   leb-true _ _ (sym c.passes.ensures ∙ c.if-passes.true),
   c.loop-high.invariant.5,
@@ -41,7 +41,7 @@ pub loop-high-preserved : goal.loop-high-preserved
 loop-high-preserved c = let below : c.loop-high.probe < c.loop-high.high = c.loop-high.invariant.3.below (omega arith) in (
   c.loop-high.invariant.3.above (omega arith),
   omega arith,
-  c.doubled-step.ensures,
+  omega (arith, c.saturating_mul-step.ensures),
   c.next-probe-else-passes.ensures,
   c.loop-high.invariant.4,
   leb-false _ _ (sym c.passes.ensures ∙ c.if-passes.false),

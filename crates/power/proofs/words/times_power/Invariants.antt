@@ -1,10 +1,7 @@
 -- `power::words::times_power` meets its contract.
-use Rattle.std.proofs.Common.{◌≡◌, ◌+◌, ◌-◌, ◌*◌, ◌^◌, ◌≤◌, length}
+use Rattle.std.proofs.Common.{◌≡◌, ◌+◌, ◌*◌, ◌^◌, ◌≤◌}
 use Rattle.power.specs.Steps.{worth}
 use Rattle.power.proofs.words.times_power.Given as goal
 
 abbrev pub invariant-loop-j : goal.invariant-loop-j
-invariant-loop-j l = (l.j ≤ l.k) × (l.m ≤ l.n + l.j) × (worth l.m l.a ≡ worth l.n l.initial.a * l.c ^ l.j) × (length l.a ≡ 67)
-
-abbrev pub decreases-loop-j : goal.decreases-loop-j
-decreases-loop-j l = l.k - l.j
+invariant-loop-j l = (l.m ≤ l.n + l.j) × (worth l.m l.a ≡ worth l.n l.initial.a * l.c ^ l.j)

@@ -1,26 +1,30 @@
 -- `stored::big_endian::get` meets its contract.
+use Prim.Native.Nat.{◌*◌, ◌+◌, ◌-◌}
 use native.Mathlib.Omega.{arith}
-use Prim.Native.Nat.{◌*◌, ◌+◌}
 use mathlib.Core.Path.{◌≡◌, refl, sym, ap, ◌∙◌}
+use lib.ListN.{get_or, drop}
+use lib.Seq.{get_or-drop}
+use Rattle.std.proofs.lemmas.List.{get_or-take}
 use Rattle.stored.specs.Packing.{big_endian_at}
 use Rattle.stored.proofs.BigEndianLaws.{big_endian_at-step, grown, small}
 use Rattle.stored.proofs.big_endian.get.Goals as goal
 
-pub loop-i-init : goal.loop-i-init
+pub loop-x-init : goal.loop-x-init
 unfolding big_endian_at
-loop-i-init c = (omega arith, refl, omega arith)
+loop-x-init c = record { read = refl; fits = omega arith }
 
 pub overflow_mul-n : goal.overflow_mul-n
-overflow_mul-n c = omega (arith, small c.loop-i.i c.loop-i.n (omega arith) (omega arith))
+overflow_mul-n c = omega (arith, small c.loop-x.x-index c.loop-x.n (omega arith) (omega arith))
 
 pub overflow_add-n : goal.overflow_add-n
-overflow_add-n c = omega (arith, small c.loop-i.i c.loop-i.n (omega arith) (omega arith))
+overflow_add-n c = omega (arith, small c.loop-x.x-index c.loop-x.n (omega arith) (omega arith))
 
-pub loop-i-preserved : goal.loop-i-preserved
-loop-i-preserved c = let a = c.args in
-    (omega arith, ap (λ k. k * 256 + c.wide.result) c.loop-i.invariant.1 ∙ ap (λ k. big_endian_at c.loop-i.i a.at a.b.now * 256 + k) c.wide.ensures.is ∙ sym (big_endian_at-step c.loop-i.i a.at a.b.now), grown c.loop-i.i c.loop-i.n c.wide.result (omega arith) (omega arith))
-
-pub returns : goal.returns
-returns c = let a = c.args in
-    let all : c.loop-i.i ≡ a.width = omega arith in
-    record { is = c.loop-i.invariant.1 ∙ ap (λ k. big_endian_at k a.at a.b.now) all; fits = rw all at c.loop-i.invariant.2 }
+pub loop-x-preserved : goal.loop-x-preserved
+loop-x-preserved c = let a = c.args in
+    let i = c.loop-x.x-index in
+    let k : a.at + a.width - a.at ≡ a.width = omega arith in
+    let byte : c.from.result ≡ get_or a.b.now (a.at + i) 0 = c.from.ensures ∙ get_or-take _ (drop a.at a.b.now) i 0 (omega arith) ∙ get_or-drop a.at a.b.now i 0 in
+    record {
+      read = ap (λ n. n * 256 + c.from.result) c.loop-x.invariant.read ∙ ap (λ n. big_endian_at i a.at a.b.now * 256 + n) byte ∙ sym (big_endian_at-step i a.at a.b.now);
+      fits = grown i c.loop-x.n c.from.result c.loop-x.invariant.fits (omega (arith, byte, c.fits-b (a.at + i)));
+    }

@@ -7,14 +7,14 @@ use Rattle.stored.proofs.taking.account_in.Goals as goal
 pub returns : goal.returns
 unfolding account_in
 returns c = rw (
-  plain c.signed-total.result (search rules),
-  c.signed-total.ensures,
+  plain c.signed.result (search rules),
+  c.signed.ensures,
+  c.get-4.ensures.is,
   c.get-3.ensures.is,
-  c.get-sum.ensures.is,
-  c.sums_in-sums.ensures,
-  c.hour_kind_of-kind.ensures,
+  c.sums_in.ensures,
+  c.hour_kind_of.ensures,
   c.get-2.ensures.is,
-  c.season_in-season.ensures,
-  c.phase_of-phase.ensures,
+  c.season_in.ensures,
+  c.phase_of.ensures,
   c.get.ensures.is,
 )

@@ -2,13 +2,8 @@
 use mathlib.Core.Path.{refl}
 use native.Mathlib.Omega.{arith}
 use Rattle.frames.specs.Layout.{frame_line}
-use Rattle.records.proofs.BufferLaws.{prints-short}
 use Rattle.writer.proofs.WriterLaws.{prints-set}
 use Rattle.writer.proofs.writing.put_header.Goals as goal
-
-pub returns-then-buf-lt-DIGITS : goal.returns-then-buf-lt-DIGITS
-unfolding frame_line
-returns-then-buf-lt-DIGITS c = prints-short _ _ (omega arith)
 
 pub returns : goal.returns
 unfolding frame_line

@@ -1,12 +1,8 @@
 -- `writer::writing::put_pressure_line` meets its contract.
 use mathlib.Core.Path.{refl}
 use native.Mathlib.Omega.{arith}
-use Rattle.records.proofs.BufferLaws.{prints-short}
 use Rattle.writer.proofs.WriterLaws.{prints-set}
 use Rattle.writer.proofs.writing.put_pressure_line.Goals as goal
-
-pub returns-then-buf-lt-DIGITS : goal.returns-then-buf-lt-DIGITS
-returns-then-buf-lt-DIGITS c = prints-short _ _ (omega arith)
 
 pub returns : goal.returns
 returns c = prints-set _ _ _ _ refl (omega arith) (rw (c.put_number.ensures, c.put_hour_fields.ensures))

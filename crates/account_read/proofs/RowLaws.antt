@@ -1,0 +1,36 @@
+-- Row 13, its conditions in the order of the code: the sums first.
+use mathlib.Core.Path.{◌≡◌, refl}
+use mathlib.Core.Bool.{Bool, true, false, not, or-true, ◌&&◌, ◌||◌}
+use lib.Dec.{ltb}
+use Rattle.records.specs.Period.{period_hours, all_given}
+use Rattle.account_spec.specs.declared.Account.{Account}
+use Rattle.account_spec.specs.HourKinds.{kind_out}
+use Rattle.account_spec.specs.Account.{is_fresh, is_closed, is_begun, is_broken, unmeasured_in, warmth_alone, carried_out, is_blank, any_of, sums_out, impossible}
+
+sums-first : (b p s k u w c x y : Bool) → (s || k || u || w || c || (p || b || x || y)) ≡ (b || p || s || k || u || w || c || x || y)
+sums-first true p s k u w c x y = rw (or-true p) (or-true (s || k || u || w || c))
+sums-first false true s k u w c x y = or-true (s || k || u || w || c)
+sums-first false false true k u w c x y = refl
+sums-first false false false true u w c x y = refl
+sums-first false false false false true w c x y = refl
+sums-first false false false false false true c x y = refl
+sums-first false false false false false false true x y = refl
+sums-first false false false false false false false x y = refl
+
+pub impossible_is : (a : Account) →
+    (any_of (sums_out a.season a.sums)
+    || kind_out a.kind a.sums.hours
+    || unmeasured_in a.season a.kind a.sums.hours
+    || warmth_alone a.season
+    || carried_out a.season a.sums.hours a.carried
+    || (ltb (period_hours a.season.header) a.sums.hours
+    || (is_begun a.phase && is_broken a.season)
+    || is_fresh a.phase && not (is_blank a)
+    || is_closed a.phase && not (all_given a.season.header a.sums.hours)))
+    ≡ impossible a
+unfolding impossible
+impossible_is a =
+    sums-first (is_begun a.phase && is_broken a.season) (ltb (period_hours a.season.header) a.sums.hours) (any_of (sums_out a.season a.sums))
+    (kind_out a.kind a.sums.hours) (unmeasured_in a.season a.kind a.sums.hours) (warmth_alone a.season)
+    (carried_out a.season a.sums.hours a.carried) (is_fresh a.phase && not (is_blank a))
+    (is_closed a.phase && not (all_given a.season.header a.sums.hours))

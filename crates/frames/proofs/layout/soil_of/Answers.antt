@@ -1,8 +1,0 @@
--- `frames::layout::soil_of` meets its contract.
-use Rattle.frames.proofs.layout.soil_of.Goals as goal
-
-pub returns-in-Suction : goal.returns-in-Suction
-returns-in-Suction c = rw c.in-Suction.is
-
-pub returns-in-Water : goal.returns-in-Water
-returns-in-Water c = rw c.in-Water.is

@@ -1,6 +1,0 @@
--- `trial::same::same_sums` meets its contract.
-use mathlib.Core.Bool.{and-true, and_assoc}
-use Rattle.trial.proofs.same.same_sums.Goals as goal
-
-pub returns : goal.returns
-returns c = simp (and_assoc, and-true)
