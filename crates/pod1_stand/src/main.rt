@@ -9,24 +9,22 @@ mod stopped;
 use account::Account;
 use frames::Refusal;
 use std::env::Env;
-use std::io;
 use std::rt::Files;
 use stopped::Stopped;
 
-fn print_account(rt: &impl Print, held: Account) -> io::Result<()> {
+fn print_account(rt: &impl Print, held: Account) {
     let mut line = [0; 160];
     let written = report::format(held, &mut line);
-    words::print_written(rt, &line, written)
+    words::print_written(rt, &line, written);
 }
 
-fn print_accounts(rt: &impl Print, accounts: &[Account]) -> io::Result<()> {
+fn print_accounts(rt: &impl Print, accounts: &[Account]) {
     for account in accounts {
-        print_account(rt, *account)?;
+        print_account(rt, *account);
     }
-    Ok(())
 }
 
-fn print_stopped(rt: &impl Print, stopped: Stopped) -> io::Result<()> {
+fn print_stopped(rt: &impl Print, stopped: Stopped) {
     let mut buf = [0; 160];
     let written = match stopped {
         Stopped::Call(refusal) => lines::put_refused(frames::row_of(refusal), &mut buf),
@@ -37,7 +35,7 @@ fn print_stopped(rt: &impl Print, stopped: Stopped) -> io::Result<()> {
             lines::put_refusal(frames::row_of(refusal), line, &mut buf)
         }
     };
-    words::print_written(rt, &buf, written)
+    words::print_written(rt, &buf, written);
 }
 
 // An account for each header, fed the text.
@@ -49,7 +47,7 @@ fn feed(rt: &impl Env, text: &[u8], accounts: &mut [Account]) -> Result<(), Stop
     season::feed_all(text, accounts)
 }
 
-fn print_stand(rt: &(impl Env + Print), text: &[u8], count: usize) -> io::Result<()> {
+fn print_stand(rt: &(impl Env + Print), text: &[u8], count: usize) {
     let mut six = [account::fresh(); 6];
     let Some(accounts) = six.get_mut(..count) else {
         return print_stopped(rt, Stopped::Call(Refusal::ListSize));
@@ -61,17 +59,16 @@ fn print_stand(rt: &(impl Env + Print), text: &[u8], count: usize) -> io::Result
 }
 
 // A file that cannot be read prints nothing.
-fn print_answer(rt: &(impl Env + Files + Print + AllocGlobal)) -> io::Result<()> {
+fn print_answer(rt: &(impl Env + Files + Print + AllocGlobal)) {
     let Some(count) = words::word_count(rt).checked_sub(2) else {
-        return Ok(());
+        return;
     };
     let Some(text) = words::read_named(rt, 1) else {
-        return Ok(());
+        return;
     };
-    print_stand(rt, text.as_slice(), count)
+    print_stand(rt, text.as_slice(), count);
 }
 
-// A write that fails ends it.
 fn main(rt: HostRuntime) {
-    let _ = print_answer(&rt);
+    print_answer(&rt);
 }

@@ -8,7 +8,6 @@ ghost use Rattle.pod1_stretch.specs.Answer.{stretch_line};
 
 use frames::Refusal;
 use std::env::Env;
-use std::io;
 use std::rt::Files;
 use stretch::{NoStretch, WorstDays};
 
@@ -30,29 +29,28 @@ fn put_stretch(
 }
 
 // The scratch has room for the most days, so row 21 does not come up.
-fn print_stretch(rt: &impl Print, text: &[u8], days: u16) -> io::Result<()> {
+fn print_stretch(rt: &impl Print, text: &[u8], days: u16) {
     let mut scratch = [0; 1098];
     let mut line = [0; 160];
     let answer = stretch::worst_stretch(text, days, &mut scratch);
     let written = put_stretch(answer, &mut line);
-    words::print_written(rt, &line, written)
+    words::print_written(rt, &line, written);
 }
 
 // A word that is no number and a file that cannot be read print nothing. A text longer than what is read of it is refused by the same row at the same line.
-fn print_answer(rt: &(impl Env + Files + Print + AllocGlobal)) -> io::Result<()> {
+fn print_answer(rt: &(impl Env + Files + Print + AllocGlobal)) {
     if words::word_count(rt) != 3 {
-        return Ok(());
+        return;
     }
     let Some(days) = words::number_at(rt, 1) else {
-        return Ok(());
+        return;
     };
     let Some(text) = words::read_named(rt, 2) else {
-        return Ok(());
+        return;
     };
-    print_stretch(rt, text.as_slice(), days)
+    print_stretch(rt, text.as_slice(), days);
 }
 
-// A write that fails ends it.
 fn main(rt: HostRuntime) {
-    let _ = print_answer(&rt);
+    print_answer(&rt);
 }

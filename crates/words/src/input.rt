@@ -73,7 +73,7 @@ pub fn fill<R: Read>(input: &mut R, buf: &mut [u8]) -> Option<usize>
 }
 
 // As much of a text as decides what is said of it, from the file that the program's word at a place names, its own name being at place 0. A name that is missing,
-// too long or not UTF-8 names no file.
+// too long or not UTF-8 names no file, and none is read for want of memory.
 pub fn read_named(rt: &(impl Env + Files + AllocGlobal), place: usize) -> Option<Vec<u8>>
     ensures { IfSome result (λ text. vec_len text ≤ 364544) }
 {

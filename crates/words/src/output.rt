@@ -2,7 +2,6 @@
 ghost use Rattle.std.specs.Prelude.{◌≡◌, take};
 
 use records::Refusal;
-use std::io;
 
 // The first n bytes of a buffer: all of them where there are no more.
 pub fn front(buf: &[u8], n: usize) -> &[u8]
@@ -11,14 +10,9 @@ pub fn front(buf: &[u8], n: usize) -> &[u8]
     buf.get(..n).unwrap_or(buf)
 }
 
-// What was written into a buffer; nothing where it was too short.
-pub fn print_written(
-    rt: &impl Print,
-    buf: &[u8],
-    written: Result<usize, Refusal>,
-) -> io::Result<()> {
-    match written {
-        Ok(n) => rt.write_all(front(buf, n)),
-        Err(_) => Ok(()),
+// What was written into a buffer; nothing where it was too short. A write that fails ends what is printed of it, and nothing else.
+pub fn print_written(rt: &impl Print, buf: &[u8], written: Result<usize, Refusal>) {
+    if let Ok(n) = written {
+        let _ = rt.write_all(front(buf, n));
     }
 }
