@@ -4,7 +4,7 @@
  * call it at once, each on its own buffers.
  *
  * A code is 0 where the call is accepted, else a row and a field: the row of docs/SPECIFICATION.md that refuses the call, and the reading that rows 10 and 26 name
- * (0 for every other row). Take them apart by POD1_ROW and POD1_FIELD.
+ * (0 for every other row, and where a text's line stops a comparison or a worst stretch). Take them apart by POD1_ROW and POD1_FIELD.
  * Every call takes any bytes of any length. The caller owes two things: a pointer lends as many bytes as the length beside it says (it may be null where that is
  * 0), and a buffer that is written overlaps no other argument. A refused call leaves account and buffer as they were
  * (but for the scratch bytes of pod1_worst_stretch).

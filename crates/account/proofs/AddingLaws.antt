@@ -1,5 +1,5 @@
 -- The pair of an hour by what `hour_dose` says, and the account with an hour added by whether it is counted.
-use Rattle.std.specs.Prelude.{Result, Ok, Err}
+use Rattle.std.specs.Prelude.{Some, Result, Ok, Err}
 use Rattle.std.specs.Result.{result_unwrap_or}
 use Prim.Native.Nat.{ℕ, ◌+◌, ◌≤◌}
 use mathlib.Core.Path.{◌≡◌, refl, sym, ap, subst, ◌∙◌}
@@ -112,7 +112,7 @@ ceiling-is season h dosable =
 
 module _ (a : Account) (h : Hour) (kind : HourKind) (is : kind ≡ hour_kind h.air) (carried : Carried) (c : carried ≡ carried_by a.season.warmth a.carried h) where
   abbrev with_sums : Sums → Account
-  with_sums s = record { phase = a.phase; season = a.season; kind = kind; sums = s; carried = carried }
+  with_sums s = record { phase = a.phase; season = a.season; kind = Some kind; sums = s; carried = carried }
 
   pub counted-hour :
       is_counted h ≡ true → (pair : Bounds) (least most missing : ℕ) → pair ≡ pair_by a.season a.carried.sum h →

@@ -1,10 +1,9 @@
 -- The running day's total and an hour's temperature, as the machine adds them (W-213).
-use Prim.Native.Nat.{suc, ◌*◌}
 use mathlib.Core.Path.{◌≡◌, ◌∙◌}
 use mathlib.Core.Bool.{false}
 use native.Mathlib.Omega.{arith}
-use borrow.Author.Tests.{ltb-false}
-use lib.IntN.{ℤ, pos, negsuc, ◌+ℤ◌}
+use Rattle.std.proofs.lemmas.Bool.Decides.{nat_tests}
+use lib.IntN.{ℤ, ◌+ℤ◌}
 use mir.Syntax.{w16}
 use mir.Val.{SFits, to_z, of_z}
 use Rattle.records.specs.Temperature.{temperature_out}
@@ -13,8 +12,7 @@ use Rattle.account_spec.specs.Account.{total_out}
 use Rattle.account_spec.proofs.CarriedLaws.{total-step}
 
 total-fits : (z : ℤ) → total_out 25 z ≡ false → SFits w16 z
-total-fits (pos n) e = record { sfits = omega (arith, ltb-false (600 * 25) n e) }
-total-fits (negsuc n) e = record { sfits = omega (arith, ltb-false (500 * 25) (suc n) e) }
+total-fits z e = grind (arith, nat_tests)
 
 module _ (z t : ℤ) (f : SFits w16 z) (g : SFits w16 t) (within : total_out 24 z ≡ false) (hot : temperature_out t ≡ false) where
   sum : to_z w16 (of_z w16 z) +ℤ to_z w16 (of_z w16 t) ≡ z +ℤ t

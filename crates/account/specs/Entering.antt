@@ -1,5 +1,5 @@
 -- A record entered in any account, for a caller that has the record already: what `enter` answers, and that of a frame that the account takes it is the next account.
-use Rattle.std.specs.Prelude.{ℕ, ◌≡◌, Bool, true, not, cond, ◌&&◌, ltb}
+use Rattle.std.specs.Prelude.{ℕ, ◌≡◌, Bool, true, not, cond, ◌&&◌, ltb, Some}
 use Rattle.exact.specs.declared.Bounds.{Bounds}
 use Rattle.trees.specs.declared.Warmth.{Warmth}
 use Rattle.measured.specs.Warmth.{has_warmth}
@@ -37,7 +37,7 @@ unfoldable pub hour_added : Account → Hour → Account
 hour_added a h = record {
   phase = a.phase;
   season = a.season;
-  kind = hour_kind h.air;
+  kind = Some (hour_kind h.air);
   sums = plus a.sums (cond (is_counted h) (counted_sums (pair_by a.season a.carried.sum h) a.season.ceiling h) uncounted_sums);
   carried = carried_by a.season.warmth a.carried h;
 }

@@ -3,7 +3,7 @@ ghost use Rattle.std.specs.Prelude.{◌<◌, ◌≤◌, ◌≡◌, true, false};
 ghost use Rattle.records.specs.Temperature.{temperature_out};
 ghost use Rattle.flux_spec.specs.Dose.{is_counted};
 ghost use Rattle.account_spec.specs.Limits.{most_hour};
-ghost use Rattle.account_spec.specs.Hours.{not_negative, warmer};
+ghost use Rattle.account_spec.specs.Hours.{not_negative};
 ghost use Rattle.account_spec.specs.Account.{total_out};
 ghost use Rattle.account_spec.specs.Rules.{opened, with_ceiling, with_parameters, with_warmth, with_season, ended};
 ghost use Rattle.account.specs.Entering.{pair_by, carried_by, hour_added, entered_by, sums_room, has_room, is_temperate};
@@ -88,19 +88,19 @@ fn not_negative(total: i16) -> u32
     ensures is { result ≡ not_negative total }
     ensures small { result < 32768 }
 {
-    if total < 0 {
-        return 0;
-    }
-    (total as u16) as u32
+    u32::from(total.max(0).cast_unsigned())
 }
 
-// The hour's tenths go to the running day's total, which the day's last hour moves into the sum.
-fn warmer(c: Carried, h: Hour) -> Carried
+// Where a frame of warmth stands, the hour's tenths go to the running day's total, which the day's last hour moves into the sum.
+fn carry(warmth: Warmth, c: Carried, h: Hour) -> Carried
     requires sum { c.sum < 1000000000 }
     requires total { total_out 24 c.total ≡ false }
     requires temperature { temperature_out h.temperature ≡ false }
-    ensures { result ≡ warmer c h }
+    ensures { result ≡ carried_by warmth c h }
 {
+    if !measured::has_warmth(warmth) {
+        return c;
+    }
     let total = c.total + h.temperature;
     if h.hour == 23 {
         return Carried {
@@ -111,20 +111,8 @@ fn warmer(c: Carried, h: Hour) -> Carried
     Carried { total, ..c }
 }
 
-// Where a frame of warmth stands.
-fn carry(warmth: Warmth, c: Carried, h: Hour) -> Carried
-    requires sum { c.sum < 1000000000 }
-    requires total { total_out 24 c.total ≡ false }
-    requires temperature { temperature_out h.temperature ≡ false }
-    ensures { result ≡ carried_by warmth c h }
-{
-    if measured::has_warmth(warmth) {
-        return warmer(c, h);
-    }
-    c
-}
-
 // An hour is counted if G > 50.
+// Kept: `flux` adds the same sums; one public function for both may have no `requires`, so it would test each sum for room.
 fn add_hour(a: Account, h: Hour) -> Account
     requires room { Roomy a }
     requires temperature { temperature_out h.temperature ≡ false }
@@ -144,7 +132,7 @@ fn add_hour(a: Account, h: Hour) -> Account
         sums.missing += ozone.missing;
     }
     Account {
-        kind: turns::kind_of(h.air),
+        kind: Some(turns::kind_of(h.air)),
         sums,
         carried,
         ..a

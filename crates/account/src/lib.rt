@@ -27,24 +27,13 @@ pub fn fresh() -> Account
     Account::default()
 }
 
-fn state_of(account: Account) -> State
-    ensures { result ≡ state_of account }
-{
-    State {
-        phase: account.phase,
-        season: account.season,
-        kind: account.kind,
-        hours: account.sums.hours,
-    }
-}
-
 // As `feed_frame`, for a caller whose account is one that feeding left: row 13 is not tested, and is the answer only where the account has no room for an hour.
 pub fn feed_untested(account: Account, frame: Raw) -> Fed
     ensures { Answers account (untested_of account frame) result }
 {
-    let decoded = turns::decode(state_of(account), frame);
-    let Ok(record) = decoded else {
-        return Err((turns::refusal_in(decoded), account));
+    let record = match turns::decode(State::from(account), frame) {
+        Ok(record) => record,
+        Err(refusal) => return Err((refusal, account)),
     };
     if !(adding::has_room(account) & adding::temperate(record)) {
         return Err((Refusal::Account, account));
@@ -66,14 +55,14 @@ pub fn feed_frame(account: Account, frame: Raw) -> Fed
 pub fn decoded(account: Account, frame: Raw) -> Result<Record, Refusal>
     ensures { outcome_of result ≡ turn_of (state_of account) frame }
 {
-    turns::decode(state_of(account), frame)
+    turns::decode(State::from(account), frame)
 }
 
 // Row 4 alone.
 pub fn out_of_turn(account: Account, frame: Raw) -> bool
     ensures { result ≡ out_of_turn (state_of account) frame }
 {
-    turns::out_of_turn(state_of(account), frame)
+    turns::out_of_turn(State::from(account), frame)
 }
 
 // The next account of one that takes a frame and reads it as this record: for a caller that has the record already. Row 13 is not tested.
@@ -95,7 +84,7 @@ pub fn timely(account: Account, raw: RawHour) -> Result<(), Refusal>
     if account_read::impossible(account) {
         return Err(Refusal::Account);
     }
-    turns::timely(state_of(account), raw)
+    turns::timely(State::from(account), raw)
 }
 
 // The refusal of a line that rows 1 to 3 refuse: row 13 first.

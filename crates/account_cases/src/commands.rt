@@ -3,12 +3,12 @@
 use crate::answers::print_line;
 use crate::fields::account_of;
 use account::Account;
-use cases_account::Answer;
+use cases_account::{Answer, left_by};
 use std::io;
 
 fn feed(rt: &impl Print, held: &mut Account, line: &[u8]) -> io::Result<()> {
     let answer = account::feed(*held, line);
-    *held = answer.unwrap_or_else(|(_, same)| same);
+    *held = left_by(answer);
     print!(rt; "{}: ", Answer(answer))
 }
 
@@ -16,7 +16,7 @@ pub(crate) fn obey(rt: &impl Print, held: &mut Account, command: &[u8]) -> io::R
     let Some((letter, rest)) = command.split_first() else {
         return Ok(());
     };
-    // Kept: an enum of commands would name each letter a second time.
+    // Kept: an enum of commands would list them twice, by letter and by name.
     match *letter {
         b'N' => *held = account::fresh(),
         b'A' => *held = account_of(rest),

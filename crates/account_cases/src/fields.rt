@@ -6,22 +6,14 @@ use account::{Account, Carried, HourKind, Phase, Season, Sums};
 use cases::{i16_at, parameters_of, u8_at, u16_at, u32_at, u64_at};
 use frames::{Header, Warmth};
 
-// Kept: these two read a digit's character, those of `cases_account` its number.
+// A character that is no digit of a phase says closed.
 fn phase_of(c: u8) -> Phase {
-    match c {
-        b'0' => Phase::Fresh,
-        b'1' => Phase::Open,
-        _ => Phase::Closed,
-    }
+    Phase::try_from(c.wrapping_sub(b'0')).unwrap_or(Phase::Closed)
 }
 
-fn kind_of(c: u8) -> HourKind {
-    match c {
-        b'2' => HourKind::Deficit,
-        b'4' => HourKind::Pressure,
-        b'5' => HourKind::Humidity,
-        _ => HourKind::None,
-    }
+// A character that is no digit of a kind says none.
+fn kind_of(c: u8) -> Option<HourKind> {
+    HourKind::try_from(c.wrapping_sub(b'0')).ok()
 }
 
 fn warmth_of(digits: &[u8]) -> Warmth {

@@ -1,2 +1,1 @@
-pub mod CarriedLaws
 pub mod RowLaws

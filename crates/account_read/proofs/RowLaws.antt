@@ -1,6 +1,7 @@
 -- Row 13, its conditions in the order of the code: the sums first.
-use mathlib.Core.Path.{◌≡◌, refl}
-use mathlib.Core.Bool.{Bool, true, false, not, or-true, ◌&&◌, ◌||◌}
+use mathlib.Core.Path.{◌≡◌}
+use native.Mathlib.Omega.{arith}
+use mathlib.Core.Bool.{Bool, not, ◌&&◌, ◌||◌}
 use lib.Dec.{ltb}
 use Rattle.records.specs.Period.{period_hours, all_given}
 use Rattle.account_spec.specs.declared.Account.{Account}
@@ -8,14 +9,7 @@ use Rattle.account_spec.specs.HourKinds.{kind_out}
 use Rattle.account_spec.specs.Account.{is_fresh, is_closed, is_begun, is_broken, unmeasured_in, warmth_alone, carried_out, is_blank, any_of, sums_out, impossible}
 
 sums-first : (b p s k u w c x y : Bool) → (s || k || u || w || c || (p || b || x || y)) ≡ (b || p || s || k || u || w || c || x || y)
-sums-first true p s k u w c x y = rw (or-true p) (or-true (s || k || u || w || c))
-sums-first false true s k u w c x y = or-true (s || k || u || w || c)
-sums-first false false true k u w c x y = refl
-sums-first false false false true u w c x y = refl
-sums-first false false false false true w c x y = refl
-sums-first false false false false false true c x y = refl
-sums-first false false false false false false true x y = refl
-sums-first false false false false false false false x y = refl
+sums-first b p s k u w c x y = grind arith
 
 pub impossible_is : (a : Account) →
     (any_of (sums_out a.season a.sums)

@@ -16,7 +16,7 @@ pub use possible::{impossible, total_out};
 fn verdict(phase: Phase, season: Season, sums: Sums) -> Verdict
     ensures { result ≡ verdict_of phase season sums }
 {
-    if let Phase::Fresh = phase {
+    if phase == Phase::Fresh {
         return Verdict::None;
     }
     let limit = 10000 * (season.header.level as u64);

@@ -1,5 +1,5 @@
 // Row 13's limits: what a counted hour can bring at most, given by the season (document 01, "Turned-back lines").
-ghost use Rattle.std.specs.Prelude.{◌≡◌, ◌≤◌};
+ghost use Rattle.std.specs.Prelude.{◌≡◌, ◌≤◌, cond};
 ghost use Rattle.account_spec.specs.Limits.{is_measured, most_hour, gap_each, most_aot40};
 
 use account_spec::Season;
@@ -22,15 +22,19 @@ pub(crate) fn is_measured(season: Season) -> bool
     season.header.tree == 7
 }
 
+// A measured tree's number, or another's.
+fn by_tree(season: Season, measured: u64, other: u64) -> u64
+    ensures { result ≡ cond (is_measured season) measured other }
+{
+    if is_measured(season) { measured } else { other }
+}
+
 // nmol m⁻²
 pub(crate) fn most_hour(season: Season) -> u64
     ensures is { result ≡ most_hour season }
     ensures small { result ≤ 1500000 }
 {
-    if is_measured(season) {
-        return MOST_HOUR_MEASURED;
-    }
-    MOST_HOUR
+    by_tree(season, MOST_HOUR_MEASURED, MOST_HOUR)
 }
 
 // nmol m⁻² between its two dose numbers
@@ -38,13 +42,11 @@ pub(crate) fn gap_each(season: Season) -> u64
     ensures is { result ≡ gap_each season }
     ensures small { result ≤ 40 }
 {
-    if is_measured(season) {
-        return GAP_EACH_MEASURED;
-    }
-    GAP_EACH
+    by_tree(season, GAP_EACH_MEASURED, GAP_EACH)
 }
 
 // tenths of ppb h
+// Kept: with its season, as the definition has it.
 pub(crate) fn most_aot40(season: Season) -> u64
     ensures { result ≡ most_aot40 season }
 {

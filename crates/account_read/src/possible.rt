@@ -29,12 +29,12 @@ fn broken(season: Season) -> bool
 }
 
 // Tree 7 without parameters, and yet a kind, a ceiling or hours.
-fn unmeasured(season: Season, kind: HourKind, hours: u16) -> bool
+fn unmeasured(season: Season, kind: Option<HourKind>, hours: u16) -> bool
     ensures { result ≡ unmeasured_in season kind hours }
 {
     limits::is_measured(season)
         && !measured::is_fed(season.parameters)
-        && (kind != HourKind::None || season.ceiling != 0 || 0 < hours)
+        && (kind.is_some() || season.ceiling != 0 || 0 < hours)
 }
 
 // Warmth without parameters.
@@ -48,12 +48,9 @@ fn warmth_alone(season: Season) -> bool
 pub fn total_out(hours: u16, total: i16) -> bool
     ensures { result ≡ total_out hours total }
 {
-    let n = frames::complement(total) as u32;
-    if n < 32768 {
-        600 * (hours as u32) < n
-    } else {
-        500 * (hours as u32) < 65536 - n
-    }
+    let n = i32::from(hours);
+    let t = i32::from(total);
+    600 * n < t || t < -500 * n
 }
 
 // A temperature sum or a running total that no hours give, or any without warmth.
@@ -118,10 +115,10 @@ fn sums_out(season: Season, s: Sums) -> bool
 }
 
 // Hours without a kind, or a kind without hours.
-fn kind_out(kind: HourKind, hours: u16) -> bool
+fn kind_out(kind: Option<HourKind>, hours: u16) -> bool
     ensures { result ≡ kind_out kind hours }
 {
-    if kind == HourKind::None {
+    if kind.is_none() {
         0 < hours
     } else {
         hours == 0

@@ -1,8 +1,8 @@
 -- AOT40's two numbers over hours in a row: a missing ozone is read as 0 for the lower one, as the ceiling for the upper one (W-207); what they are at most.
-use Rattle.std.specs.Prelude.{Option, Some, None}
+use Rattle.std.specs.Prelude.{Option}
 use Prim.Native.Nat.{ℕ, ◌+◌, ◌-◌, ◌*◌, ◌≤◌}
 use mathlib.Core.Path.{◌≡◌, refl}
-use mathlib.Core.Bool.{Bool, true, false, cond}
+use mathlib.Core.Bool.{cond}
 use mathlib.Core.List.{List, [], ◌∷◌}
 use native.Mathlib.Omega.{arith}
 use Rattle.records.specs.declared.Hour.{Hour}
@@ -21,33 +21,24 @@ use Rattle.account_spec.specs.declared.Carried.{Carried}
 use Rattle.account_spec.specs.Hours.{ceiling_in, carried_after, hour_sums, sums_of}
 use Rattle.account_spec.specs.Enclosed.{AllChecked}
 use Rattle.account_spec.specs.Book.{counted_of, excess_over}
-use Rattle.account_spec.proofs.SumsLaws.{by-counted, hour-figure}
 
 -- ---- what they are
 
-excess-cond : (t : Bool) (h : Hour) (hs : List Hour) → excess_over (cond t (h ∷ hs) hs) ≡ cond t (excess h) 0 + excess_over hs
-unfolding excess_over
-excess-cond true h hs = refl
-excess-cond false h hs = omega arith
-
 -- AOT40 of an hour and the next ones
 pub excess-cons : (h : Hour) (hs : List Hour) → excess_over (counted_of (h ∷ hs)) ≡ cond (is_counted h) (excess h) 0 + excess_over (counted_of hs)
-unfolding counted_of
-excess-cons h hs = excess-cond (is_counted h) h (counted_of hs)
+unfolding counted_of excess_over
+excess-cons h hs = grind arith
 
 module _ (stand : Outcome Stand) where
   pub least-is : (c : Carried) (hs : List Hour) → (sums_of stand c hs).least ≡ excess_over (counted_of (all_read_as 0 hs))
-  unfolding sums_of counted_of excess_over
+  unfolding sums_of counted_of excess_over hour_sums
   least-is c [] = refl
-  least-is c (h ∷ hs) =
-      omega (arith, hour-figure stand (λ s. s.least) c h refl, least-is (carried_after stand c h) hs, excess-cons (read_as 0 h) (all_read_as 0 hs))
+  least-is c (h ∷ hs) = grind (arith, least-is (carried_after stand c h) hs)
 
   pub most-is : (c : Carried) (hs : List Hour) → (sums_of stand c hs).most ≡ excess_over (counted_of (all_read_as (ceiling_in stand) hs))
-  unfolding sums_of counted_of excess_over
+  unfolding sums_of counted_of excess_over hour_sums
   most-is c [] = refl
-  most-is c (h ∷ hs) =
-      let ceiling = ceiling_in stand in
-      omega (arith, hour-figure stand (λ s. s.most) c h refl, most-is (carried_after stand c h) hs, excess-cons (read_as ceiling h) (all_read_as ceiling hs))
+  most-is c (h ∷ hs) = grind (arith, most-is (carried_after stand c h) hs)
 
 -- ---- what they are at most
 
@@ -61,27 +52,19 @@ pub excess-le : (season : Season) (m : ℕ) (h : Hour) → m ≤ 5000 → checke
 excess-le season m h few passed = omega (arith, (checked-passed (Record.Hour (read_as m h)) (read-passed m h few passed)).ozone)
 
 width-le : (m : ℕ) (o : Option ℕ) → m ≤ 5000 → tenths_or m o - 400 ≤ tenths_or 0 o - 400 + 4600 * cond (is_missing o) 1 0
-width-le m (Some n) few = omega arith
-width-le m None few = omega arith
+width-le m o few = grind arith
 
 module _ (season : Season) (stand : Outcome Stand) (few : ceiling_in stand ≤ 5000) where
   hour-aot40 : (c : Carried) (h : Hour) → checked (Record.Hour h) ≡ accepted tt → Aot40In season (hour_sums stand c h)
   unfolding hour_sums
   hour-aot40 c h passed =
-      let ozone = h.ozone in
       let nothing : 0 ≤ ceiling_in stand = omega arith in
-      by-counted (Aot40In season) (is_counted h) _
-      (record {
-        order = omega (arith, tenths_or-mono ozone nothing);
-        most = omega (arith, excess-le season (ceiling_in stand) h few passed);
-        width = width-le (ceiling_in stand) ozone few;
-      })
-      (record { order = omega arith; most = omega arith; width = omega arith })
+      let order = tenths_or-mono h.ozone nothing in
+      let most = excess-le season (ceiling_in stand) h few passed in
+      let width = width-le (ceiling_in stand) h.ozone few in
+      record { order = grind arith; most = grind arith; width = grind arith }
 
   pub aot40-in : (c : Carried) (hs : List Hour) → AllChecked hs → Aot40In season (sums_of stand c hs)
   unfolding sums_of
-  aot40-in c [] all = record { order = omega arith; most = omega arith; width = omega arith }
-  aot40-in c (h ∷ hs) all =
-      let one = hour-aot40 c h all.0 in
-      let rest = aot40-in (carried_after stand c h) hs all.1 in
-      record { order = omega arith; most = omega arith; width = omega arith }
+  aot40-in c [] all = grind arith
+  aot40-in c (h ∷ hs) all = grind (arith, hour-aot40 c h all.0, aot40-in (carried_after stand c h) hs all.1)

@@ -1,26 +1,23 @@
 -- Sums that enclose doses and AOT40 enclose them added up; so do the sums of any hours in a row that row 10 lets pass, for every filling, from what those before
 -- them left.
 use Prim.Native.Nat.{ℕ, ◌+◌, ◌-◌, ◌*◌, ◌≤◌, max}
-use mathlib.Core.Bool.{Bool, true, false, cond}
-use mathlib.Core.Path.{◌≡◌, refl, sym, ap, subst, ◌∙◌}
+use mathlib.Core.Path.{◌≡◌, refl, sym, ap, subst}
 use mathlib.Core.List.{List, [], ◌∷◌, ◌++◌}
 use native.Mathlib.Nat.{mul-le-mul_right}
 use native.Mathlib.Omega.{arith}
 use Rattle.exact.specs.Frac.{Frac, ◌⊕◌}
 use Rattle.exact.proofs.FracLaws.{≼_trans, ⊕-mono, ⊕-low, ⊕-high}
-use Rattle.trees.specs.declared.Figures.{Figures}
 use Rattle.trees.specs.Sound.{Sound}
 use Rattle.records.specs.declared.Air.{Air}
 use Rattle.records.specs.declared.Hour.{Hour}
-use Rattle.records.specs.Answers.{Outcome, accepted, refused, onward}
+use Rattle.records.specs.Answers.{Outcome, accepted}
 use Rattle.records.specs.Ozone.{all_read_as, Fills, AllFill}
 use Rattle.records.proofs.OzoneLaws.{read_is}
 use Rattle.flux_spec.specs.declared.Stand.{Stand}
-use Rattle.flux_spec.specs.HourDose.{tree_of, stand_of}
 use Rattle.flux_spec.specs.Enclosure.{most_dose, gap_most}
 use Rattle.account_spec.specs.declared.Season.{Season}
 use Rattle.account_spec.specs.declared.Sums.{Sums}
-use Rattle.account_spec.specs.Limits.{is_measured, most_hour, gap_each}
+use Rattle.account_spec.specs.Limits.{most_hour, gap_each}
 use Rattle.account_spec.specs.declared.Carried.{Carried}
 use Rattle.account_spec.specs.Hours.{no_sums, plus, stand_in, ceiling_in, carried_after, sums_of, pod_of}
 use Rattle.account_spec.specs.Enclosed.{AllChecked, AllMost, AllDosed, AllRead, gap_hour, Encloses, SumsSized, HoursEnclosed}
@@ -44,39 +41,25 @@ plus-encloses e f =
                 ⊕-low (≼_trans e.low.under (e.grows e.low.at k (omega arith))) (≼_trans f.low.under (f.grows f.low.at k (omega arith)));
           };
       high = record { every = λ j. ⊕-high (e.high.every j) (f.high.every j) };
-      least = omega (arith, e.least, f.least);
-      most = omega (arith, e.most, f.most);
+      least = omega arith;
+      most = omega arith;
       grows = λ j l h. ⊕-mono (e.grows j l h) (f.grows j l h);
     }
 
 plus-sized : {apart each : ℕ} {s t : Sums} → SumsSized apart each s → SumsSized apart each t → SumsSized apart each (plus s t)
 plus-sized {apart} {each} {s} {t} e f =
-    let read : s.counted + t.counted - (s.missing + t.missing) ≡ s.counted - s.missing + (t.counted - t.missing) = omega (arith, e.missing, f.missing) in
-    record {
-      missing = omega (arith, e.missing, f.missing);
-      order = omega (arith, e.order, f.order);
-      gap = rw read (omega (arith, e.gap, f.gap));
-      most = omega (arith, e.most, f.most);
-    }
+    let read : s.counted + t.counted - (s.missing + t.missing) ≡ s.counted - s.missing + (t.counted - t.missing) = omega arith in
+    record { missing = omega arith; order = omega arith; gap = rw read (omega arith); most = omega arith }
 
 -- by a greater gap
 sized-more : {a b each : ℕ} {s : Sums} → a ≤ b → SumsSized a each s → SumsSized b each s
-sized-more {s = s} wide e = record {
-  missing = e.missing;
-  order = e.order;
-  gap = omega (arith, e.gap, mul-le-mul_right (s.counted - s.missing) wide);
-  most = e.most;
-}
+sized-more {s = s} wide e = grind (arith, mul-le-mul_right (s.counted - s.missing) wide)
 
 -- within row 13's gap
-gap-wide : (seventh : Bool) → cond seventh 6 2 ≤ cond seventh 40 4
-gap-wide true = omega arith
-gap-wide false = omega arith
-
 pub sized-gap :
     (season : Season) {s : Sums} → SumsSized (gap_hour season) (most_hour season) s →
     s.upper ≤ s.lower + (gap_each season * (s.counted - s.missing) + most_hour season * s.missing)
-sized-gap season e = (sized-more (gap-wide (is_measured season)) e).gap
+sized-gap season e = (sized-more (grind arith) e).gap
 
 -- ---- hours in a row
 
@@ -156,25 +139,20 @@ hours-enclosed season few c (h ∷ hs) all =
 -- the season's ceiling is the stand's, where there are hours
 
 ceiling-is : (season : Season) (h : Hour) (hs : List Hour) → AllDosed season (h ∷ hs) → ceiling_in (stand_in season) ≡ season.ceiling
-ceiling-is season h hs all = ap ceiling_in all.0.1 ∙ (season-stand season all.0.0 all.0.1).ceiling
+ceiling-is season h hs all = rw all.0.1 (season-stand season all.0.0 all.0.1).ceiling
 
 pub season-fill :
     (season : Season) (hs fs : List Hour) → AllDosed season hs → AllFill season.ceiling hs fs → AllFill (ceiling_in (stand_in season)) hs fs
 season-fill season [] fs all AllFill.none = AllFill.none
-season-fill season (h ∷ hs) fs all fill = subst (λ (n : ℕ). AllFill n (h ∷ hs) fs) (sym (ceiling-is season h hs all)) fill
+season-fill season (h ∷ hs) fs all fill = rw (ceiling-is season h hs all) fill
 
 pub season-read : (season : Season) (hs : List Hour) → AllDosed season hs → all_read_as (ceiling_in (stand_in season)) hs ≡ all_read_as season.ceiling hs
 season-read season [] all = refl
 season-read season (h ∷ hs) all = ap (λ (n : ℕ). all_read_as n (h ∷ hs)) (ceiling-is season h hs all)
 
-tree-few : (tree : Outcome Figures) (season : Season) → season.ceiling ≤ 5000 →
-    ceiling_in (onward tree (λ f. accepted (stand_of f (record { warmth = season.warmth; sum = 0 }) season.header.first season.header.last season.ceiling))) ≤ 5000
-tree-few (accepted f) season few = few
-tree-few (refused w) season few = omega arith
-
 season-few : (season : Season) → season.ceiling ≤ 5000 → ceiling_in (stand_in season) ≤ 5000
 unfolding stand_in
-season-few season few = tree-few (tree_of season.parameters season.header.tree) season few
+season-few season few = grind arith
 
 -- row 13 lets their sums pass
 pub hours-in :

@@ -1,6 +1,5 @@
 -- One hour: its sums enclose the dose and AOT40 of every filling. All that is used of `flux_spec`'s pair is here: `enclosure.pair` and `enclosure.trees`.
-use Rattle.std.specs.Prelude.{Some}
-use Prim.Native.Nat.{ℕ, ◌+◌, ◌-◌, ◌*◌, ◌≤◌}
+use Prim.Native.Nat.{ℕ, ◌≤◌}
 use mathlib.Core.Path.{◌≡◌, refl, sym, ap, subst}
 use mathlib.Core.Bool.{Bool, true, false, cond}
 use native.Mathlib.Nat.{le_trans, mul-le-mul_right}
@@ -15,7 +14,7 @@ use Rattle.records.specs.declared.Air.{Air}
 use Rattle.records.specs.declared.Hour.{Hour}
 use Rattle.records.specs.declared.Record.{Record}
 use Rattle.records.specs.Answers.{accepted}
-use Rattle.records.specs.Ozone.{is_missing, Fills}
+use Rattle.records.specs.Ozone.{Fills}
 use Rattle.records.specs.Ranges.{checked}
 use Rattle.records.proofs.AnswerLaws.{accepted-same, onward-passed}
 use Rattle.records.proofs.OzoneLaws.{filling-within}
@@ -31,10 +30,9 @@ use Rattle.account_spec.specs.declared.Season.{Season}
 use Rattle.account_spec.specs.declared.Sums.{Sums}
 use Rattle.account_spec.specs.Limits.{is_measured, most_hour}
 use Rattle.account_spec.specs.declared.Carried.{Carried}
-use Rattle.account_spec.specs.Hours.{stand_in, stand_at, pair_of, counted_sums, uncounted_sums, hour_sums, hour_pod}
+use Rattle.account_spec.specs.Hours.{stand_in, stand_at, pair_of, counted_sums, hour_sums, hour_pod}
 use Rattle.account_spec.specs.Enclosed.{HasDose, gap_hour, Encloses, SumsSized}
 use Rattle.account_spec.specs.Steps.{Dosable}
-use Rattle.account_spec.proofs.SumsLaws.{by-counted}
 
 -- ---- a number below one that is not above the dose, and above one that is not below it
 
@@ -58,22 +56,7 @@ none-encloses s l u a = record {
 }
 
 pub none-sized : (apart each : ℕ) (s : Sums) → s.missing ≡ 0 → s.lower ≡ 0 → s.upper ≡ 0 → SumsSized apart each s
-none-sized apart each s m l u = record { missing = omega arith; order = omega arith; gap = omega arith; most = omega arith }
-
-cond-encloses :
-    (t : Bool) (s : Sums) (dose : ℕ → Frac) (aot40 : ℕ) → Encloses s dose aot40 →
-    Encloses (cond t s uncounted_sums) (λ k. cond t (dose k) (natural 0)) (cond t aot40 0)
-cond-encloses true s dose aot40 e = e
-cond-encloses false s dose aot40 e = none-encloses uncounted_sums refl refl refl
-
-one-le : (t : Bool) → cond t 1 0 ≤ 1
-one-le true = omega arith
-one-le false = omega arith
-
--- the gap of an hour with ozone, and of one without
-gap-le : (apart each lower upper : ℕ) (t : Bool) → (t ≡ false → upper ≤ lower + apart) → upper ≤ each → upper ≤ lower + (apart * (1 - cond t 1 0) + each * cond t 1 0)
-gap-le apart each lower upper true near most = omega arith
-gap-le apart each lower upper false near most = omega (arith, near refl)
+none-sized apart each s m l u = grind arith
 
 module _
     (stand : Stand) (sound : Sound stand.figures) (few : stand.ceiling ≤ 5000) (c : Carried) (h : Hour)
@@ -102,25 +85,14 @@ module _
     pub hour-encloses :
         (f : Hour) → Fills stand.ceiling h f → Encloses (hour_sums (accepted stand) c h) (hour_pod (accepted stand) c f) (cond (is_counted f) (excess f) 0)
     unfolding hour_sums hour_pod pair_of
-    hour-encloses f (Fills.given e) = cond-encloses (is_counted h) _ _ _ (counted-encloses f (Fills.given e))
-    hour-encloses f (Fills.filled e n le) = cond-encloses (is_counted h) _ _ _ (counted-encloses f (Fills.filled e n le))
+    hour-encloses f (Fills.given e) = grind (arith, counted-encloses f (Fills.given e), none-encloses)
+    hour-encloses f (Fills.filled e n le) = grind (arith, counted-encloses f (Fills.filled e n le), none-encloses)
 
     pub hour-sized : (each : ℕ) → most_dose stand.figures.gmax h.air ≤ each → SumsSized apart each (hour_sums (accepted stand) c h)
     unfolding hour_sums pair_of
-    hour-sized each room =
-        by-counted (SumsSized apart each) (is_counted h) _
-        (record {
-          missing = one-le (is_missing h.ozone);
-          order = pair.order;
-          gap = gap-le apart each _ _ (is_missing h.ozone) (λ given. omega (arith, pair.gap given, gap_dose-most stand.figures h.air)) (le_trans pair.most room);
-          most = omega (arith, pair.most, room);
-        })
-        (none-sized apart each uncounted_sums refl refl refl)
+    hour-sized each room = grind (arith, pair.gap, gap_dose-most stand.figures h.air, pair.order, pair.most)
 
 -- ---- one hour of a season
-
-tree-same : {f g : Figures} → Some f ≡ Some g → f ≡ g
-tree-same e = cc
 
 -- a tree's figures within the season's limits
 record FiguresIn (season : Season) (f : Figures) : Type 0 where
@@ -132,7 +104,8 @@ figures-by : (season : Season) (f : Figures) (seventh : Bool) → is_measured se
 unfolding figures_in
 figures-by season f true e named =
     let own = enclosure.measured season.parameters (named.measured e) in
-    let same : measured_figures season.parameters ≡ f = tree-same (rw e at named.chosen) in
+    let chosen = rw e at named.chosen in
+    let same : measured_figures season.parameters ≡ f = cc in
     rw (← same) (record { sound = own.sound; gap = rw e own.gap; most = λ air. rw e (own.most air) })
 figures-by season f false e named =
     let own = enclosure.trees season.header.tree f (rw e at named.chosen) in

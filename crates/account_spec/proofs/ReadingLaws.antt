@@ -26,9 +26,7 @@ use Rattle.account_spec.proofs.VerdictLaws.{word-is, exceeded-is, below-is, abov
 -- the gap where nothing is missing
 none-missing :
     (each most counted missing lower upper : ℕ) → missing ≡ 0 → upper ≤ lower + (each * (counted - missing) + most * missing) → upper ≤ lower + each * counted
-none-missing each most counted missing lower upper none gap =
-    let same : counted - missing ≡ counted = omega (arith, none) in
-    omega (arith, gap, ap (λ n. each * n) same, ap (λ n. most * n) none)
+none-missing each most counted missing lower upper none gap = grind arith
 
 module _ (b : Book) (p : Proper b) where
   pub word : word_of (totals_of (account_of b)).verdict ≡ verdict_word b.phase b.season (book_sums b)

@@ -4,11 +4,12 @@ use mathlib.Core.Path.{◌≡◌, refl, sym, subst}
 use mathlib.Core.Bool.{Bool, true, false, not, ◌&&◌}
 use mathlib.Core.List.{List, [], ◌∷◌}
 use mathlib.Core.Logic.{⊎_elim}
-use borrow.Author.Tests.{eqb-true, not-true}
+use borrow.Author.Tests.{eqb-true}
+use native.Mathlib.Omega.{arith}
 use lib.Dec.{eqb}
+use Rattle.std.proofs.lemmas.Bool.Decides.{nat_tests}
 use lib.ListN.{get_or}
 use Rattle.records.specs.declared.Raw.{Raw}
-use Rattle.records.specs.declared.RawHour.{RawHour}
 use Rattle.records.specs.declared.Refusal.{Refusal}
 use Rattle.records.specs.declared.Refusal.TheVariants.{Length, Digit, Kind, Turn, Tree, Year, Period, Level, Due, Range, Count, Buffer, Account, Place, Mixed, Tried, Ceiling, NoCeiling, Parameter, Warmth}
 use Rattle.records.specs.Answers.{refused, row_of}
@@ -20,32 +21,26 @@ use Rattle.frames.specs.Kinds.{among}
 use Rattle.frames.specs.Frames.{parsed_of, record_of}
 use Rattle.frames.specs.Rows.{one_of}
 use Rattle.frames.proofs.KindLaws.{among-passes}
-use Rattle.frames.proofs.RowLaws.{Only, accepted-only, refused-only, row-only, onward-only, only_wider, parsed-only, record-only}
+use Rattle.frames.proofs.RowLaws.{Only, accepted-only, row-only, onward-only, only_wider, parsed-only, record-only}
 use Rattle.account_spec.specs.declared.State.{State}
 use Rattle.account_spec.specs.HourKinds.{is_mixed}
 use Rattle.account_spec.specs.Rules.{out_of_turn, is_due, count_wrong, due_of, turn_of, answer_of}
 use Rattle.account_spec.specs.Book.{Book, book_state, book_answer}
-use Rattle.account_spec.proofs.RuleLaws.{mixed-out, due-out, lacks-out, due_in}
 
 -- row 10 besides
 abbrev answer_rows : List ℕ
 answer_rows = 1 ∷ 2 ∷ 3 ∷ 4 ∷ 5 ∷ 6 ∷ 7 ∷ 8 ∷ 9 ∷ 11 ∷ 15 ∷ 17 ∷ 18 ∷ 24 ∷ 25 ∷ []
 
 module _ (s : State) where
-  hour-only :
-      (h : RawHour) (m t l : Bool) → is_mixed s.kind h.air ≡ m → is_due s h ≡ t → lacks_ceiling s.season.ceiling (ozone_of h.ozone) ≡ l →
-      Only answer_rows (due_of s (Raw.Hour h))
-  unfolding among
-  hour-only h true t l m e c = subst (Only answer_rows) (mixed-out s h m) (refused-only 15 0 refl)
-  hour-only h false false l m e c = subst (Only answer_rows) (due-out s h m e) (refused-only 9 0 refl)
-  hour-only h false true true m e c = subst (Only answer_rows) (lacks-out s h m e c) (refused-only 18 0 refl)
-  hour-only h false true false m e c = subst (Only answer_rows) (due_in s h m e c) (only_wider refl (record-only _ (Raw.Hour h)))
-
   -- by the frame that rows 1 to 3 let pass
   frame-only : (frame : Raw) → Only answer_rows (turn_of s frame)
   unfolding turn_of due_of among
   frame-only (Raw.Header h) = row-only (out_of_turn s (Raw.Header h)) _ _ _ refl (only_wider refl (record-only _ (Raw.Header h)))
-  frame-only (Raw.Hour h) = row-only (out_of_turn s (Raw.Hour h)) _ _ _ refl (hour-only h _ _ _ refl refl refl)
+  frame-only (Raw.Hour h) =
+      row-only (out_of_turn s (Raw.Hour h)) _ _ _ refl
+      (row-only (is_mixed s.kind h.air) _ _ _ refl
+      (row-only (not (is_due s h)) _ _ _ refl
+      (row-only (lacks_ceiling s.season.ceiling (ozone_of h.ozone)) _ _ _ refl (only_wider refl (record-only _ (Raw.Hour h))))))
   frame-only (Raw.End x) =
       row-only (out_of_turn s (Raw.End x)) _ _ _ refl
       (row-only (count_wrong s x.hours) _ _ _ refl (accepted-only _))
@@ -79,14 +74,8 @@ refusal_at n = get_or refusals n Account
 abbrev is_case : ℕ → Bool
 is_case n = eqb (row_of (refusal_at n)).0 n && eqb (row_of (refusal_at n)).1 0 && not (eqb n 13)
 
-pair_is : {w : ℕ × ℕ} {n f : ℕ} → w.0 ≡ n → w.1 ≡ f → w ≡ (n, f)
-pair_is p q i = (p i, q i)
-
 case_row : (n : ℕ) → is_case n ≡ true → RefusalRow n 0
-case_row n e =
-    let p = and_both (eqb (row_of (refusal_at n)).0 n && eqb (row_of (refusal_at n)).1 0) (not (eqb n 13)) e in
-    let q = and_both (eqb (row_of (refusal_at n)).0 n) _ p.0 in
-    record { refusal = refusal_at n; is = pair_is (eqb-true _ n q.0) (eqb-true _ 0 q.1); possible = not-true (eqb n 13) p.1 }
+case_row n e = record { refusal = refusal_at n; is = grind (arith, nat_tests); possible = grind (arith, nat_tests) }
 
 one-row : (n f : ℕ) → one_of answer_rows n f ≡ true → RefusalRow n f
 unfolding among

@@ -1,10 +1,10 @@
 -- The answers to a line and to a reading, by what each test says.
 use Rattle.std.specs.Prelude.{Result, Ok, Err}
-use mathlib.Core.Path.{◌≡◌, refl, ◌∙◌}
-use mathlib.Core.Bool.{Bool, true, false, not}
+use mathlib.Core.Path.{◌≡◌, refl}
+use mathlib.Core.Bool.{Bool, true, false}
 use Prim.Native.Nat.{ℕ}
 use mathlib.Core.List.{List}
-use borrow.Author.Tests.{not-false}
+use native.Mathlib.Omega.{arith}
 use Rattle.trees.specs.declared.Warmth.{Warmth}
 use Rattle.records.specs.declared.Header.{Header}
 use Rattle.records.specs.declared.Raw.{Raw}
@@ -13,15 +13,14 @@ use Rattle.records.specs.declared.End.{End}
 use Rattle.records.specs.declared.Ceiling.{Ceiling}
 use Rattle.records.specs.declared.Record.{Record}
 use Rattle.records.specs.declared.Refusal.{Refusal}
-use Rattle.records.specs.Answers.{accepted, refused, row, row_of, outcome_of}
+use Rattle.records.specs.Answers.{accepted, refused, row_of, outcome_of}
 use Rattle.measured.specs.declared.Parameters.{Parameters}
 use Rattle.records.specs.Parameters.{parameter_out}
 use Rattle.records.specs.Ranges.{checked, lacks_ceiling, ramps_out}
-use Rattle.records.proofs.AnswerLaws.{accepted-same, row-passed, onward-passed}
 use Rattle.frames.specs.Layout.{ozone_of}
 use Rattle.frames.specs.Frames.{parsed_of, sound_of, record_of}
 use Rattle.account_spec.specs.declared.Phase.{Phase}
-use Rattle.account_spec.specs.declared.Phase.TheVariants.{Fresh, Open, Closed}
+use Rattle.account_spec.specs.declared.Phase.TheVariants.{Fresh}
 use Rattle.account_spec.specs.declared.Account.{Account}
 use Rattle.account_spec.specs.declared.State.{State}
 use Rattle.account_spec.specs.declared.Totals.{Totals}
@@ -29,13 +28,10 @@ use Rattle.account_spec.specs.HourKinds.{is_mixed}
 use Rattle.account_spec.specs.Account.{is_fresh, impossible}
 use Rattle.account_spec.specs.Rules.{is_due, count_wrong, due_of, turn_of, answer_of, state_of, entered, feed_of, unread_row, feed_frame_of, Answers, Feeds, Fed}
 use Rattle.account_spec.specs.Reading.{totals_of, read_of, Reads}
-use Rattle.account_spec.specs.Steps.{refusal_in}
 
 -- the `else` of a `let` that asks for a fresh phase
 pub fresh-false : (p : Phase) → (p ≡ Fresh → ⊥) → is_fresh p ≡ false
-fresh-false Fresh k = absurd (k refl)
-fresh-false Open k = refl
-fresh-false Closed k = refl
+fresh-false p k = grind arith
 
 -- ---- a header's rows; row 15, then 9 and 18, before row 10; row 11; row 17; row 25; row 24, then 7
 
@@ -73,11 +69,7 @@ module _ (s : State) where
 
     pub hour-passed : (r : Record) → due_of s (Raw.Hour raw) ≡ accepted r → HourPassed r
     unfolding due_of
-    hour-passed r e =
-        let mixed = row-passed (is_mixed s.kind raw.air) _ _ r e in
-        let due = row-passed (not (is_due s raw)) _ _ r mixed.1 in
-        let has = row-passed (lacks_ceiling s.season.ceiling (ozone_of raw.ozone)) _ _ r due.1 in
-        record { one-kind = mixed.0; due = not-false (is_due s raw) due.0; has = has.0; is = has.1 }
+    hour-passed r e = grind arith
 
   module _ (x : End) where
     pub count-out : count_wrong s x.hours ≡ true → refused (11, 0) ≡ due_of s (Raw.End x)
@@ -118,15 +110,7 @@ module _ (s : State) where
 
     pub parameters-passed : (r : Record) → due_of s (Raw.Parameters p) ≡ accepted r → ParametersPassed r
     unfolding due_of record_of sound_of checked
-    parameters-passed r e =
-        let read = onward-passed (sound_of (Record.Parameters p)) _ r e in
-        let sound = onward-passed (row 24 (parameter_out p) (accepted tt)) _ read.0 read.1 in
-        let ramps = row-passed (ramps_out s.season.header p) _ _ r read.2 in
-        record {
-          same = accepted-same sound.2 ∙ accepted-same ramps.1;
-          sound = (row-passed (parameter_out p) _ _ sound.0 sound.1).0;
-          ramps = ramps.0;
-        }
+    parameters-passed r e = grind arith
 
 -- ---- feeding
 
@@ -136,13 +120,13 @@ module _ (a : Account) (frame : Raw) where
   answers-impossible e = record { answers = rw e; leaves = rw e }
 
   module _ (possible : impossible a ≡ false) (d : Result Record Refusal) (decoded : outcome_of d ≡ turn_of (state_of a) frame) where
-    pub answers-refused : (r s : Refusal) → d ≡ Err s → r ≡ refusal_in d → Answers a (feed_frame_of a frame) (Err (r, a))
+    pub answers-refused : (r : Refusal) → d ≡ Err r → Answers a (feed_frame_of a frame) (Err (r, a))
     unfolding feed_frame_of
-    answers-refused r s e i = record { answers = rw (possible, ← decoded, i, e); leaves = rw (possible, ← decoded, e) }
+    answers-refused r e = grind arith
 
     pub answers-accepted : (r : Record) (b : Account) → d ≡ Ok r → b ≡ entered a r → Answers a (feed_frame_of a frame) (Ok b)
     unfolding feed_frame_of
-    answers-accepted r b e i = record { answers = rw (possible, ← decoded, e, i); leaves = rw (possible, ← decoded, e, i) }
+    answers-accepted r b e i = grind arith
 
 -- a line is its frame, or refused by rows 1 to 3
 module _ (a : Account) (l : List ℕ) (p : Result Raw Refusal) (parsed : outcome_of p ≡ parsed_of l) where

@@ -1,5 +1,5 @@
 -- The account, and row 13 (document 01, "Account" and "Turned-back lines").
-use Rattle.std.specs.Prelude.{ℕ, suc, ◌+◌, ◌-◌, ◌*◌, ◌/◌, ◌%◌, Bool, true, false, not, cond, ◌&&◌, ◌||◌, List, [], ◌∷◌, ◌++◌, eqb, ltb, ℤ, pos, negsuc}
+use Rattle.std.specs.Prelude.{ℕ, suc, ◌+◌, ◌-◌, ◌*◌, ◌/◌, ◌%◌, Bool, true, false, not, cond, ◌&&◌, ◌||◌, List, [], ◌∷◌, ◌++◌, eqb, ltb, ℤ, pos, negsuc, Option, Some, None}
 use Rattle.records.specs.declared.Record.{Record}
 use Rattle.records.specs.Answers.{Outcome, accepted, refused}
 use Rattle.measured.specs.Parameters.{no_parameters, parameter_numbers, is_fed, all_zero}
@@ -23,7 +23,7 @@ abbrev pub no_season : Season
 no_season = record { header = record { tree = 0; days = 0; first = 0; last = 0; level = 0 }; ceiling = 0; parameters = no_parameters; warmth = no_warmth }
 
 abbrev pub fresh_account : Account
-fresh_account = record { phase = Fresh; season = no_season; kind = HourKind.None; sums = no_sums; carried = none_carried }
+fresh_account = record { phase = Fresh; season = no_season; kind = None; sums = no_sums; carried = none_carried }
 
 abbrev pub is_fresh : Phase → Bool
 is_fresh Fresh = true
@@ -40,6 +40,10 @@ abbrev pub phase_number : Phase → ℕ
 phase_number Fresh = 0
 phase_number Open = 1
 phase_number Closed = 2
+
+-- the phase with that number
+abbrev pub numbered_phase : ℕ → Option Phase
+numbered_phase n = cond (eqb n 0) (Some Fresh) (cond (eqb n 1) (Some Open) (cond (eqb n 2) (Some Closed) None))
 
 -- open or closed
 abbrev pub is_begun : Phase → Bool
@@ -113,7 +117,7 @@ abbrev pub awaits : Season → Bool
 awaits season = is_measured season && not (is_fed season.parameters)
 
 -- and yet a kind, a ceiling or hours
-abbrev pub unmeasured_in : Season → HourKind → ℕ → Bool
+abbrev pub unmeasured_in : Season → Option HourKind → ℕ → Bool
 unmeasured_in season kind hours = awaits season && (not (eqb (kind_number kind) 0) || not (eqb season.ceiling 0) || ltb 0 hours)
 
 -- warmth without parameters (W-213)

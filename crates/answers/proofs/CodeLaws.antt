@@ -1,7 +1,7 @@
 -- Codes and answers are one to one; a code's answer by its tests.
-use Prim.Native.Nat.{ℕ, ◌+◌, ◌*◌, ◌/◌, ◌%◌, ◌≤◌, ◌<◌}
+use Prim.Native.Nat.{ℕ, ◌+◌, ◌*◌, ◌/◌, ◌%◌, ◌≤◌}
 use mathlib.Core.Path.{◌≡◌, refl, sym, ap, ◌∙◌}
-use mathlib.Core.Bool.{Bool, true, false, cond, ◌&&◌, ◌||◌, or-true, or-false}
+use mathlib.Core.Bool.{Bool, true, false, cond, ◌&&◌, ◌||◌, or-true}
 use Rattle.std.specs.Prelude.{Option, Some, None}
 use native.Mathlib.Omega.{arith}
 use borrow.Author.Tests.{eqb-true, leb-true, ne_eqb}
@@ -24,21 +24,6 @@ module _ (row field : ℕ) (e : is_row row field ≡ true) where
 
   row-le : row ≤ 26
   row-le = leb-true row 26 (and_both (leb 1 row) (leb row 26) bounds.0).1
-
-  -- a row without a field has field 0
-  pub row_plain : (n : ℕ) → row ≡ n → eqb n 10 ≡ false → eqb n 26 ≡ false → ◌≡◌ {A = ℕ × ℕ} (n, 0) (row, field)
-  row_plain n is not-10 not-26 =
-      let ten : eqb row 10 ≡ false = ap (λ (k : ℕ). eqb k 10) is ∙ not-10 in
-      let twenty-six : eqb row 26 ≡ false = ap (λ (k : ℕ). eqb k 26) is ∙ not-26 in
-      let none : field ≡ 0 = eqb-true field 0 (simp (ten, twenty-six, or-false) at bounds.1) in
-      cc
-
--- the row after all others
-pub row_last : (row field : ℕ) → is_row row field ≡ true → (0 < row → 25 < row) → ◌≡◌ {A = ℕ × ℕ} (26, field) (row, field)
-row_last row field e h =
-    let above = h (row-pos row field e) in
-    let le = row-le row field e in
-    ap (λ (n : ℕ). (n, field)) (omega arith)
 
 refusal-row : (r : Refusal) → is_row (row_of r).0 (row_of r).1 ≡ true
 refusal-row Length = refl

@@ -7,8 +7,9 @@ use compare_spec::{Differences, LinePlace, NotCompared};
 use frames::Refusal;
 
 // Code 0 and the figures, or the code of a refusal with the text and its line, and zeros.
+// Kept for the C interface: a code beside its values, a text by its number.
 #[repr(C)]
-#[derive(Clone, Copy)]
+#[derive(Clone, Copy, Default)]
 pub struct ComparisonNumbers {
     pub code: u32,
     pub text: u32,
@@ -23,16 +24,15 @@ fn differing(found: Differences, line: LinePlace) -> ComparisonNumbers
     ensures { result ≡ differing found.hours found.sum (line.start, line.end) }
 {
     ComparisonNumbers {
-        code: 0,
-        text: 0,
-        line: 0,
         hours: found.hours as u32,
         sum: found.sum,
         start: line.start as u64,
         end: line.end as u64,
+        ..ComparisonNumbers::default()
     }
 }
 
+// Kept for the C interface: a row and a text as the numbers that C is told.
 fn not_compared(row: u8, text: u8, line: u64) -> ComparisonNumbers
     ensures { result ≡ not_compared row text line }
 {
@@ -40,10 +40,7 @@ fn not_compared(row: u8, text: u8, line: u64) -> ComparisonNumbers
         code: row as u32,
         text: text as u32,
         line,
-        hours: 0,
-        sum: 0,
-        start: 0,
-        end: 0,
+        ..ComparisonNumbers::default()
     }
 }
 

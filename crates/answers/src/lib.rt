@@ -1,5 +1,6 @@
 // Answers as numbers, for callers in C and Rust: a code and what it names, what reading, writing, trying, comparing and the worst stretch give.
-// A code is 0, or the row that refuses the call plus 256 times the field that rows 10 and 26 name.
+// A code is 0, or the row that refuses the call plus 256 times the field that rows 10 and 26 name; where a text's line stops a comparison or a stretch it is the
+// row alone.
 #![tactic(auto)]
 
 mod comparing;
@@ -19,9 +20,9 @@ use frames::Refusal;
 pub use stretching::{StretchNumbers, stretch_of};
 
 // What reading gives: code 0, the sums and the verdict by its number, or the code of a refusal and zeros.
-// Kept for the C interface: a code beside its values, kinds by their numbers, in each struct of this crate
+// Kept for the C interface: a code beside its values, kinds by their numbers, in each struct of this crate.
 #[repr(C)]
-#[derive(Clone, Copy)]
+#[derive(Clone, Copy, Default)]
 pub struct Readout {
     pub code: u32,
     pub verdict: u32,
@@ -35,6 +36,7 @@ pub struct Readout {
 }
 
 // What writing gives: code 0 and the bytes written, or the code of a refusal and 0.
+// Kept for the C interface: a code beside its value.
 #[repr(C)]
 #[derive(Clone, Copy)]
 pub struct Printed {
@@ -43,8 +45,9 @@ pub struct Printed {
 }
 
 // What trying a line gives: code 0, the code that the line would get and the reading that would follow, or the code of a refusal and zeros.
+// Kept for the C interface: a code beside its values.
 #[repr(C)]
-#[derive(Clone, Copy)]
+#[derive(Clone, Copy, Default)]
 pub struct Tried {
     pub code: u32,
     pub answer: u32,
@@ -85,13 +88,14 @@ pub fn of_fed(answer: Fed) -> u16
 }
 
 // Whether a refusal has this row and field.
+// Kept for the C interface: the bytes of a code, before they are a refusal.
 fn is_row(row: u8, field: u8) -> bool
     ensures { result ≡ is_row row field }
 {
-    (1 <= row) & (row <= 26) & ((field == 0) | (row == 10) | (row == 26))
+    matches!((row, field), (1..=26, 0) | (10 | 26, _))
 }
 
-// Kept: Refusal is of another crate, so no TryFrom can stand here
+// Kept: two cases have a field, so the enum has no numbers of its own, and a `TryFrom` would be this match.
 fn refusal_of(row: u8, field: u8) -> Refusal
     requires { is_row row field ≡ true }
     ensures { row_of result ≡ (row, field) }
@@ -127,6 +131,7 @@ fn refusal_of(row: u8, field: u8) -> Refusal
 }
 
 // The answer that a code names, if the number is one.
+// Kept for the C interface: a code is a number.
 pub fn answer_of(code: u16) -> Option<Result<(), Refusal>>
     ensures result_value { coded_as result ≡ coded_of code }
     ensures promise { CodePromise }
@@ -167,48 +172,41 @@ pub fn printed_of(written: Result<usize, Refusal>) -> Printed
     }
 }
 
-// Kept: Verdict is of another crate, so no From can stand here
 fn verdict_number(verdict: Verdict) -> u32
     ensures { result ≡ verdict_number verdict }
 {
-    match verdict {
-        Verdict::None => 0,
-        Verdict::Undecided => 1,
-        Verdict::Exceeded => 2,
-        Verdict::Below => 3,
-    }
+    verdict as u32
 }
 
+// Kept for the C interface: a code is a number.
 pub fn no_readout(code: u32) -> Readout
     ensures { result ≡ no_readout code }
 {
     Readout {
         code,
-        verdict: 0,
-        hours: 0,
-        counted: 0,
-        missing: 0,
-        least: 0,
-        most: 0,
-        lower: 0,
-        upper: 0,
+        ..Readout::default()
     }
 }
 
-pub fn readout_of(totals: Totals) -> Readout
-    ensures { result ≡ readout_of (accepted totals) }
-{
-    let sums = totals.sums;
-    Readout {
-        code: 0,
-        verdict: verdict_number(totals.verdict),
-        hours: sums.hours as u32,
-        counted: sums.counted as u32,
-        missing: sums.missing as u32,
-        least: sums.least,
-        most: sums.most,
-        lower: sums.lower,
-        upper: sums.upper,
+impl From<Totals> for Readout {
+    ghost from_gives = { λ totals readout. readout ≡ readout_of (accepted totals) };
+
+    // Kept for the C interface: the names and widths of the fields are those that C reads.
+    fn from(totals: Totals) -> Readout
+        ensures { result ≡ readout_of (accepted totals) }
+    {
+        let sums = totals.sums;
+        Readout {
+            verdict: verdict_number(totals.verdict),
+            hours: sums.hours as u32,
+            counted: sums.counted as u32,
+            missing: sums.missing as u32,
+            least: sums.least,
+            most: sums.most,
+            lower: sums.lower,
+            upper: sums.upper,
+            ..Readout::default()
+        }
     }
 }
 
@@ -216,17 +214,17 @@ pub fn of_reading(reading: Result<Totals, Refusal>) -> Readout
     ensures { result ≡ readout_of (outcome_of reading) }
 {
     match reading {
-        Ok(totals) => readout_of(totals),
+        Ok(totals) => Readout::from(totals),
         Err(refusal) => no_readout(code_of(refusal)),
     }
 }
 
+// Kept for the C interface: a code is a number.
 pub fn no_trial(code: u32) -> Tried
     ensures { result ≡ no_trial code }
 {
     Tried {
         code,
-        answer: 0,
-        reading: no_readout(0),
+        ..Tried::default()
     }
 }

@@ -6,8 +6,9 @@ ghost use Rattle.answers.specs.Stretching.{no_stretch, stretch_of};
 use stretch_spec::{NoStretch, WorstDays};
 
 // Code 0, found 1, the sum and its first day, or zeros where there is none yet; or the code of a refusal with the text's line, and zeros.
+// Kept for the C interface: a code and a flag beside their values.
 #[repr(C)]
-#[derive(Clone, Copy)]
+#[derive(Clone, Copy, Default)]
 pub struct StretchNumbers {
     pub code: u32,
     pub found: u32,
@@ -16,15 +17,14 @@ pub struct StretchNumbers {
     pub day: u32,
 }
 
+// Kept for the C interface: a code is a number.
 fn no_stretch(code: u32, line: u64) -> StretchNumbers
     ensures { result ≡ no_stretch code line }
 {
     StretchNumbers {
         code,
-        found: 0,
         line,
-        sum: 0,
-        day: 0,
+        ..StretchNumbers::default()
     }
 }
 
@@ -33,11 +33,10 @@ pub fn stretch_of(stretch: Result<Option<WorstDays>, NoStretch>) -> StretchNumbe
 {
     match stretch {
         Ok(Some(worst)) => StretchNumbers {
-            code: 0,
             found: 1,
-            line: 0,
             sum: worst.sum,
             day: worst.day as u32,
+            ..StretchNumbers::default()
         },
         Ok(None) => no_stretch(0, 0),
         Err(NoStretch::Stopped(stop)) => {

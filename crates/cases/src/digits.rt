@@ -4,6 +4,7 @@ ghost use Rattle.frames.specs.Digits.{value_of};
 ghost use Rattle.records.specs.Temperature.{signed_of};
 ghost use Rattle.cases.specs.Digits.{hex_at};
 
+// Kept: `frames::digit_value` says a value for every byte, so with it stand `is_digit` and the 0 as well.
 fn value(c: u8) -> u8
     ensures { result ≡ value_of c }
 {
@@ -25,7 +26,7 @@ fn digit(line: &[u8], at: usize, i: usize) -> u8
 }
 
 // What n digits from a place on say.
-// Kept: `from_str_radix` refuses what says 0 here: a byte that is no digit and a line that is too short.
+// Kept: `from_str_radix` refuses a byte that is no digit, and reads of a line cut short a smaller number; here each missing digit says 0 in its place.
 fn number(line: &[u8], at: usize, n: usize) -> u64
     requires { n ≤ 16 }
     ensures value { result ≡ hex_at n at line.now }
@@ -39,7 +40,7 @@ fn number(line: &[u8], at: usize, n: usize) -> u64
 }
 
 // What two digits from a place on say.
-// Kept: one function for every width would name the count and the type at each call, as these four do once.
+// Kept: one function for every width would name the count and the type at each call, as these five do once.
 pub fn u8_at(line: &[u8], at: usize) -> u8
     ensures { result ≡ hex_at 2 at line.now }
 {

@@ -3,10 +3,10 @@ use frames::Refusal;
 use std::fmt;
 
 // The field that a refusal names.
+// Kept: `answers` needs 0 for no field, as part of a code; here no field is no text.
 fn field_of(refusal: Refusal) -> Option<u8> {
     match refusal {
-        Refusal::Range(field) => Some(field),
-        Refusal::Float(field) => Some(field),
+        Refusal::Range(field) | Refusal::Float(field) => Some(field),
         _ => None,
     }
 }
@@ -26,6 +26,7 @@ impl fmt::Display for Row {
 }
 
 // As `refused 10 3`, the field where the refusal names one.
+// Kept: `Row` and this are two texts that outputs have, alike in the two numbers alone.
 #[derive(Clone, Copy)]
 pub struct Refused(pub Refusal);
 

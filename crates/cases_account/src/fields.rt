@@ -1,28 +1,13 @@
 // An account's fields by their numbers: 0 phase (0 fresh, 1 open, 2 closed), 1 to 5 the header's in their order, 6 ceiling, 7 kind of its hours (0 none), 8 hours,
-// 9 counted, 10 missing, 11 lower, 12 upper, 13 least, 14 most, 15 to 30 the parameters in the order of their frame (parameters.rt), 31 rise, 32 fall, 33 end, 34 sum, 35 total
+// 9 counted, 10 missing, 11 lower, 12 upper, 13 least, 14 most (counted.rt), 15 to 30 the parameters in the order of their frame (parameters.rt), 31 rise, 32 fall, 33 end, 34 sum, 35 total
 // (warmth.rt).
+// Kept: a command names a field by its number, and no derive does.
+use crate::counted::{Seven, set_sum};
 use crate::parameters::{Sixteen, set_parameter};
 use crate::warmth::{Ageing, set_carried, set_warmth};
-use account::{Account, HourKind, Phase, Season, Sums, kind_number, phase_number};
-use cases::{u8_at, u16_at, u32_at, u64_at};
+use account::{Account, HourKind, Phase, Season, kind_number, phase_number};
+use cases::{u8_at, u16_at};
 use std::fmt;
-
-fn phase_of(number: u8) -> Phase {
-    match number {
-        0 => Phase::Fresh,
-        1 => Phase::Open,
-        _ => Phase::Closed,
-    }
-}
-
-fn kind_of(number: u8) -> HourKind {
-    match number {
-        2 => HourKind::Deficit,
-        4 => HourKind::Pressure,
-        5 => HourKind::Humidity,
-        _ => HourKind::None,
-    }
-}
 
 fn set_season_field(season: &mut Season, digits: &[u8]) {
     match u8_at(digits, 0) {
@@ -36,24 +21,12 @@ fn set_season_field(season: &mut Season, digits: &[u8]) {
     }
 }
 
-fn set_sum(sums: &mut Sums, digits: &[u8]) {
-    match u8_at(digits, 0) {
-        8 => sums.hours = u16_at(digits, 2),
-        9 => sums.counted = u16_at(digits, 2),
-        10 => sums.missing = u16_at(digits, 2),
-        11 => sums.lower = u64_at(digits, 2),
-        12 => sums.upper = u64_at(digits, 2),
-        13 => sums.least = u32_at(digits, 2),
-        14 => sums.most = u32_at(digits, 2),
-        _ => (),
-    }
-}
-
-// The account with one field anew: two digits are the field's number, the digits after them what it is to be, in the field's own width.
+// The account with one field anew: two digits are the field's number, the digits after them what it is to be, in the field's own width. A number that no phase has says
+// closed, one that no kind has says none.
 pub fn with_field(mut a: Account, digits: &[u8]) -> Account {
     match u8_at(digits, 0) {
-        0 => a.phase = phase_of(u8_at(digits, 2)),
-        7 => a.kind = kind_of(u8_at(digits, 2)),
+        0 => a.phase = Phase::try_from(u8_at(digits, 2)).unwrap_or(Phase::Closed),
+        7 => a.kind = HourKind::try_from(u8_at(digits, 2)).ok(),
         1..=6 => set_season_field(&mut a.season, digits),
         8..=14 => set_sum(&mut a.sums, digits),
         15..=30 => set_parameter(&mut a.season.parameters, digits),
@@ -86,15 +59,10 @@ impl fmt::Display for Fields {
         )?;
         write!(f, "{} {} {} ", header.first, header.last, header.level)?;
         write!(f, "{} {} ", season.ceiling, kind_number(kind))?;
-        write!(f, "{} {} {} ", sums.hours, sums.counted, sums.missing)?;
         write!(
             f,
-            "{} {} {} {} ",
-            sums.lower, sums.upper, sums.least, sums.most
-        )?;
-        write!(
-            f,
-            "{} {}",
+            "{} {} {}",
+            Seven(sums),
             Sixteen(season.parameters),
             Ageing(season.warmth, carried)
         )

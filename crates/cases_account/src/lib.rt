@@ -2,9 +2,12 @@
 #![tactic(auto)]
 
 mod answers;
+mod counted;
 mod fields;
 mod parameters;
 mod warmth;
 
 pub use answers::Answer;
+pub use counted::Seven;
 pub use fields::{Fields, with_field};
+pub use trial::left_by;

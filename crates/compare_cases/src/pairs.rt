@@ -12,6 +12,7 @@ fn print_differences(rt: &impl Print, found: Differences) -> io::Result<()> {
     }
 }
 
+// Kept: the text's number, 1 or 2, is printed.
 fn print_stop(rt: &impl Print, text: u64, stop: Stop) -> io::Result<()> {
     print!(rt;
         "text {text} row {} line {}",
@@ -39,6 +40,7 @@ fn print_case(rt: &impl Print, first: &[u8], second: &[u8], tolerance: u16) -> i
     println!(rt; "]")
 }
 
+// Kept: the heads and the numbers of texts differ in the three programs that read such cases, so each has this loop.
 pub(crate) fn print_cases(rt: &impl Print, input: &[u8]) -> io::Result<()> {
     let mut rest = input;
     while let Some((head, texts)) = rest.split_at_checked(21) {

@@ -36,13 +36,9 @@ module _ (h : Header) (sound : checked (Record.Header h) ≡ accepted tt) where
   unfolding feed_of answer_of impossible entered
   fed-fresh = simp (line-is, turn_is)
 
-  size : length (frame_line made) ≡ 20
-  unfolding frame_line
-  size = refl
-
   writes-20 : (buffer : List ℕ) → 20 ≤ length buffer → write_of made (length buffer) ≡ accepted 20
-  unfolding write_of text_of
-  writes-20 buffer room = simp (sound, size, le-ltb (length buffer) 20 room)
+  unfolding write_of text_of frame_line
+  writes-20 buffer room = simp (sound, le-ltb (length buffer) 20 room)
 
   pub header-kept : HeaderKept h
   header-kept = record {

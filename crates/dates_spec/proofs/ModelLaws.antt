@@ -1,5 +1,5 @@
 -- The model's days by whole numbers, in hundredths of a day; inside row 14's ranges nothing is cut off at 0, and the extremes.
-use Prim.Native.Nat.{ℕ, ◌+◌, ◌-◌, ◌*◌, ◌/◌, ◌≤◌}
+use Prim.Native.Nat.{ℕ, ◌+◌, ◌-◌, ◌*◌, ◌/◌}
 use mathlib.Core.Path.{◌≡◌, refl}
 use native.Mathlib.Omega.{arith}
 use Rattle.exact.specs.Frac.{natural, ◌⊕◌, ◌⊗◌, ◌≈◌}
@@ -44,26 +44,12 @@ module _ (latitude height : ℕ) (p : InPlace latitude height) where
   unfolding model_end
   end_whole = record { cross = omega (arith, p) }
 
-  latest-start : first_day latitude height ≤ first_day 720 3000
-  latest-start = omega (arith, p, first_day-is latitude height, extremes-is.2)
-
-  earliest-end : last_day 720 3000 ≤ last_day latitude height
-  earliest-end = omega (arith, p, last_day-is latitude height, extremes-is.3)
-
   pub model-kept : ModelKept latitude height
-  model-kept = record {
-    start = start-whole;
-    end = end_whole;
-    earliest_start = omega (arith, p, first_day-is latitude height, extremes-is.0);
-    latest_start = latest-start;
-    earliest_end = earliest-end;
-    latest_end = omega (arith, p, last_day-is latitude height, extremes-is.1);
-    shortest = omega (arith, latest-start, earliest-end, extremes-is.2, extremes-is.3);
-  }
+  model-kept = grind (arith, p, first_day-is, last_day-is, extremes-is, start-whole, end_whole)
 
 module _ (latitude height : ℕ) (p : InPlace latitude (height + 1000)) where
   pub thousand-is : (first_day latitude (height + 1000) ≡ first_day latitude height + 10) × (last_day latitude (height + 1000) + 10 ≡ last_day latitude height)
-  thousand-is = (
-    omega (arith, p, first_day-is latitude height, first_day-is latitude (height + 1000)),
-    omega (arith, p, last_day-is latitude height, last_day-is latitude (height + 1000)),
-  )
+  thousand-is = grind (arith, p, first_day-is, last_day-is)
+
+-- what the functions of the days name in `using`
+pub ruleset days = (first_day-is, last_day-is)

@@ -1,11 +1,10 @@
 -- The header of a place (W-202): rows 5, 6, 14, 7, 8 in that order, or the header with the model's days.
 use Rattle.std.specs.Prelude.{ℕ, Bool, not, ◌||◌, List, [], ◌∷◌, ltb}
-use Rattle.records.specs.declared.Refusal.{Refusal}
 use Rattle.trees.specs.Figures.{ramp_days}
 use Rattle.measured.specs.Parameters.{no_parameters}
 use Rattle.measured.specs.Figures.{figures_in}
 use Rattle.records.specs.declared.Header.{Header}
-use Rattle.records.specs.Answers.{Outcome, accepted, refused, row, row_of}
+use Rattle.records.specs.Answers.{Outcome, accepted, row}
 use Rattle.records.specs.Numbers.{is_outside}
 use Rattle.records.specs.Ranges.{on_tree, period_out}
 use Rattle.frames.specs.Kinds.{among}

@@ -80,9 +80,7 @@ module _ (from to d s : ℕ) where
   straight-end h = rw (le-ltb d s h)
 
 pub straight-start : (from to s : ℕ) → 0 < s → straight from to 0 s ≈ from over 100
-straight-start from to s h =
-    let all : s - 0 ≡ s = omega arith in
-    rw (straight-along from to 0 s h, all) (over-same {d = 100} (omega arith) (omega arith) (omega arith))
+straight-start from to s h = grind (arith, straight-along, over-same)
 
 mix-le : (from to top m d : ℕ) → from ≤ top → to ≤ top → (m * from + d * to) * 100 ≤ top * (100 * (m + d))
 mix-le from to top m d p q = omega (arith, mul-le-mul_left m p, mul-le-mul_left d q)
@@ -92,12 +90,7 @@ mix-ge from to low m d p q = omega (arith, mul-le-mul_left m p, mul-le-mul_left 
 
 module _ (from to d s : ℕ) where
   pub straight-le : (top : ℕ) → from ≤ top → to ≤ top → straight from to d s ≼ top over 100
-  straight-le top p q = ⊎_elim (λ h. rw (straight-end from to d s h) (omega arith)) along (le-or-lt s d)
-    where
-      along : d < s → straight from to d s ≼ top over 100
-      along h =
-          let all : s - d + d ≡ s = omega arith in
-          rw (straight-along from to d s h) (over-le {d = 100} (omega arith) (omega arith) (rw all at (mix-le from to top (s - d) d p q)))
+  straight-le top p q = grind (arith, straight-end, le-or-lt, straight-along, over-le, mix-le)
 
   pub straight-ge : (low : ℕ) → low ≤ from → low ≤ to → low over 100 ≼ straight from to d s
   straight-ge low p q = ⊎_elim (λ h. rw (straight-end from to d s h) (omega arith)) along (le-or-lt s d)
@@ -120,5 +113,4 @@ module _ (from to d d' s : ℕ) (lower : to ≤ from) (before : d ≤ d') where
       rw (straight-along from to d' s h, straight-along from to d s (omega arith)) (over-le (omega arith) (omega arith) (mul-le-mul_right (100 * s) step))
 
   pub straight-anti : straight from to d' s ≼ straight from to d s
-  straight-anti =
-      ⊎_elim (λ h. rw (straight-end from to d' s h) (straight-ge from to d s to lower (omega arith))) along-anti (le-or-lt s d')
+  straight-anti = grind (arith, straight-end, straight-ge, along-anti, le-or-lt)

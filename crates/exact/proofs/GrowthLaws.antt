@@ -4,10 +4,10 @@ use Prim.Native.Nat.{ℕ, zero, suc, ◌+◌, ◌-◌, ◌*◌, ◌^◌, ◌≤�
 use mathlib.Core.Path.{◌≡◌, refl, ap}
 use native.Mathlib.Omega.{arith}
 use native.Mathlib.Nat.{zero-mul, pow-zero, pow-suc, pow-le-pow_left, one-le-pow, lt_of_mul-lt-mul_right, mul-pos, zero-lt-suc, mul-le-mul_right, le_of_mul-le-mul_right}
-use Rattle.exact.specs.Frac.{Frac, natural, ◌over◌, ◌⊕◌, ◌⊖◌, ◌⊗◌, ◌⊘◌, ◌≼◌, ◌≺◌, ◌≈◌, power}
+use Rattle.exact.specs.Frac.{Frac, natural, ◌over◌, ◌⊖◌, ◌⊗◌, ◌⊘◌, ◌≼◌, ◌≺◌, ◌≈◌, power}
 use Rattle.exact.specs.Series.{factorial, series_at, growth}
 use Rattle.exact.proofs.FracLaws.{≼_refl, ≼_trans, ≈-le, ≈-ge, ⊕-mono, ⊗-mono, over-le, over-same}
-use Rattle.exact.proofs.PowerLaws.{mul-pow}
+use Rattle.std.proofs.lemmas.Nat.{mul-pow}
 use Rattle.exact.proofs.MeanLaws.{bernoulli}
 use Rattle.exact.proofs.SeriesCommon.{common_num, common_den}
 use Rattle.exact.proofs.SeriesLaws.{series-zero, series-sum-le, series-sum-ge}
@@ -63,11 +63,7 @@ module _ (d : ℕ) (d-pos : 0 < d) (x : ℕ) where
 
   first-le : (d + x) over d ≼ series_at 1 x d
   unfolding series_at
-  first-le =
-      let term : (x ^ 1) over (d ^ 1 * factorial 1) ≈ x over d =
-      over-same (mul-pos (one-le-pow 1 d d-pos) (factorial-pos 1)) d-pos (rw (pow-suc x 0, pow-zero x, pow-suc d 0, pow-zero d, factorial-one) (omega arith)) in
-      let is : max 1 d ≡ d = omega arith in
-      ≼_trans {y = natural 1 ⊕ x over d} (record { cross = rw is (omega arith) }) (⊕-mono (≼_refl (natural 1)) (≈-ge term))
+  first-le = grind (arith, over-same, mul-pos, one-le-pow, factorial-pos, pow-suc, pow-zero, factorial-one, ≼_trans, ⊕-mono, ≼_refl, ≈-ge)
 
   -- (1 + z)^m ≤ S_m(m·z)
   series-power-ge : (m : ℕ) → power ((d + x) over d) m ≼ series_at m (m * x) d

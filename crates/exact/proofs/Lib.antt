@@ -1,4 +1,5 @@
 pub mod OrderLaws
+pub mod TestedLaws
 pub mod FracLaws
 pub mod StraightLaws
 pub mod GreaterLaws

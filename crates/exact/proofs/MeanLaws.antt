@@ -1,10 +1,10 @@
 -- The weighted mean of two factors: where u + v = a + b and p·a = q·b, u^q·v^p is at most a^q·b^p.
 use Prim.Native.Nat.{ℕ, zero, suc, ◌+◌, ◌-◌, ◌*◌, ◌^◌, ◌≤◌, ◌<◌}
-use mathlib.Core.Path.{◌≡◌, ap, sym, subst}
-use mathlib.Core.Logic.{⊎_elim}
+use mathlib.Core.Path.{◌≡◌, ap, subst}
 use native.Mathlib.Omega.{arith}
 use Rattle.exact.proofs.OrderLaws.{le-or-lt}
-use Rattle.exact.proofs.PowerLaws.{mul-pow, pow-mul}
+use Rattle.std.proofs.lemmas.Nat.{mul-pow}
+use Rattle.exact.proofs.PowerLaws.{pow-mul}
 use native.Mathlib.Nat.{
   le_of_mul-le-mul_right,
   mul-le-mul,
@@ -77,9 +77,4 @@ above-le a b u v p q p-pos q-pos a-pos ratio sum h =
 
 pub mean-le :
     (a b u v p q : ℕ) → zero < p → zero < q → zero < a → zero < b → p * a ≡ q * b → u + v ≡ a + b → u ^ q * v ^ p ≤ a ^ q * b ^ p
-mean-le a b u v p q p-pos q-pos a-pos b-pos ratio sum =
-    ⊎_elim (above-le a b u v p q p-pos q-pos a-pos ratio sum)
-    (λ h.
-    rw (mul_comm (u ^ q) (v ^ p), mul_comm (a ^ q) (b ^ p))
-    (above-le b a v u q p q-pos p-pos b-pos (sym ratio) (omega arith) (omega (arith, h))))
-    (le-or-lt a u)
+mean-le a b u v p q p-pos q-pos a-pos b-pos ratio sum = grind (arith, above-le, mul_comm, le-or-lt)

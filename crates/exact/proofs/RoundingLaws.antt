@@ -37,20 +37,10 @@ module _ (x : Frac) where
   round_down-gt = lt-div-mul-add {a = x.num} x.positive
 
   pub round_up-ceiling : IsCeiling x (round_up x)
-  round_up-ceiling = record {
-    not_below = record { cross = omega (arith, round_up-ge) };
-    least = λ m h.
-        let less : round_up x < m + 1 = lt_of_mul-lt-mul_right x.den (omega (arith, h.cross, round_up-lt)) in
-        omega arith;
-  }
+  round_up-ceiling = grind (arith, round_up-ge, lt_of_mul-lt-mul_right, round_up-lt)
 
   pub round_down-floor : IsFloor x (round_down x)
-  round_down-floor = record {
-    not_above = record { cross = omega (arith, round_down-le) };
-    greatest = λ m h.
-        let less : m < round_down x + 1 = lt_of_mul-lt-mul_right x.den (omega (arith, h.cross, round_down-gt)) in
-        omega arith;
-  }
+  round_down-floor = grind (arith, round_down-le, lt_of_mul-lt-mul_right, round_down-gt)
 
 -- ---- a greater fraction
 

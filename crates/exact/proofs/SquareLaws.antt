@@ -10,9 +10,7 @@ pub square-lt : {a b : ℕ} → a * a < b * b → a < b
 square-lt {a} {b} h = lt_of_mul-lt-mul_right (a + b) (omega arith)
 
 pub square_le : {a b : ℕ} → a * a ≤ b * b → a ≤ b
-square_le {a} {b} h =
-    let l : a < b + 1 = square-lt (omega arith) in
-    omega arith
+square_le {a} {b} h = grind (arith, square-lt)
 
 square-pos : (n r : ℕ) → n < r * r → 1 ≤ r
 square-pos n zero h = absurd (omega arith)

@@ -1,6 +1,6 @@
 -- A number times a fraction, rounded: the one s with s ≤ product < s + 1; by the digits of the number; and near the product with a fraction that is a little
 -- smaller.
-use Prim.Native.Nat.{ℕ, ◌+◌, ◌*◌, ◌/◌, ◌%◌, ◌≤◌, ◌<◌, max}
+use Prim.Native.Nat.{ℕ, ◌+◌, ◌*◌, ◌/◌, ◌%◌, ◌≤◌, ◌<◌}
 use mathlib.Core.Path.{◌≡◌, ap}
 use native.Mathlib.Nat.{div-eq_of_lt-le, div-add-mod', add-mul-div_right, lt-div-mul-add, mul-le-mul_right, mul-le-mul_left}
 use native.Mathlib.Omega.{arith}
@@ -10,9 +10,7 @@ use Rattle.exact.proofs.FracLaws.{≼_refl, ≼_trans, ⊕-high, ⊗-mono}
 use Rattle.exact.proofs.RoundingLaws.{times_down-is, round_up-ceiling}
 
 pub times_down-at : (m s : ℕ) (x : Frac) → 0 < m → s over m ≼ x → x ≺ (s + 1) over m → times_down m x ≡ s
-times_down-at m s x m-pos low high =
-    let is : max 1 m ≡ m = omega arith in
-    rw (times_down-is m x) (div-eq_of_lt-le x.den (omega (arith, rw is at low.cross)) (omega (arith, rw is at high.cross)))
+times_down-at m s x m-pos low high = grind (arith, times_down-is, div-eq_of_lt-le)
 
 -- ---- in two digits of base b: the higher one's quotient, then what it leaves with the lower one
 

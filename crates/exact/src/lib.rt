@@ -9,7 +9,7 @@ pub struct Fraction {
 }
 
 // A quantity lies from lower to upper.
-#[derive(Clone, Copy)]
+#[derive(Clone, Copy, Default)]
 pub struct Bounds {
     pub lower: u64,
     pub upper: u64,

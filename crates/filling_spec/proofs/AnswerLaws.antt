@@ -3,6 +3,7 @@ use Prim.Native.Nat.{ℕ, ◌≤◌}
 use mathlib.Core.Path.{◌≡◌, refl, sym, ap, ◌∙◌}
 use mathlib.Core.Bool.{true, false, false≢true}
 use mathlib.Core.List.{List}
+use native.Mathlib.Omega.{arith}
 use Rattle.trees.specs.declared.Measure.{Measure}
 use Rattle.records.specs.declared.Hour.{Hour}
 use Rattle.records.specs.declared.Raw.{Raw}
@@ -15,7 +16,6 @@ use Rattle.frames.specs.Layout.{ozone_of, hour_of}
 use Rattle.frames.specs.Frames.{parsed_of, record_of}
 use Rattle.frames.proofs.ReadLaws.{hour-read}
 use Rattle.account_spec.specs.declared.Phase.{Phase}
-use Rattle.account_spec.specs.declared.Phase.TheVariants.{Fresh, Open, Closed}
 use Rattle.account_spec.specs.declared.State.{State}
 use Rattle.account_spec.specs.HourKinds.{is_mixed}
 use Rattle.account_spec.specs.Rules.{turn_in, out_of_turn, is_due, turn_of, answer_of}
@@ -41,9 +41,7 @@ lacking-by l (refused w) e k = absurd (false≢true (rw e at k))
 
 -- an hour's turn does not go by what it says
 turn-same : (p : Phase) (s : State) (x y : RawHour) → turn_in p s (Raw.Hour x) ≡ turn_in p s (Raw.Hour y)
-turn-same Fresh s x y = refl
-turn-same Open s x y = refl
-turn-same Closed s x y = refl
+turn-same p s x y = grind arith
 
 -- the same day, hour and air, and ozone is read: all that rows 4, 15, 9 and 18 go by
 record Alike (x y : RawHour) : Type 0 where
@@ -55,17 +53,12 @@ record Alike (x y : RawHour) : Type 0 where
 -- frames whose hours are the same but for ozone
 hours-alike : (x y : RawHour) (m k : Measure) (n : ℕ) → hour_of y k ≡ with_ozone n (hour_of x m) → Alike x y
 unfolding hour_of
-hours-alike x y m k n e = record {
-  day = ap (λ (h : Hour). h.day) e;
-  hour = ap (λ (h : Hour). h.hour) e;
-  air = ap (λ (h : Hour). h.air) e;
-  has = ap (λ (h : Hour). is_missing h.ozone) e;
-}
+hours-alike x y m k n e = grind arith
 
 module _ (s : State) (x : RawHour) (q : Record) (e : turn_of s (Raw.Hour x) ≡ accepted q) where
   in-turn : out_of_turn s (Raw.Hour x) ≡ false
   unfolding turn_of
-  in-turn = (row-passed (out_of_turn s (Raw.Hour x)) _ _ q e).0
+  in-turn = grind arith
 
   passed : HourPassed s x q
   unfolding turn_of
@@ -97,7 +90,7 @@ answer-filled s n l r small lacks e =
     let h = hour_of raw read.figures.measure in
     let filled = line-filled tree n l raw h small lacking.parsed (is ∙ ap accepted (sym read.is.same)) in
     let again = hour-read tree filled.raw (Record.Hour (with_ozone n h)) filled.read in
-    let alike = hours-alike raw filled.raw read.figures.measure again.figures.measure n (hour-inside again.is.same) in
+    let alike = hours-alike raw filled.raw read.figures.measure again.figures.measure n (hour-inside {g = hour_of filled.raw again.figures.measure} again.is.same) in
     record {
       hour = h;
       is = sym read.is.same;

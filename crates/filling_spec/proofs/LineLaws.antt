@@ -7,7 +7,6 @@ use Rattle.trees.specs.declared.Measure.{Measure}
 use Rattle.measured.specs.Parameters.{no_parameters}
 use Rattle.measured.specs.Figures.{figures_in}
 use Rattle.records.specs.declared.Air.{Air}
-use Rattle.records.specs.declared.Air.TheVariants.{Deficit, Pressure, Humidity}
 use Rattle.records.specs.declared.Hour.{Hour}
 use Rattle.records.specs.declared.Raw.{Raw}
 use Rattle.records.specs.declared.RawHour.{RawHour}
@@ -18,7 +17,7 @@ use Rattle.records.proofs.AnswerLaws.{onward-passed}
 use Rattle.records.proofs.OzoneLaws.{ozone-passed}
 use Rattle.frames.specs.Digits.{byte_at}
 use Rattle.frames.specs.Fields.{fields_at}
-use Rattle.frames.specs.Layout.{soil_of, air_of, raw_hour_of, hour_of, frame_of, frame_at, frame_line}
+use Rattle.frames.specs.Layout.{air_of, raw_hour_of, hour_of, frame_of, frame_at, frame_line}
 use Rattle.frames.specs.Steps.{IsHour, with_deficit, with_pressure, with_humidity}
 use Rattle.frames.specs.Frames.{parsed_of, record_of, read_frame_of}
 use Rattle.frames.proofs.KindLaws.{KindCase, header, hour, end, ceiling, parameters, warmth, kind-cases}
@@ -29,22 +28,12 @@ use Rattle.writer.proofs.DigitLaws.{byte-lt, number_lt}
 use Rattle.writer.proofs.RoundTrip.{read-line, line_read}
 use Rattle.filling_spec.specs.Lines.{line_with}
 
-abbrev hour_or : Hour → Record → Hour
-hour_or other (Record.Header x) = other
-hour_or other (Record.Hour h) = h
-hour_or other (Record.End x) = other
-hour_or other (Record.Ceiling x) = other
-hour_or other (Record.Parameters x) = other
-hour_or other (Record.Warmth x) = other
-
 pub hour-inside : {g h : Hour} → Record.Hour g ≡ Record.Hour h → g ≡ h
-hour-inside {g = g} e = ap (hour_or g) e
+hour-inside e = cc
 
 line-is : (n : ℕ) (h : Hour) (a : Air) → h.air ≡ a → line_with n (frame_line (Record.Hour h)) ≡ frame_line (Record.Hour (with_ozone n h))
 unfolding frame_line line_with
-line-is n h (Deficit v) e = rw e refl
-line-is n h (Pressure v p) e = rw e refl
-line-is n h (Humidity v) e = rw e refl
+line-is n h a e = grind arith
 
 -- ---- what an hour line says is as wide as its fields
 
@@ -85,25 +74,21 @@ pub record LineFilled (tree n : ℕ) (l : List ℕ) (h : Hour) : Type 0 where
 filled-raw : (tree n : ℕ) (l : List ℕ) (h : Hour) (frame : Raw) → parsed_of (line_with n l) ≡ accepted frame
     → record_of tree frame ≡ accepted (Record.Hour (with_ozone n h)) → LineFilled tree n l h
 unfolding record_of
-filled-raw tree n l h (Raw.Header x) p r = let e = (sound-read _ _ r).same in let z : ◌≡◌ {A = ℕ} 0 1 = cc in absurd (omega arith)
+filled-raw tree n l h (Raw.Header x) p r = let e = (sound-read _ _ r).same in cc
 filled-raw tree n l h (Raw.Hour raw) p r = record { raw = raw; parsed = p; read = r }
-filled-raw tree n l h (Raw.End x) p r = let e = (sound-read _ _ r).same in let z : ◌≡◌ {A = ℕ} 0 1 = cc in absurd (omega arith)
-filled-raw tree n l h (Raw.Ceiling x) p r = let e = (sound-read _ _ r).same in let z : ◌≡◌ {A = ℕ} 0 1 = cc in absurd (omega arith)
-filled-raw tree n l h (Raw.Parameters x) p r = let e = (sound-read _ _ r).same in let z : ◌≡◌ {A = ℕ} 0 1 = cc in absurd (omega arith)
-filled-raw tree n l h (Raw.Warmth x) p r = let e = (sound-read _ _ r).same in let z : ◌≡◌ {A = ℕ} 0 1 = cc in absurd (omega arith)
-
-soil-measured : (m : Measure) (n : ℕ) → measure_in (soil_of m n) ≡ m
-soil-measured Measure.Suction n = refl
-soil-measured Measure.Water n = refl
+filled-raw tree n l h (Raw.End x) p r = let e = (sound-read _ _ r).same in cc
+filled-raw tree n l h (Raw.Ceiling x) p r = let e = (sound-read _ _ r).same in cc
+filled-raw tree n l h (Raw.Parameters x) p r = let e = (sound-read _ _ r).same in cc
+filled-raw tree n l h (Raw.Warmth x) p r = let e = (sound-read _ _ r).same in cc
 
 module _ (raw : RawHour) (m : Measure) (h : Hour) (same : hour_of raw m ≡ h) where
   hour-measure : m ≡ measure_in h.soil
   unfolding hour_of
-  hour-measure = sym (soil-measured m raw.soil) ∙ ap (λ (g : Hour). measure_in g.soil) same
+  hour-measure = grind arith
 
   hour-wide : Wide (Raw.Hour raw) → (h.day < 65536) × (h.hour < 256)
   unfolding hour_of
-  hour-wide w = subst (λ (g : Hour). (g.day < 65536) × (g.hour < 256)) same w
+  hour-wide w = grind arith
 
 -- the line of an hour that is read, with a number up to 5000 in ozone's place, is read as the hour with that ozone
 pub line-filled :

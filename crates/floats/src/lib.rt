@@ -14,12 +14,13 @@ pub use floats_spec::FloatReadings;
 use frames::{Air, Raw, RawHour, Refusal};
 
 // An hour of kind 02 by its day and hour alone.
+// Kept: a derived Default needs a case without a number, and Air has none, so each reading is written as 0.
 fn hour_at(day: u16, hour: u8) -> RawHour
     ensures { result ≡ hour_at day hour }
 {
     RawHour {
-        day: day,
-        hour: hour,
+        day,
+        hour,
         ozone: 0,
         ppfd: 0,
         radiation: 0,
@@ -30,19 +31,17 @@ fn hour_at(day: u16, hour: u8) -> RawHour
     }
 }
 
-// The next account of one that takes an hour of floats: rows 13, 4, 15 and 9, then 26, 18 and 10. Seven whole numbers meet them as the frame that says them.
+// The next account of one that takes an hour of floats: rows 13, 4, 15 and 9, then 26, 18 and 10. Seven whole numbers are fed as a frame of kind 02.
+// Kept for the C interface: day, hour and readings apart, as C hands them to `pod1_feed_floats`.
 pub fn feed_floats(account: Account, day: u16, hour: u8, readings: FloatReadings) -> Fed
     ensures answers { Answers account (feed_floats_of account day hour readings) result }
     ensures promise { FloatPromise }
 {
-    let read = fields::fields_of(readings);
-    let broken = fields::first_broken(read);
-    if broken == 0 {
-        return account::feed_frame(account, Raw::Hour(fields::frame_in(day, hour, read)));
-    }
-    let checked = account::timely(account, hour_at(day, hour));
-    match checked {
-        Ok(()) => Err((Refusal::Float(broken), account)),
-        Err(refusal) => Err((refusal, account)),
+    match fields::frame_of(day, hour, readings) {
+        Ok(frame) => account::feed_frame(account, Raw::Hour(frame)),
+        Err(broken) => match account::timely(account, hour_at(day, hour)) {
+            Ok(()) => Err((broken, account)),
+            Err(refusal) => Err((refusal, account)),
+        },
     }
 }

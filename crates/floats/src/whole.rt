@@ -6,6 +6,7 @@ ghost use Rattle.floats_spec.specs.Whole.{whole_of};
 ghost use Rattle.floats.specs.Steps.{cut_size, cut};
 
 // The number n, or -(n + 1).
+// Kept: `cut` equates these cases with pos n and negsuc n; an i32 would be split into them again in both fields.
 #[derive(Clone, Copy)]
 pub(crate) enum Number {
     Plus(u32),
@@ -19,7 +20,7 @@ fn size_of(x: f32) -> Option<u32>
     ensures { result ≡ cut_size x }
 {
     if x >= 16777216.0 {
-        if x == 1.0 / 0.0 {
+        if x == f32::INFINITY {
             return None;
         }
         return Some(16777216);

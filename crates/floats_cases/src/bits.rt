@@ -10,7 +10,7 @@ fn float_of_bits(bits: u32) -> f32
     ensures { result ≡ of_bits binary32 bits }
 {
     if bits % 0x8000_0000 > 0x7f80_0000 {
-        return 0.0 / 0.0;
+        return f32::NAN;
     }
     f32::from_bits(bits)
 }

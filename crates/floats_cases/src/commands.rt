@@ -3,7 +3,7 @@
 use crate::bits::readings_at;
 use account::{Account, Fed};
 use cases::{u8_at, u16_at};
-use cases_account::{Answer, Fields};
+use cases_account::{Answer, Fields, left_by};
 use std::io;
 
 #[derive(Clone, Copy)]
@@ -14,7 +14,7 @@ pub(crate) struct Held {
 
 // Prints an answer, and takes the account that it leaves.
 fn leave(rt: &impl Print, held: &mut Account, answer: Fed) -> io::Result<()> {
-    *held = answer.unwrap_or_else(|(_, same)| same);
+    *held = left_by(answer);
     println!(rt; "{}", Answer(answer))
 }
 
@@ -58,7 +58,7 @@ impl Held {
         let Some((letter, rest)) = command.split_first() else {
             return Ok(());
         };
-        // Kept: an enum of commands would name each letter a second time.
+        // Kept: an enum of commands would list them twice, by letter and by name.
         match *letter {
             b'N' => *self = Held::new(),
             b'C' => self.set_counted(u16_at(rest, 0)),

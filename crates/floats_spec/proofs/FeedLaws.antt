@@ -1,7 +1,8 @@
 -- An hour of whole floats is fed as the frame of kind 02 that says their numbers, and as its line; row 26 comes before both.
+use Rattle.std.proofs.lemmas.Bool.Decides.{nat_tests}
 use mathlib.Core.Path.{◌≡◌, refl, ap, ◌∙◌}
 use Prim.Native.Nat.{ℕ}
-use mathlib.Core.Bool.{Bool, true, false, not}
+use mathlib.Core.Bool.{Bool, true, false}
 use Rattle.records.specs.declared.Air.{Air}
 use Rattle.records.specs.declared.Hour.{Hour}
 use Rattle.records.specs.declared.Raw.{Raw}
@@ -10,7 +11,7 @@ use Rattle.records.specs.declared.Record.{Record}
 use Rattle.records.specs.Answers.{Outcome, accepted, refused, row, onward}
 use Rattle.records.specs.Ranges.{checked}
 use native.Mathlib.Omega.{arith}
-use Rattle.frames.specs.Layout.{soil_number, hour_numbers, frame_of, air_kind, frame_line}
+use Rattle.frames.specs.Layout.{hour_numbers, frame_of, air_kind, frame_line}
 use Rattle.frames.proofs.RangeLaws.{HourIn, checked-passed}
 use Rattle.writer.specs.RoundTrip.{InWidth}
 use Rattle.writer.proofs.OzoneLaws.{ozone-lt}
@@ -20,9 +21,7 @@ use Rattle.account_spec.specs.declared.Phase.{Phase}
 use Rattle.account_spec.specs.declared.Phase.TheVariants.{Fresh, Open, Closed}
 use Rattle.account_spec.specs.declared.Account.{Account}
 use Rattle.account_spec.specs.declared.State.{State}
-use Rattle.account_spec.specs.Account.{impossible}
-use Rattle.account_spec.specs.HourKinds.{is_mixed}
-use Rattle.account_spec.specs.Rules.{out_of_turn, is_due, due_of, turn_of, answer_of, state_of, feed_of, feed_frame_of}
+use Rattle.account_spec.specs.Rules.{out_of_turn, due_of, turn_of, answer_of, feed_of, feed_frame_of}
 use Rattle.account_spec.specs.Timely.{timely_in, timely_of}
 use Rattle.floats_spec.specs.declared.FloatReadings.{FloatReadings}
 use Rattle.floats_spec.specs.Numbers.{Wholes, wholes_in, raw_of}
@@ -73,11 +72,7 @@ passed-again false false false false due next = refl
 module _ (a : Account) (day hour : ℕ) (w : Wholes) where
   timely-again : onward (timely_of a (hour_at day hour)) (λ _. feed_frame_of a (Raw.Hour (raw_of day hour w))) ≡ feed_frame_of a (Raw.Hour (raw_of day hour w))
   unfolding timely_of timely_in feed_frame_of turn_of due_of raw_of
-  timely-again =
-      let s = state_of a in
-      let raw = raw_of day hour w in
-      rw (turn_by s (hour_at day hour) raw a.phase refl)
-      (passed-again (impossible a) (out_of_turn s (Raw.Hour raw)) (is_mixed s.kind raw.air) (not (is_due s raw)) _ _)
+  timely-again = grind (arith, turn_by, passed-again)
 
   pub feed-whole : (r : FloatReadings) → wholes_of r ≡ accepted w → feed_floats_of a day hour r ≡ feed_frame_of a (Raw.Hour (raw_of day hour w))
   unfolding feed_floats_of
@@ -87,35 +82,14 @@ module _ (a : Account) (day hour : ℕ) (w : Wholes) where
 
 pub wholes-are : (r : FloatReadings) (w : Wholes) → AreWhole r w → wholes_of r ≡ accepted w
 unfolding wholes_of
-wholes-are r w k =
-    rw (
-      whole-taken r.ozone _ k.ozone,
-      whole-taken r.ppfd _ k.ppfd,
-      whole-taken r.radiation _ k.radiation,
-      whole-taken r.temperature _ k.temperature,
-      whole-taken r.vpd _ k.vpd,
-      whole-taken r.wind _ k.wind,
-      whole-taken r.soil _ k.soil,
-    ) refl
+wholes-are r w k = grind (arith, nat_tests, whole-taken)
 
 -- ---- the line
 
 module _ (h : Hour) (i : HourIn h) where
   frame-says : (v : ℕ) → h.air ≡ Air.Deficit v → frame_of (air_kind h.air) (hour_numbers h) ≡ Raw.Hour (raw_of h.day h.hour (wholes_in h))
   unfolding frame_of raw_of
-  frame-says v e =
-      let o = ozone-lt h.ozone i.ozone in
-      let vapour = rw e at i.vapour in
-      simp (
-        e,
-        natural-is _ o,
-        natural-is h.ppfd (omega (arith, i.ppfd)),
-        natural-is h.radiation (omega (arith, i.radiation)),
-        complement-is h.temperature i.temperature,
-        natural-is v (omega (arith, vapour)),
-        natural-is h.wind (omega (arith, i.wind)),
-        natural-is (soil_number h.soil) (omega (arith, i.soil)),
-      )
+  frame-says v e = grind (arith, nat_tests, ozone-lt, natural-is, complement-is)
 
 -- an air of kind 02
 deficit-is : (a : Air) → air_kind a ≡ 2 → (v : ℕ) × (a ≡ Air.Deficit v)

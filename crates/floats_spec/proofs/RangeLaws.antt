@@ -1,16 +1,15 @@
 -- Row 10 finds in a frame what it would find in the whole numbers that the frame says, numbers in range stand there as they are, and an hour says them.
-use Rattle.std.specs.Prelude.{Some, None}
-use mathlib.Core.Path.{◌≡◌, refl, sym, ap, ◌∙◌}
-use Prim.Native.Nat.{ℕ, ◌-◌, ◌≤◌, ◌<◌}
+use mathlib.Core.Path.{◌≡◌, refl, ap, ◌∙◌}
+use Prim.Native.Nat.{ℕ, ◌<◌}
 use native.Mathlib.Omega.{arith}
-use mathlib.Core.Bool.{Bool, true, false, not, cond, ◌&&◌, and-false, and-true, or-false, true≢false}
-use borrow.Author.Tests.{lt-ltb, le-ltb, ne_eqb, eqb-true, ltb-true, ltb-false}
-use lib.Dec.{ltb, eqb}
+use mathlib.Core.Bool.{false, true≢false}
+use Rattle.std.proofs.lemmas.Bool.Decides.{nat_tests}
+use lib.Dec.{ltb}
 use lib.IntN.{ℤ, pos, negsuc}
 use Rattle.trees.specs.declared.Measure.{Measure}
 use Rattle.records.specs.declared.Hour.{Hour}
 use Rattle.records.specs.declared.Record.{Record}
-use Rattle.records.specs.Answers.{accepted, field}
+use Rattle.records.specs.Answers.{accepted}
 use Rattle.records.specs.Temperature.{signed_of, complement_of, temperature_out}
 use Rattle.records.specs.Ranges.{ozone_out, soil_out, checked}
 use Rattle.frames.specs.Layout.{ozone_number, ozone_of, soil_number, soil_of, hour_of}
@@ -22,40 +21,18 @@ use Rattle.floats_spec.specs.Promise.{number_out, ozone_number_out, soil_most, r
 
 number-out : (high : ℕ) (z : ℤ) → high < 65534 → ltb high (natural_bytes z) ≡ number_out high z
 unfolding natural_bytes
-number-out high (pos n) h = go (ltb n 65536) refl
-  where
-    go : (b : Bool) → ltb n 65536 ≡ b → ltb high (cond b n 65534) ≡ ltb high n
-    go true e = refl
-    go false e = lt-ltb high 65534 h ∙ sym (lt-ltb high n (omega (arith, ltb-false n 65536 e)))
-number-out high (negsuc n) h = lt-ltb high 65534 h
+number-out high (pos n) h = grind (arith, nat_tests)
+number-out high (negsuc n) h = grind (arith, nat_tests)
 
 ozone-out : (z : ℤ) → ozone_out (ozone_of (natural_bytes z)) ≡ ozone_number_out z
 unfolding natural_bytes
-ozone-out (pos n) = go (ltb n 65536) refl
-  where
-    held : (b : Bool) → ozone_out (cond b None (Some n)) ≡ (ltb 5000 n && not b)
-    held true = sym (and-false (ltb 5000 n))
-    held false = sym (and-true (ltb 5000 n))
-
-    go : (b : Bool) → ltb n 65536 ≡ b → ozone_out (ozone_of (cond b n 65534)) ≡ (ltb 5000 n && not (eqb n 65535))
-    go true e = held (eqb n 65535)
-    go false e = simp (lt-ltb 5000 n (omega (arith, ltb-false n 65536 e)), ne_eqb n 65535 (omega (arith, ltb-false n 65536 e)))
+ozone-out (pos n) = grind (arith, nat_tests)
 ozone-out (negsuc n) = refl
 
 temperature-out : (z : ℤ) → temperature_out (signed_of (complement_bytes z)) ≡ temperature_out z
 unfolding complement_bytes signed_of temperature_out
-temperature-out (pos n) = go (ltb n 32768) refl
-  where
-    go : (b : Bool) → ltb n 32768 ≡ b → temperature_out (signed_of (cond b n 32767)) ≡ temperature_out (pos n)
-    go true e = rw e refl
-    go false e = sym (lt-ltb 600 n (omega (arith, ltb-false n 32768 e)))
-temperature-out (negsuc n) = go (ltb n 32768) refl
-  where
-    go : (b : Bool) → ltb n 32768 ≡ b → temperature_out (signed_of (cond b (65535 - n) 32767)) ≡ temperature_out (negsuc n)
-    go true e =
-        let back : 65535 - (65535 - n) ≡ n = omega (arith, ltb-true n 32768 e) in
-        rw (le-ltb (65535 - n) 32768 (omega (arith, ltb-true n 32768 e)), back) refl
-    go false e = rw (lt-ltb 499 n (omega (arith, ltb-false n 32768 e))) refl
+temperature-out (pos n) = grind (arith, nat_tests)
+temperature-out (negsuc n) = grind (arith, nat_tests)
 
 soil-out : (m : Measure) (z : ℤ) → soil_out (soil_of m (natural_bytes z)) ≡ number_out (soil_most m) z
 soil-out Measure.Suction z = number-out 10000 z (omega arith)
@@ -63,42 +40,27 @@ soil-out Measure.Water z = number-out 1000 z (omega arith)
 
 pub ranges-same : (day hour : ℕ) (w : Wholes) (m : Measure) → checked (Record.Hour (hour_of (raw_of day hour w) m)) ≡ ranges_of m w
 unfolding checked hour_of raw_of
-ranges-same day hour w m = λ i.
-    field 1 (ozone-out w.ozone i)
-    (field 2 (number-out 3000 w.ppfd (omega arith) i)
-    (field 3 (number-out 1500 w.radiation (omega arith) i)
-    (field 4 (temperature-out w.temperature i)
-    (field 5 (number-out 10000 w.vpd (omega arith) i)
-    (field 6 (number-out 6000 w.wind (omega arith) i)
-    (field 7 (soil-out m w.soil i)
-    (accepted tt)))))))
+ranges-same day hour w m = grind (arith, nat_tests, ozone-out, number-out, temperature-out, soil-out)
 
 -- ---- numbers in range
 
 pub natural-is : (n : ℕ) → n < 65536 → natural_bytes (pos n) ≡ n
 unfolding natural_bytes
-natural-is n h = simp (lt-ltb n 65536 h)
+natural-is n h = grind (arith, nat_tests)
 
 pub complement-is : (t : ℤ) → temperature_out t ≡ false → complement_bytes t ≡ complement_of t
 unfolding complement_bytes complement_of temperature_out
-complement-is (pos n) e = simp (lt-ltb n 32768 (omega (arith, ltb-false 600 n e)))
-complement-is (negsuc n) e =
-    let h : n ≤ 499 = ltb-false 499 n (sym (or-false (ltb 499 n)) ∙ e) in
-    simp (lt-ltb n 32768 (omega arith))
+complement-is (pos n) e = grind (arith, nat_tests)
+complement-is (negsuc n) e = grind (arith, nat_tests)
 
 -- ---- an hour of given numbers in range
 
 number-back : (high : ℕ) (z : ℤ) → high < 65534 → number_out high z ≡ false → pos (natural_bytes z) ≡ z
-number-back high (pos n) h e = ap pos (natural-is n (omega (arith, ltb-false high n e)))
+number-back high (pos n) h e = grind (arith, nat_tests, natural-is)
 number-back high (negsuc n) h e = absurd (true≢false e)
 
 ozone-back : (z : ℤ) → ozone_number_out z ≡ false → pos (ozone_number (ozone_of (natural_bytes z))) ≡ z
-ozone-back (pos n) e = ap pos (ozone-number (natural_bytes (pos n)) ∙ natural-is n (go (ltb 5000 n) (eqb n 65535) refl refl e))
-  where
-    go : (b c : Bool) → ltb 5000 n ≡ b → eqb n 65535 ≡ c → (b && not c) ≡ false → n < 65536
-    go false c p q e = omega (arith, ltb-false 5000 n p)
-    go true true p q e = omega (arith, eqb-true n 65535 q)
-    go true false p q e = absurd (true≢false e)
+ozone-back (pos n) e = grind (arith, nat_tests, ozone-number, natural-is)
 ozone-back (negsuc n) e = absurd (true≢false e)
 
 temperature-back : (z : ℤ) → temperature_out z ≡ false → signed_of (complement_bytes z) ≡ z

@@ -1,4 +1,5 @@
 -- A float that is a whole number is taken as that number and no other float as any; the f32 of a number up to 2 ^ 24 is that number.
+use Rattle.std.proofs.lemmas.Bool.Decides.{nat_tests}
 use mathlib.Core.Path.{◌≡◌, refl, sym, ap, ◌∙◌, subst}
 use Prim.Native.Nat.{ℕ, suc, ◌+◌, ◌*◌, ◌/◌, ◌%◌, ◌^◌, ◌≤◌, ◌<◌}
 use native.Mathlib.Nat.{mul-one, add-zero, mul-mod_left, mul-div_cancel, div-add-mod', le_trans, eq_of_mul-eq-mul_right}
@@ -47,8 +48,7 @@ whole-broken (fin s m e) h =
 pub whole_unique : (x : Float) (y z : ℤ) → IsWhole x y → IsWhole x z → y ≡ z
 whole_unique nan y z h g = absurd h
 whole_unique (inf s) y z h g = absurd h
-whole_unique (fin s m e) y z h g =
-    sym h.2 ∙ ap (signed s) (eq_of_mul-eq-mul_right (down e) (down_pos e) h.0 g.0 (sym h.1 ∙ g.1)) ∙ g.2
+whole_unique (fin s m e) y z h g = grind (arith, nat_tests, eq_of_mul-eq-mul_right, down_pos)
 
 -- ---- the float of a number
 
@@ -76,10 +76,7 @@ not-ones e h k = omega arith
 
 pub normal-value : (s : Bool) (e t : ℕ) → suc e < 255 → HasValue (of_fields binary32 s (suc e) t) s ((8388608 + t) * 2 ^ e) (2 ^ 149)
 unfolding of_fields
-normal-value s e t h =
-    subst (λ (x : Float). HasValue x s ((8388608 + t) * 2 ^ e) (2 ^ 149))
-    (sym (cond_no (eqb (suc e) 255) (cond (eqb t 0) (inf s) nan) (odd 24 s (8388608 + t) e 149) (not_T (eqb (suc e) 255) (λ (u : T (eqb (suc e) 255)). not-ones e h (eqb→eq (suc e) 255 u)))))
-    (odd_sign 24 s (8388608 + t) e 149)
+normal-value s e t h = grind (arith, nat_tests, cond_no, not_T, eqb→eq, odd_sign)
 
 pub subnormal-value : (s : Bool) (t : ℕ) → HasValue (of_fields binary32 s 0 t) s t (2 ^ 149)
 unfolding of_fields
@@ -87,8 +84,4 @@ subnormal-value s t = subst (λ (n : ℕ). HasValue (odd 24 s t 0 149) s n (2 ^ 
 
 pub no_value : (s : Bool) (t : ℕ) (z : ℤ) → IsWhole (of_fields binary32 s 255 t) z → ⊥
 unfolding of_fields
-no_value s t z = go (eqb t 0)
-  where
-    go : (b : Bool) → IsWhole (cond b (inf s) nan) z → ⊥
-    go true h = h
-    go false h = h
+no_value s t z = grind (arith, nat_tests)

@@ -1,5 +1,4 @@
 pub mod NumberLaws
-pub mod ScaleLaws
 pub mod DecayLookup
 pub mod RememberedLaws
 pub mod RunLaws

@@ -1,6 +1,5 @@
 -- The code's numbers: what it computes from the terms of f_VPD, f_SW and f_phen is the opening's pair and the share's, and fits 64 bits.
-use Rattle.std.proofs.Common.{◌≡◌, ℕ, ◌+◌, ◌-◌, ◌*◌, ◌/◌, ◌%◌, ◌^◌, ◌<◌, ◌≤◌, max, sym, ap, ◌∙◌, ap₂, mul-le-mul_right, mod-lt, mul-le-mul, mul-le-mul_left, div-le_self, div-mul-le_self, mul-div_cancel, arith, w64, Fits}
-use native.Mathlib.Nat.{mul-add-div_right, div-eq_of_lt}
+use Rattle.std.proofs.Common.{◌≡◌, ℕ, ◌+◌, ◌-◌, ◌*◌, ◌/◌, ◌^◌, ◌<◌, ◌≤◌, max, ap, ◌∙◌, ap₂, div-mul-le_self, arith}
 use Rattle.trees.specs.declared.Figures.{Figures}
 use Rattle.trees.specs.Sound.{Sound}
 use Rattle.trees.specs.Temperature.{temperature_pair}
@@ -19,80 +18,11 @@ use Rattle.flux_spec.proofs.PhenologyLaws.{phenology_in-limits, phenology_in-den
 use Rattle.exact.specs.declared.Fraction.{Fraction}
 use Rattle.exact.specs.Frac.{Frac, Is, natural, ◌over◌, ◌≼◌}
 use Rattle.exact.specs.Rounding.{round_up, round_down, times_up, times_down}
-use Rattle.exact.proofs.RoundingLaws.{round_whole, round-rest, times_down-is, times_up-is, times_down-le, times_up-le}
+use Rattle.exact.proofs.RoundingLaws.{round_whole, round-rest, times_down-is, times_up-is}
 use Rattle.records.specs.declared.Air.{Air}
 use Rattle.records.specs.declared.Air.TheVariants.{Deficit, Pressure, Humidity}
 use Rattle.records.specs.declared.Hour.{Hour}
 use Rattle.frames.specs.Layout.{soil_number}
-
--- ---- a number times a factor
-
-module _ (n : ℕ) (x : Fraction) {most : ℕ} (factor : Factor most x) where
-  abbrev value : Frac
-  value = record { num = x.num; den = x.den; positive = factor.whole }
-
-  value-le : value ≼ natural 1
-  value-le = record { cross = omega (arith, factor.below) }
-
-  pub down_le : n * x.num / x.den ≤ n
-  down_le = rw (times_down-is n value) at (times_down-le n {x = value} value-le)
-
-  pub up_le : (n * x.num + (x.den - 1)) / x.den ≤ n
-  up_le = rw (times_up-is n value) at (times_up-le n {x = value} value-le)
-
-module _ (n : ℕ) (x : Fraction) (factor : Factor (2 * 10 ^ 9) x) where
-  module _ (small : n ≤ 10 ^ 9 + 1) where
-    product_le : n * x.num ≤ (10 ^ 9 + 1) * (2 * 10 ^ 9)
-    product_le = omega (arith, mul-le-mul_left n factor.below, mul-le-mul small factor.small)
-
-    pub mul-fits : Fits w64 (n * x.num)
-    mul-fits = record { fits = omega (arith, product_le) }
-
-    pub up_fits : Fits w64 (n * x.num + (x.den - 1))
-    up_fits = record { fits = omega (arith, product_le, factor.small) }
-
--- by the two digits of the number, where the denominator is long
-
-low_digit : (n : ℕ) → n % 32768 ≤ 32767
-low_digit n = omega arith
-
-module _ (n : ℕ) (x : Fraction) (factor : Factor (2 * 10 ^ 14) x) (small : n ≤ 10 ^ 9 + 1) where
-  abbrev high : ℕ
-  high = n / 32768 * x.num
-
-  pub high_fits : Fits w64 high
-  high_fits = record { fits = omega (arith, mul-le-mul_left (n / 32768) factor.below, mul-le-mul_left (n / 32768) factor.small) }
-
-  -- the higher digit's quotient, and what it leaves with the lower one
-
-  pub whole-fits : Fits w64 (high / x.den * 32768)
-  whole-fits = record { fits = omega (arith, down_le (n / 32768) x factor) }
-
-  rest_le : high % x.den * 32768 + n % 32768 * x.num ≤ 65535 * (2 * 10 ^ 14)
-  rest_le = omega (arith, mod-lt high factor.whole, mul-le-mul_right x.num (low_digit n), factor.below, factor.small)
-
-  pub rest-fits : Fits w64 (high % x.den * 32768)
-  rest-fits = record { fits = omega (arith, rest_le) }
-
-  pub low_fits : Fits w64 (n % 32768 * x.num)
-  low_fits = record { fits = omega (arith, rest_le) }
-
-  pub sum_fits : Fits w64 (high % x.den * 32768 + n % 32768 * x.num)
-  sum_fits = record { fits = omega (arith, rest_le) }
-
-  module _ (more : ℕ) (less : more < x.den) where
-    abbrev rest : ℕ
-    rest = high % x.den * 32768 + n % 32768 * x.num + more
-
-    pub more-fits : Fits w64 rest
-    more-fits = record { fits = omega (arith, rest_le, factor.small) }
-
-    pub digits-fit : Fits w64 (high / x.den * 32768 + rest / x.den)
-    digits-fit = record { fits = omega (arith, down_le (n / 32768) x factor, div-le_self rest x.den, rest_le, factor.small) }
-
--- two numbers of 10⁻⁹
-pub product_lt : {a b : ℕ} → a ≤ 10 ^ 9 + 1 → b ≤ 10 ^ 9 + 1 → a * b + 10 ^ 11 < 10 ^ 19
-product_lt h k = omega (arith, mul-le-mul h k)
 
 -- ---- n/d, by one division
 module _ (n d : ℕ) (pos : 0 < d) where
@@ -177,13 +107,3 @@ module _ (stand : Stand) (h : Hour) {phen : Fraction} {light opening : ℕ} wher
         ((light * phen.num + (phen.den - 1)) / phen.den * opening + (10 ^ 11 - 1)) / 10 ^ 11 ≡ share_up stand h
     unfolding share_up round_up
     share_up-is l o = rw (up_is light p, l, o)
-
--- ---- times 1
-
-pub one_down : (n num den : ℕ) → num ≡ den → 0 < den → n ≡ n * num / den
-one_down n num den e h = rw e (sym (mul-div_cancel n h))
-
-pub one_up : (n num den : ℕ) → num ≡ den → 0 < den → n ≡ (n * num + (den - 1)) / den
-one_up n num den e h =
-    let rest : (den - 1) / den ≡ 0 = div-eq_of_lt (omega arith) in
-    rw e (omega (arith, rest, mul-add-div_right h n (den - 1)))

@@ -5,6 +5,7 @@ mod boundary;
 mod decay;
 mod dose;
 mod feed;
+mod given;
 mod hour;
 mod light;
 mod next;
@@ -30,6 +31,7 @@ pub use feed::feed_hours;
 pub use flux_spec::Age;
 use flux_spec::Stand;
 use frames::{Hour, Parameters, Refusal};
+use given::{Dosing, Passed};
 use trees::Figures;
 
 // The figures of the tree with a number, those of tree 7 by its parameters: rows 24 and 5.
@@ -42,44 +44,32 @@ fn tree_of(parameters: Parameters, tree: u8) -> Result<Figures, Refusal>
     measured::figures_in(parameters, tree).ok_or(Refusal::Tree)
 }
 
-// The dose of an hour by a tree's figures: rows 25, 7, 17, 18 and 10.
-fn dose_by(
-    figures: Figures,
-    age: Age,
-    first: u16,
-    last: u16,
-    ceiling: u16,
-    h: Hour,
-) -> Result<Bounds, Refusal>
-    requires sound { Sound figures }
-    requires tabled { HasTable figures }
-    ensures { outcome_of result ≡ hour_dose_of (accepted figures) age first last ceiling h }
+// The dose of an hour by a stand: rows 25, 7, 17, 18 and 10.
+fn dose_by(stand: Stand, h: Hour) -> Result<Bounds, Refusal>
+    requires sound { Sound stand.figures }
+    requires tabled { HasTable stand.figures }
+    ensures { outcome_of result ≡ hour_dose_of (accepted stand.figures) stand.age stand.first stand.last stand.ceiling h }
 {
-    if records::warmth_broken(age.warmth) {
+    let figures = stand.figures;
+    if records::warmth_broken(stand.age.warmth) {
         return Err(Refusal::Warmth);
     }
-    if rows::days_out(figures, first, last) {
+    if rows::days_out(figures, stand.first, stand.last) {
         return Err(Refusal::Period);
     }
-    if records::ceiling_out(ceiling) {
+    if records::ceiling_out(stand.ceiling) {
         return Err(Refusal::Ceiling);
     }
-    if records::lacks_ceiling(ceiling, h.ozone) {
+    if records::lacks_ceiling(stand.ceiling, h.ozone) {
         return Err(Refusal::NoCeiling);
     }
     records::check_hour(h, rows::soil_unfit(figures.measure, h.soil))?;
-    let stand = Stand {
-        figures,
-        age,
-        first,
-        last,
-        ceiling,
-    };
-    Ok(run::pair_alone(stand, h))
+    Ok(run::pair_alone(Dosing { stand }, Passed { hour: h }))
 }
 
 // What an hour adds to POD1, for the tree with a number, its parameters (tree 7 goes by them, no other tree), leaf age by warmth (all 0: by the day), the first and
 // the last day of the period and the ozone ceiling (0: none): its pair where it is counted, else 0 and 0.
+// Kept: a struct of the first six would be a `Stand` with a tree's number for its figures, filled at each call and taken apart in the promise.
 pub fn hour_dose(
     tree: u8,
     parameters: Parameters,
@@ -95,5 +85,12 @@ pub fn hour_dose(
     ensures bench_cases { BenchCases }
 {
     let figures = tree_of(parameters, tree)?;
-    dose_by(figures, age, first, last, ceiling, h)
+    let stand = Stand {
+        figures,
+        age,
+        first,
+        last,
+        ceiling,
+    };
+    dose_by(stand, h)
 }

@@ -3,9 +3,9 @@ ghost use Rattle.std.specs.Prelude.{◌≡◌, ◌*◌, ◌<◌};
 ghost use Rattle.exact.specs.Frac.{◌over◌};
 ghost use Rattle.exact.specs.Rounding.{round_up, round_down};
 ghost use Rattle.records.specs.Ozone.{with_ozone, read_as};
-ghost use Rattle.flux_spec.specs.Conductance.{above_of};
 ghost use Rattle.flux_spec.specs.Pair.{concentration_low, concentration_up};
 
+use crate::scale;
 use exact::Bounds;
 use frames::{Air, Hour};
 
@@ -26,9 +26,10 @@ fn rounded(n: u64, d: u64) -> Bounds
     ensures lower { result.lower ≡ round_down (n over d) }
     ensures upper { result.upper ≡ round_up (n over d) }
 {
-    let lower = n / d;
-    let upper = if lower * d < n { lower + 1 } else { lower };
-    Bounds { lower, upper }
+    Bounds {
+        lower: n / d,
+        upper: n.div_ceil(d),
+    }
 }
 
 // That of tenths of ppb where no pressure is read.
@@ -40,9 +41,8 @@ fn plain(ozone: u16) -> Bounds
     Bounds { lower: c, upper: c }
 }
 
-// That of an hour with tenths of ppb, t tenths of a degree above -50.0 °C.
-fn at(ozone: u16, h: Hour, t: u16) -> Bounds
-    requires { t ≡ above_of h.temperature }
+// That of an hour with tenths of ppb.
+fn at(ozone: u16, h: Hour) -> Bounds
     ensures lower { result.lower ≡ concentration_low (with_ozone ozone h) }
     ensures upper { result.upper ≡ concentration_up (with_ozone ozone h) }
 {
@@ -50,19 +50,18 @@ fn at(ozone: u16, h: Hour, t: u16) -> Bounds
         Air::Deficit(_) => plain(ozone),
         Air::Pressure { pressure: p, .. } => rounded(
             PRESSURE * (ozone as u64) * (p as u64),
-            GAS * (2 * (t as u64) + COLDEST),
+            GAS * (2 * (scale::above(h.temperature) as u64) + COLDEST),
         ),
         Air::Humidity(_) => plain(ozone),
     }
 }
 
 // That of an hour, a missing ozone read as 0 below and as the ceiling above.
-pub(crate) fn concentration(h: Hour, ceiling: u16, t: u16) -> Bounds
-    requires { t ≡ above_of h.temperature }
+pub(crate) fn concentration(h: Hour, ceiling: u16) -> Bounds
     ensures lower { result.lower ≡ concentration_low (read_as 0 h) }
     ensures upper { result.upper ≡ concentration_up (read_as ceiling h) }
 {
-    let c = at(h.ozone.unwrap_or(ceiling), h, t);
+    let c = at(h.ozone.unwrap_or(ceiling), h);
     match h.ozone {
         Some(_) => c,
         None => Bounds { lower: 0, ..c },

@@ -1,57 +1,50 @@
-// What a temperature gives an hour, remembered for the hours that have it again: f_temp's pair and, in kind 05, the saturation pressure, in one number.
+// What a temperature gives an hour, remembered for the hours that have it again: f_temp's pair and the saturation pressure, in one number.
 // t is the temperature in tenths of a degree above -50.0 °C.
+// Kept: no heap, so 8 bytes of the stack for each temperature; a struct of two `u32` would take as many, and still hold f_temp's numbers added up and say none
+// by 0.
+// Kept for speed: trees 1 to 6 too; with their tables read at each hour it took 2 to 3 percent longer.
 ghost use Rattle.std.specs.Prelude.{◌≡◌, ◌-◌, ◌/◌, ◌%◌, ◌<◌, ◌≤◌};
-ghost use Rattle.trees.specs.Sound.{Sound};
-ghost use Rattle.trees.specs.Steps.{HasTable};
-ghost use Rattle.flux.specs.Remembered.{saturation_for, remembered_of, Remembers};
+ghost use Rattle.flux.specs.Remembered.{remembered_of, Remembers};
 
-use crate::hour;
+use crate::given::Dosing;
 use exact::Bounds;
-use flux_spec::Stand;
-use trees::Figures;
+use trees::Source;
 
 // The saturation pressure stands above f_temp's two numbers, which are added up.
 const WORD: u64 = 4294967296;
 
-fn saturation_for(kind: u8, t: u16) -> u64
+// f_temp out of a table, or worked out from the figures; it has no reading above 60.0 °C.
+fn worked(dosing: Dosing, t: u16) -> u64
     requires highest { t ≤ 1100 }
-    ensures is { result ≡ saturation_for kind t }
-    ensures small { result < 4294967296 }
+    ensures { result ≡ remembered_of dosing.stand.figures t }
 {
-    if kind == 5 {
-        return humidity::saturation(t) as u64;
-    }
-    0
+    let f = dosing.stand.figures;
+    let none = Bounds { lower: 0, upper: 0 };
+    let pair = match f.source {
+        Source::Tabled(curve) => tables::f_temp(curve, t).unwrap_or(none),
+        Source::Worked => power::f_temp(f, t).unwrap_or(none),
+    };
+    (humidity::saturation(t) as u64) * WORD + (pair.lower + pair.upper)
 }
 
-fn worked(f: Figures, kind: u8, t: u16) -> u64
-    requires sound { Sound f }
-    requires tabled { HasTable f }
+// Out of the memory where it has the temperature; a memory that is too short remembers nothing.
+// Kept: a struct of the dosing and the memory would be lent for writing, so each contract would say besides that a call leaves the dosing as it was.
+// Kept for speed: `worked` is called at two places, so that the compiler leaves it out of the loop over the lines.
+pub(crate) fn remembered(dosing: Dosing, memory: &mut [u64], t: u16) -> u64
     requires highest { t ≤ 1100 }
-    ensures { result ≡ remembered_of f kind t }
-{
-    let pair = hour::temperature(f, t);
-    saturation_for(kind, t) * WORD + (pair.lower + pair.upper)
-}
-
-// Out of the memory where it has the temperature; a memory that is too short remembers nothing. The figures are taken out of the stand where they are needed alone.
-pub(crate) fn remembered(stand: Stand, kind: u8, memory: &mut [u64], t: u16) -> u64
-    requires sound { Sound stand.figures }
-    requires tabled { HasTable stand.figures }
-    requires highest { t ≤ 1100 }
-    requires memory { Remembers stand.figures kind memory.old }
-    ensures is { result ≡ remembered_of stand.figures kind t }
-    ensures kept { Remembers stand.figures kind memory.new }
+    requires memory { Remembers dosing.stand.figures memory.old }
+    ensures is { result ≡ remembered_of dosing.stand.figures t }
+    ensures kept { Remembers dosing.stand.figures memory.new }
 {
     let i = t as usize;
     if memory.len() <= i {
-        return worked(stand.figures, kind, t);
+        return worked(dosing, t);
     }
     let found = memory[i];
     if found != 0 {
         return found;
     }
-    let m = worked(stand.figures, kind, t);
+    let m = worked(dosing, t);
     memory[i] = m;
     m
 }
@@ -68,9 +61,8 @@ pub(crate) fn f_temp(m: u64) -> Bounds
     }
 }
 
-pub(crate) fn saturation(m: u64) -> u64
-    ensures is { result ≡ m / 4294967296 }
-    ensures small { result < 4294967296 }
+pub(crate) fn saturation(m: u64) -> u32
+    ensures { result ≡ m / 4294967296 }
 {
-    m / WORD
+    (m / WORD) as u32
 }

@@ -14,24 +14,21 @@ pub(crate) fn measured_out(tree: u8, parameters: Parameters) -> bool
 }
 
 // Row 7 where the year is not known: no year has more than 366 days.
+// Kept: `period_out` of records goes by a header, whose year is known.
 pub(crate) fn days_out(f: Figures, first: u16, last: u16) -> bool
     ensures { result ≡ days_out f first last }
 {
-    first < 1
-        || last < first
-        || 366 < last
-        || ((last - first) as u32) < (f.f1 as u32) + (f.f4 as u32)
+    first < 1 || last < first || 366 < last || u32::from(last - first) < trees::ramp_days(f)
 }
 
 // The soil is not in the tree's measure.
 fn other_measure(measure: Measure, soil: Soil) -> bool
     ensures { result ≡ other_measure measure soil }
 {
-    match (measure, soil) {
-        (Measure::Suction, Soil::Suction(_)) => false,
-        (Measure::Water, Soil::Water(_)) => false,
-        _ => true,
-    }
+    !matches!(
+        (measure, soil),
+        (Measure::Suction, Soil::Suction(_)) | (Measure::Water, Soil::Water(_))
+    )
 }
 
 // The soil is out of range, or not in the tree's measure.

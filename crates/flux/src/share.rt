@@ -4,125 +4,130 @@ ghost use Rattle.flux.specs.Steps.{Factor};
 
 use exact::Fraction;
 
-// The greatest denominator whose product with a number of 10⁻⁹ is taken at once.
+// A number in units of 10⁻⁹: up to 1, or one unit more.
+#[derive(Clone, Copy)]
+pub(crate) struct Part {
+    pub n: u64,
+    pub ghost small: { n ≤ 10 ^ 9 + 1 },
+}
+
+// A factor up to 1 whose denominator is at most MOST.
+#[derive(Clone, Copy)]
+pub(crate) struct Limited<const MOST: u64> {
+    pub x: Fraction,
+    pub ghost factor: { Factor MOST x },
+}
+
+// One whose product with a number of 10⁻⁹ is taken at once.
+pub(crate) type Short = Limited<2000000000>;
+
+// f_VPD.
+pub(crate) type Long = Limited<200000000000000>;
+
+// The greatest denominator of a short factor.
 const SHORT: u64 = 2000000000;
 
 // The base of a number's two digits.
 const BASE: u64 = 32768;
 
 // A number times a factor, rounded down.
-fn times_down(n: u64, x: Fraction) -> u64
-    requires number { n ≤ 10 ^ 9 + 1 }
-    requires factor { Factor (2 * 10 ^ 9) x }
-    ensures is { result ≡ n * x.num / x.den }
-    ensures le { result ≤ n }
+// Kept: each rounding has an equation of its own, here and in the three pairs below; one function of both would state the two and be told at each call which.
+fn times_down(part: Part, by: Short) -> Part
+    ensures { result.n ≡ part.n * by.x.num / by.x.den }
 {
-    if x.num == x.den {
-        return n;
+    if by.x.num == by.x.den {
+        return part;
     }
-    n * x.num / x.den
+    Part {
+        n: part.n * by.x.num / by.x.den,
+    }
 }
 
 // A number times a factor, rounded up.
-fn times_up(n: u64, x: Fraction) -> u64
-    requires number { n ≤ 10 ^ 9 + 1 }
-    requires factor { Factor (2 * 10 ^ 9) x }
-    ensures is { result ≡ (n * x.num + (x.den - 1)) / x.den }
-    ensures le { result ≤ n }
+fn times_up(part: Part, by: Short) -> Part
+    ensures { result.n ≡ (part.n * by.x.num + (by.x.den - 1)) / by.x.den }
 {
-    if x.num == x.den {
-        return n;
+    if by.x.num == by.x.den {
+        return part;
     }
-    (n * x.num + (x.den - 1)) / x.den
+    Part {
+        n: (part.n * by.x.num + (by.x.den - 1)) / by.x.den,
+    }
 }
 
 // A number times a factor by the number's two digits, rounded down, or up where `more` is the divisor less 1: the higher digit's quotient, then what it leaves
 // with the lower digit.
-fn by_digits(n: u64, x: Fraction, more: u64) -> u64
-    requires number { n ≤ 10 ^ 9 + 1 }
-    requires factor { Factor (2 * 10 ^ 14) x }
-    requires more { more < x.den }
-    ensures { result ≡ (n * x.num + more) / x.den }
+fn by_digits(part: Part, by: Long, more: u64) -> u64
+    requires more { more < by.x.den }
+    ensures { result ≡ (part.n * by.x.num + more) / by.x.den }
 {
+    let n = part.n;
+    let x = by.x;
     let high = n / BASE * x.num;
     high / x.den * BASE + (high % x.den * BASE + n % BASE * x.num + more) / x.den
 }
 
 // A number times f_VPD, rounded down.
-fn deficit_down(n: u64, x: Fraction) -> u64
-    requires number { n ≤ 10 ^ 9 + 1 }
-    requires factor { Factor (2 * 10 ^ 14) x }
-    ensures is { result ≡ n * x.num / x.den }
-    ensures le { result ≤ n }
+fn deficit_down(part: Part, by: Long) -> Part
+    ensures { result.n ≡ part.n * by.x.num / by.x.den }
 {
-    if x.den <= SHORT {
-        return times_down(n, x);
+    if by.x.den <= SHORT {
+        return times_down(part, Short { x: by.x });
     }
-    if x.num == x.den {
-        return n;
+    if by.x.num == by.x.den {
+        return part;
     }
-    by_digits(n, x, 0)
+    Part {
+        n: by_digits(part, by, 0),
+    }
 }
 
 // A number times f_VPD, rounded up.
-fn deficit_up(n: u64, x: Fraction) -> u64
-    requires number { n ≤ 10 ^ 9 + 1 }
-    requires factor { Factor (2 * 10 ^ 14) x }
-    ensures is { result ≡ (n * x.num + (x.den - 1)) / x.den }
-    ensures le { result ≤ n }
+fn deficit_up(part: Part, by: Long) -> Part
+    ensures { result.n ≡ (part.n * by.x.num + (by.x.den - 1)) / by.x.den }
 {
-    if x.den <= SHORT {
-        return times_up(n, x);
+    if by.x.den <= SHORT {
+        return times_up(part, Short { x: by.x });
     }
-    if x.num == x.den {
-        return n;
+    if by.x.num == by.x.den {
+        return part;
     }
-    by_digits(n, x, x.den - 1)
+    Part {
+        n: by_digits(part, by, by.x.den - 1),
+    }
 }
 
 // A number, but at least f_min, which is in percent.
-fn at_least(fmin: u16, n: u64) -> u64
-    ensures { result ≡ max (fmin * 10 ^ 7) n }
+fn at_least(fmin: u16, part: Part) -> u64
+    ensures { result ≡ max (fmin * 10 ^ 7) part.n }
 {
-    n.max((fmin as u64) * 10000000)
+    part.n.max((fmin as u64) * 10000000)
 }
 
 // max(f_min, f_temp·f_VPD·f_SW) from the lower bound of f_temp, rounded down.
-pub(crate) fn opening_low(fmin: u16, t: u64, vpd: Fraction, sw: Fraction) -> u64
-    requires number { t ≤ 10 ^ 9 + 1 }
-    requires vpd { Factor (2 * 10 ^ 14) vpd }
-    requires sw { Factor (2 * 10 ^ 9) sw }
-    ensures { result ≡ max (fmin * 10 ^ 7) (t * vpd.num / vpd.den * sw.num / sw.den) }
+pub(crate) fn opening_low(fmin: u16, t: Part, vpd: Long, sw: Short) -> u64
+    ensures { result ≡ max (fmin * 10 ^ 7) (t.n * vpd.x.num / vpd.x.den * sw.x.num / sw.x.den) }
 {
     at_least(fmin, times_down(deficit_down(t, vpd), sw))
 }
 
 // max(f_min, f_temp·f_VPD·f_SW) from the upper bound of f_temp, rounded up.
-pub(crate) fn opening_up(fmin: u16, t: u64, vpd: Fraction, sw: Fraction) -> u64
-    requires number { t ≤ 10 ^ 9 + 1 }
-    requires vpd { Factor (2 * 10 ^ 14) vpd }
-    requires sw { Factor (2 * 10 ^ 9) sw }
-    ensures { result ≡ max (fmin * 10 ^ 7) (((t * vpd.num + (vpd.den - 1)) / vpd.den * sw.num + (sw.den - 1)) / sw.den) }
+pub(crate) fn opening_up(fmin: u16, t: Part, vpd: Long, sw: Short) -> u64
+    ensures { result ≡ max (fmin * 10 ^ 7) (((t.n * vpd.x.num + (vpd.x.den - 1)) / vpd.x.den * sw.x.num + (sw.x.den - 1)) / sw.x.den) }
 {
     at_least(fmin, times_up(deficit_up(t, vpd), sw))
 }
 
-// f_phen × f_light × that, from the lower bounds, rounded down.
-pub(crate) fn share_low(light: u64, phen: Fraction, opening: u64) -> u64
-    requires light { light ≤ 10 ^ 9 + 1 }
-    requires phen { Factor (2 * 10 ^ 9) phen }
-    requires opening { opening ≤ 10 ^ 9 + 1 }
-    ensures { result ≡ light * phen.num / phen.den * opening / 10 ^ 11 }
+// f_phen × f_light × the opening, from the lower bounds, rounded down.
+pub(crate) fn share_low(light: Part, phen: Short, opening: Part) -> u64
+    ensures { result ≡ light.n * phen.x.num / phen.x.den * opening.n / 10 ^ 11 }
 {
-    times_down(light, phen) * opening / 100000000000
+    times_down(light, phen).n * opening.n / 100000000000
 }
 
-// f_phen × f_light × that, from the upper bounds, rounded up.
-pub(crate) fn share_up(light: u64, phen: Fraction, opening: u64) -> u64
-    requires light { light ≤ 10 ^ 9 + 1 }
-    requires phen { Factor (2 * 10 ^ 9) phen }
-    requires opening { opening ≤ 10 ^ 9 + 1 }
-    ensures { result ≡ ((light * phen.num + (phen.den - 1)) / phen.den * opening + (10 ^ 11 - 1)) / 10 ^ 11 }
+// f_phen × f_light × the opening, from the upper bounds, rounded up.
+pub(crate) fn share_up(light: Part, phen: Short, opening: Part) -> u64
+    ensures { result ≡ ((light.n * phen.x.num + (phen.x.den - 1)) / phen.x.den * opening.n + (10 ^ 11 - 1)) / 10 ^ 11 }
 {
-    (times_up(light, phen) * opening + 99999999999) / 100000000000
+    (times_up(light, phen).n * opening.n + 99999999999) / 100000000000
 }

@@ -1,9 +1,8 @@
 // The vapour pressure deficit of an hour (document 01, "Factors"; W-205), between two deficits.
 ghost use Rattle.std.specs.Prelude.{◌≡◌, ℕ, ◌+◌, ◌-◌, ◌*◌, ◌<◌, ◌≤◌, false};
 ghost use Rattle.records.specs.Ranges.{vapour_out};
-ghost use Rattle.frames.specs.Layout.{air_kind};
 ghost use Rattle.flux_spec.specs.Deficit.{read_deficits, air_deficits};
-ghost use Rattle.flux.specs.Remembered.{saturation_for};
+ghost use Rattle.humidity_spec.specs.Pair.{entry_of};
 
 use frames::Air;
 use trees::Deficits;
@@ -26,12 +25,13 @@ fn read(vpd: u16) -> Deficits
 }
 
 // Out of a humidity in tenths of a percent and the saturation pressure.
-fn derived(rh: u16, s: u64) -> Deficits
+// Kept: here the pressure is given; `deficit` of humidity looks it up and tests both readings.
+fn derived(rh: u16, s: u32) -> Deficits
     requires wet { rh ≤ 1000 }
-    requires small { s < 4294967296 }
     ensures { result ≡ record { lower = (1000 - rh) * s; upper = (1000 - rh) * (s + 1); den = 200000000 } }
 {
-    let dry = (WETTEST - rh) as u64;
+    let dry = u64::from(WETTEST - rh);
+    let s = u64::from(s);
     Deficits {
         lower: dry * s,
         upper: dry * (s + 1),
@@ -39,11 +39,10 @@ fn derived(rh: u16, s: u64) -> Deficits
     }
 }
 
-// By the kind of the hour's frame, whose saturation pressure is given where it is 05.
-pub(crate) fn deficits(air: Air, s: u64) -> Deficits
+// By what the hour says of the air; s is the saturation pressure at its temperature.
+pub(crate) fn deficits(air: Air, s: u32) -> Deficits
     requires range { vapour_out air ≡ false }
-    requires small { s < 4294967296 }
-    ensures { (t : ℕ) → s ≡ saturation_for (air_kind air) t → result ≡ air_deficits air t }
+    ensures { (t : ℕ) → s ≡ entry_of t → result ≡ air_deficits air t }
 {
     match air {
         Air::Deficit(n) => read(n),

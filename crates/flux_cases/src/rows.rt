@@ -6,6 +6,7 @@ use flux::Age;
 use frames::{Air, Hour, Soil, Warmth};
 use std::io;
 
+// Kept: by a row's letter; `soil_of` of frames is private and goes by a tree's measure, `soil_from` of part by C's number for one.
 fn soil_of(measure: u8, n: u16) -> Soil {
     if measure == b'W' {
         Soil::Water(n)

@@ -1,7 +1,8 @@
 -- The root of leaf/wind, rounded up to k decimals, is the least that reaches it and never rises as k grows; `root_low` and the next enclose it.
+use Rattle.std.proofs.lemmas.Bool.Decides.{nat_tests}
 use mathlib.Core.Path.{◌≡◌, ap, ◌∙◌}
-use Prim.Native.Nat.{ℕ, zero, suc, ◌+◌, ◌-◌, ◌*◌, ◌/◌, ◌^◌, ◌≤◌, ◌<◌}
-use native.Mathlib.Nat.{le_trans, mul-le-mul, mul-le-mul_left, mul-le-mul_right, le_of_mul-le-mul_right, div-mul-le_self, lt-div-mul-add}
+use Prim.Native.Nat.{ℕ, ◌+◌, ◌-◌, ◌*◌, ◌/◌, ◌^◌, ◌≤◌, ◌<◌}
+use native.Mathlib.Nat.{le_trans, mul-le-mul_left, mul-le-mul_right, le_of_mul-le-mul_right, div-mul-le_self, lt-div-mul-add}
 use native.Mathlib.Omega.{arith}
 use lib.Pow.{pow-add}
 use Rattle.exact.specs.Frac.{◌over◌, ◌≼◌}
@@ -17,8 +18,7 @@ twice : (k : ℕ) → 10 ^ (2 * k) ≡ 10 ^ k * 10 ^ k
 twice k = ap (λ (m : ℕ). 10 ^ m) (omega arith) ∙ pow-add 10 k k
 
 reached : (n w : ℕ) → 0 < w → n ≤ n * n * (10 * w)
-reached zero w h = omega arith
-reached (suc n) w h = omega (arith, mul-le-mul_left (suc n * suc n) h)
+reached n w h = grind (arith, mul-le-mul_left (n * n) h)
 
 module _ (k leaf wind : ℕ) where
   root_up_at-reaches :
@@ -36,11 +36,7 @@ scale a b n w r h = omega (arith, mul-le-mul_left (b * b) h)
 
 module _ (leaf wind : ℕ) (blows : 0 < wind) where
   root_up_at-next : (k j : ℕ) → root_up_at (k + j) leaf wind ≤ 10 ^ j * root_up_at k leaf wind
-  root_up_at-next k j =
-      root_up_at-least (k + j) leaf wind (10 ^ j * root_up_at k leaf wind)
-      (rw (twice (k + j), pow-add 10 k j)
-      (scale (10 ^ k) (10 ^ j) leaf (10 * wind) (root_up_at k leaf wind)
-      (rw (twice k) at (root_up_at-reaches k leaf wind blows))))
+  root_up_at-next k j = grind (arith, nat_tests, root_up_at-least, twice, pow-add, scale, root_up_at-reaches)
 
   further : (k j : ℕ) → root_up_at (k + j) leaf wind * 10 ^ k ≤ root_up_at k leaf wind * 10 ^ (k + j)
   further k j = rw (pow-add 10 k j) (omega (arith, mul-le-mul_right (10 ^ k) (root_up_at-next k j)))
@@ -92,7 +88,3 @@ module _ (leaf wind : ℕ) where
 
   pub root_low-200 : leaf ≤ 200 → root_low leaf wind + 1 ≤ 14142136
   root_low-200 h = omega (arith, root_low-lt 14142136 (omega arith))
-
--- up to 2²⁵ a square stays within 2⁵⁰
-pub square-small : (m : ℕ) → m ≤ 33554432 → m * m ≤ 1125899906842624
-square-small m h = mul-le-mul {n₂ = 33554432} {m₂ = 33554432} h h

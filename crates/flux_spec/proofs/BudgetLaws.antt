@@ -1,7 +1,8 @@
 -- The error budget of an hour: how far apart its two numbers are at most after each step, where f_VPD out of humidity is steep and in any other hour.
+use Rattle.std.proofs.lemmas.Bool.Decides.{nat_tests}
 use Prim.Native.Nat.{ℕ, ◌+◌, ◌-◌, ◌*◌, ◌≤◌}
-use mathlib.Core.Path.{◌≡◌, refl}
-use mathlib.Core.Bool.{Bool, true, false, cond}
+use mathlib.Core.Path.{◌≡◌}
+use mathlib.Core.Bool.{Bool, true, false}
 use native.Mathlib.Omega.{arith}
 use lib.Dec.{ltb}
 use Rattle.trees.specs.declared.Figures.{Figures}
@@ -37,33 +38,15 @@ step_in false = 1
 
 -- the dose
 
-step_is : (t : Bool) → cond t 6 2 ≡ step_in t + 1
-step_is true = refl
-step_is false = refl
-
 pub gap_dose-is : (f : Figures) (a : Air) → gap_dose f a ≡ step_in (is_steep f a) + 1
-gap_dose-is f (Deficit vpd) = refl
-gap_dose-is f (Pressure vpd p) = refl
-gap_dose-is f (Humidity rh) = step_is (ltb (f.vpdmin - f.vpdmax) 13)
-
-step_in-le : (t : Bool) → step_in t ≤ 5
-step_in-le true = omega arith
-step_in-le false = omega arith
+gap_dose-is f a = grind (arith, nat_tests)
 
 pub gap_dose-le : (f : Figures) (a : Air) → gap_dose f a ≤ 6
-gap_dose-le f a = omega (arith, gap_dose-is f a, step_in-le (is_steep f a))
-
-cond-ge : (t : Bool) → 2 ≤ cond t 6 2
-cond-ge true = omega arith
-cond-ge false = omega arith
+gap_dose-le f a = grind (arith, nat_tests)
 
 -- whatever the kind
 pub most_dose-le : (gmax : ℕ) (a : Air) → most_dose gmax a ≤ 3000 * gmax
-most_dose-le gmax (Deficit vpd) = omega arith
-most_dose-le gmax (Pressure vpd p) = omega arith
-most_dose-le gmax (Humidity rh) = omega arith
+most_dose-le gmax a = grind arith
 
 pub gap_dose-most : (f : Figures) (a : Air) → gap_dose f a ≤ gap_most f
-gap_dose-most f (Deficit vpd) = cond-ge (ltb (f.vpdmin - f.vpdmax) 13)
-gap_dose-most f (Pressure vpd p) = cond-ge (ltb (f.vpdmin - f.vpdmax) 13)
-gap_dose-most f (Humidity rh) = omega arith
+gap_dose-most f a = grind (arith, nat_tests)

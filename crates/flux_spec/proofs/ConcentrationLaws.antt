@@ -1,8 +1,8 @@
 -- Ozone's concentration: in whole numbers for each kind of hour, at most 29644 nmol m⁻³ in range, growing with the reading; its two numbers enclose it
 -- and are at most 1 apart.
+use Rattle.std.proofs.lemmas.Bool.Decides.{nat_tests}
 use Prim.Native.Nat.{ℕ, ◌+◌, ◌*◌, ◌≤◌, max}
 use mathlib.Core.Path.{◌≡◌, ap}
-use mathlib.Core.Bool.{Bool, true, false}
 use native.Mathlib.Omega.{arith}
 use lib.Dec.{lit<}
 use lib.IntN.{ℤ}
@@ -36,7 +36,7 @@ module _ (h : Hour) where
   module _ (plain : per_ppb h.air h.temperature ≡ 4156 over 100) where
     plain_down : concentration_low h ≡ 74808 * tenths_or 0 h.ozone
     unfolding concentration_low concentration times_down round_down
-    plain_down = rw plain (omega arith)
+    plain_down = grind arith
 
     plain-up : concentration_up h ≡ 74808 * tenths_or 0 h.ozone
     unfolding concentration_up concentration times_up round_up
@@ -62,11 +62,7 @@ module _ (h : Hour) where
     pressed-up = round_up-same pressed-is
 
 pub ozone-facts : (h : Hour) → OzoneFacts h
-ozone-facts h = record {
-  plain = λ vpd e. let is = ap (λ a. per_ppb a h.temperature) e in (plain_down h is, plain-up h is);
-  humid = λ rh e. let is = ap (λ a. per_ppb a h.temperature) e in (plain_down h is, plain-up h is);
-  pressed = pressed-is h;
-}
+ozone-facts h = grind (arith, nat_tests, plain_down, plain-up, pressed-is)
 
 -- ---- between its two numbers
 
@@ -90,14 +86,11 @@ module _ (h : Hour) where
 -- ---- in range: 500 ppb, 1100.0 hPa and -50.0 °C have the most
 
 per_ppb-le : (a : Air) (t : ℤ) → PressureIn a → per_ppb a t ≼ 29644 over 500
-per_ppb-le (Deficit vpd) t i = omega arith
-per_ppb-le (Pressure vpd p) t i = record { cross = omega (arith, gas-is t, i.below) }
-per_ppb-le (Humidity rh) t i = omega arith
+per_ppb-le a t i = grind (arith, gas-is)
 
 concentration-le : (h : Hour) → HourIn h → concentration h ≼ natural 29644
 unfolding concentration
-concentration-le h range =
-    ≼_trans (⊗-mono (over-mono 10 range.ozone) (per_ppb-le h.air h.temperature range.pressure)) (omega arith)
+concentration-le h range = grind (arith, nat_tests, ≼_trans, ⊗-mono, over-mono, per_ppb-le)
 
 pub concentration_up-le : (h : Hour) → HourIn h → concentration_up h ≤ 533592000
 unfolding concentration_up
@@ -110,18 +103,10 @@ top_of (Pressure vpd p) = 533592000
 top_of (Humidity rh) = 374040000
 
 pub concentration_up-most : (h : Hour) → HourIn h → (a : Air) → h.air ≡ a → concentration_up h ≤ top_of a
-concentration_up-most h range (Deficit vpd) e = omega (arith, ((ozone-facts h).plain vpd e).1, range.ozone)
-concentration_up-most h range (Pressure vpd p) e = concentration_up-le h range
-concentration_up-most h range (Humidity rh) e = omega (arith, ((ozone-facts h).humid rh e).1, range.ozone)
-
-top_in-ge : (steep : Bool) → 374040000 ≤ top_in steep
-top_in-ge true = omega arith
-top_in-ge false = omega arith
+concentration_up-most h range a e = grind (arith, (ozone-facts h).plain, (ozone-facts h).humid, range.ozone, concentration_up-le h range)
 
 pub concentration_up-top : (f : Figures) (h : Hour) → HourIn h → (a : Air) → h.air ≡ a → concentration_up h ≤ top_in (is_steep f a)
-concentration_up-top f h range (Deficit vpd) e = concentration_up-le h range
-concentration_up-top f h range (Pressure vpd p) e = concentration_up-le h range
-concentration_up-top f h range (Humidity rh) e = omega (arith, concentration_up-most h range (Humidity rh) e, top_in-ge (is_steep f (Humidity rh)))
+concentration_up-top f h range a e = grind (arith, concentration_up-most h range a e)
 
 -- ---- with none, and with a higher reading of ozone
 

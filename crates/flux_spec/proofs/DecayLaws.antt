@@ -1,4 +1,5 @@
 -- decay_low n is at most exp(-n/10000) at every k, and at most 7 below it at three times a digit's k, in units of 10⁻⁹.
+use Rattle.std.proofs.lemmas.Bool.Decides.{nat_tests}
 use mathlib.Core.Path.{◌≡◌}
 use Prim.Native.Nat.{ℕ, ◌+◌, ◌*◌, ◌/◌, ◌%◌, ◌^◌, ◌≤◌, ◌<◌}
 use native.Mathlib.Nat.{mul-le-mul_left, mul-le-mul_right, mul-le-mul, div-mul-le_self, lt-div-mul-add}
@@ -57,9 +58,7 @@ digits-is n = omega arith
 
 pub decay_low-le : (n : ℕ) → decay_low n ≤ 10 ^ 9
 unfolding decay_low
-decay_low-le n =
-    product_le _ (decay_entry (10000 * (n / 10000)))
-    (product_le (decay_entry (n % 100)) (decay_entry (100 * (n / 100 % 100))) (decay_entry-le _) (decay_entry-le _)) (decay_entry-le _)
+decay_low-le n = grind (arith, nat_tests, product_le, decay_entry-le)
 
 module _ (n : ℕ) (small : n < 650000) where
   ones : Near digit_terms (n % 100) (decay_entry (n % 100)) 1

@@ -1,14 +1,14 @@
 -- The table's rule and the digits' lower bounds, each out of one computed test.
-use mathlib.Core.Path.{◌≡◌, ◌∙◌, subst, sym}
+use Rattle.std.proofs.lemmas.Bool.Decides.{nat_tests}
+use mathlib.Core.Path.{◌≡◌}
 use mathlib.Core.Bool.{Bool, true, ◌&&◌}
 use mathlib.Core.List.{List, [], ◌∷◌}
 use mathlib.Core.Logic.{⊎_elim}
 use Prim.Native.Nat.{ℕ, zero, suc, ◌+◌, ◌*◌, ◌/◌, ◌^◌, ◌≤◌, ◌<◌}
-use native.Mathlib.Nat.{add-zero, zero-add, add-suc, suc-add, le_of_suc-le-suc, not-suc-le-zero, eq-or-lt_of_le, mul-le-mul_left, one-mul}
+use native.Mathlib.Nat.{zero-add, add-suc, suc-add, le_of_suc-le-suc, not-suc-le-zero, eq-or-lt_of_le, mul-le-mul_left, one-mul}
 use native.Mathlib.Omega.{arith}
 use lib.Dec.{T, eqb, eqb→eq, lit<, lit≤}
 use lib.ListN.{get_or}
-use store.Enc.{and_l, and_r}
 use Rattle.exact.specs.Frac.{◌over◌, ◌≼◌}
 use Rattle.exact.specs.Series.{decay_at}
 use Rattle.exact.proofs.SeriesCommon.{common_den, common_num}
@@ -34,30 +34,17 @@ every_test place d (suc m) (e ∷ es) = eqb e (rounded (place * d)) && every_tes
 every-tested :
     (place d m : ℕ) (es : List ℕ) → T (every_test place d m es) → (i : ℕ) → i < m → get_or es i 0 ≡ rounded (place * (d + i))
 every-tested place d zero es h i l = absurd (not-suc-le-zero l)
-every-tested place d (suc m) [] h zero l =
-    subst (λ (k : ℕ). 0 ≡ rounded (place * k)) (sym (add-zero d))
-    (eqb→eq 0 _ (and_l (eqb 0 (rounded (place * d))) (every_test place (suc d) m []) h))
-every-tested place d (suc m) [] h (suc i) l =
-    subst (λ (k : ℕ). 0 ≡ rounded (place * k)) (suc-add d i ∙ sym (add-suc d i))
-    (every-tested place (suc d) m [] (and_r (eqb 0 (rounded (place * d))) (every_test place (suc d) m []) h) i (le_of_suc-le-suc l))
-every-tested place d (suc m) (e ∷ es) h zero l =
-    subst (λ (k : ℕ). e ≡ rounded (place * k)) (sym (add-zero d))
-    (eqb→eq e _ (and_l (eqb e (rounded (place * d))) (every_test place (suc d) m es) h))
-every-tested place d (suc m) (e ∷ es) h (suc i) l =
-    subst (λ (k : ℕ). get_or es i 0 ≡ rounded (place * k)) (suc-add d i ∙ sym (add-suc d i))
-    (every-tested place (suc d) m es (and_r (eqb e (rounded (place * d))) (every_test place (suc d) m es) h) i (le_of_suc-le-suc l))
+every-tested place d (suc m) [] h zero l = grind (arith, nat_tests, eqb→eq)
+every-tested place d (suc m) [] h (suc i) l = rw (add-suc, ← (suc-add d i)) (every-tested place (suc d) m [] (grind (arith, nat_tests)) i (le_of_suc-le-suc l))
+every-tested place d (suc m) (e ∷ es) h zero l = grind (arith, nat_tests, eqb→eq)
+every-tested place d (suc m) (e ∷ es) h (suc i) l = rw (add-suc, ← (suc-add d i)) (every-tested place (suc d) m es (grind (arith, nat_tests)) i (le_of_suc-le-suc l))
 
 module _ (place : ℕ) (table : List ℕ) where
   abbrev pub table_test : Bool
   table_test = every_test place 0 100 table
 
   pub table-tested : T table_test → IsDecayTable place table
-  table-tested h = record {
-    entries =
-        λ d l.
-        subst (λ (k : ℕ). get_or table d 0 ≡ rounded (place * k)) (zero-add d) (every-tested place 0 100 table h d l)
-        ∙ sym (decay_entry-is (place * d));
-  }
+  table-tested h = record { entries = λ d l. rw decay_entry-is (rw zero-add at (every-tested place 0 100 table h d l)) }
 
 -- ---- each digit of a place, below m
 
@@ -69,11 +56,7 @@ digits-tested :
     (place m : ℕ) → T (digits_test place m) → (i : ℕ) → i < m → T (rest_test (place * i) 10000 (rounded (place * i)) (10 ^ 9) digit_terms)
 digits-tested place zero h i l = absurd (not-suc-le-zero l)
 digits-tested place (suc m) h i l =
-    let first : Bool = rest_test (place * m) 10000 (rounded (place * m)) (10 ^ 9) digit_terms in
-    ⊎_elim
-    (λ e. subst (λ (j : ℕ). T (rest_test (place * j) 10000 (rounded (place * j)) (10 ^ 9) digit_terms)) (sym e) (and_l first (digits_test place m) h))
-    (λ s. digits-tested place m (and_r first (digits_test place m) h) i s)
-    (eq-or-lt_of_le (le_of_suc-le-suc l))
+    ⊎_elim (λ e. rw e (grind (arith, nat_tests))) (λ s. digits-tested place m (grind (arith, nat_tests)) i s) (eq-or-lt_of_le (le_of_suc-le-suc l))
 
 module _ (place m : ℕ) (place-pos : 0 < place) (near : place * m ≤ 10000 * suc digit_terms) (test : T (digits_test place m)) where
   digit-ge : (i : ℕ) → i < m → (k : ℕ) → decay_entry (place * i) over 10 ^ 9 ≼ decay_at k (place * i) 10000
@@ -86,7 +69,7 @@ module _ (place m : ℕ) (place-pos : 0 < place) (near : place * m ≤ 10000 * s
 
 pub ones-ge : (i : ℕ) → i < 100 → (k : ℕ) → decay_entry i over 10 ^ 9 ≼ decay_at k i 10000
 unfolding common_den common_num
-ones-ge i l k = subst (λ (n : ℕ). decay_entry n over 10 ^ 9 ≼ decay_at k n 10000) (one-mul i) (digit-ge 1 100 (lit< tt) (lit≤ tt) tt i l k)
+ones-ge i l k = rw (one-mul) at (digit-ge 1 100 (lit< tt) (lit≤ tt) tt i l k)
 
 pub hundreds-ge : (i : ℕ) → i < 100 → (k : ℕ) → decay_entry (100 * i) over 10 ^ 9 ≼ decay_at k (100 * i) 10000
 unfolding common_den common_num

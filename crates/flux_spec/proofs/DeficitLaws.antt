@@ -1,12 +1,12 @@
 -- f_VPD for an hour, for any sound figures: at most 1, never falling as k grows, and enclosed by its two fractions; a number times these stays close.
+use Rattle.std.proofs.lemmas.Bool.Decides.{nat_tests}
 use Prim.Native.Nat.{ℕ, ◌+◌, ◌-◌, ◌*◌, ◌^◌, ◌≤◌}
 use mathlib.Core.Path.{◌≡◌, refl}
-use mathlib.Core.Bool.{Bool, true, false}
+use mathlib.Core.Bool.{Bool, false}
 use native.Mathlib.Nat.{le_trans}
 use native.Mathlib.Omega.{arith}
-use borrow.Author.Tests.{ltb-false}
 use lib.Dec.{ltb}
-use lib.IntN.{ℤ, pos, negsuc}
+use lib.IntN.{ℤ}
 use Rattle.exact.specs.Frac.{natural, ◌over◌, ◌≼◌}
 use Rattle.exact.specs.Rounding.{times_up, times_down}
 use Rattle.exact.proofs.FracLaws.{≼_refl, ≼_trans}
@@ -18,7 +18,6 @@ use Rattle.trees.proofs.DeficitLaws.{deficit-limits, deficit-anti}
 use Rattle.records.specs.Temperature.{temperature_out}
 use Rattle.records.specs.declared.Air.{Air}
 use Rattle.records.specs.declared.Air.TheVariants.{Deficit, Pressure, Humidity}
-use Rattle.records.proofs.AnswerLaws.{or-neither}
 use Rattle.humidity_spec.specs.Pair.{entry_k}
 use Rattle.humidity_spec.proofs.FactorLaws.{factor-mono, factor-low, factor-high, factor-gap}
 use Rattle.flux_spec.specs.Deficit.{air_vpd_at, HasVpd, deficit_at, air_deficits, deficit_low, deficit_up}
@@ -28,13 +27,10 @@ use Rattle.flux_spec.proofs.BudgetLaws.{is_steep, width_in}
 -- up to 60.0 °C, in range
 pub above-highest : (t : ℤ) → temperature_out t ≡ false → above_of t ≤ 1100
 unfolding temperature_out
-above-highest (pos n) e = omega (arith, ltb-false 600 n (or-neither false (ltb 600 n) e).1)
-above-highest (negsuc n) e = omega arith
+above-highest t e = grind (arith, nat_tests)
 
 pub has-vpd : (a : Air) {x : ℕ} → x ≤ 1100 → HasVpd a x
-has-vpd (Deficit vpd) h = tt
-has-vpd (Pressure vpd p) h = tt
-has-vpd (Humidity rh) h = h
+has-vpd a h = grind arith
 
 module _ (f : Figures) (s : Sound f) where
   -- ---- at k
@@ -45,9 +41,7 @@ module _ (f : Figures) (s : Sound f) where
 
   pub deficit_at-mono : (a : Air) (x : ℕ) → HasVpd a x → {k l : ℕ} → k ≤ l → deficit_at k f a x ≼ deficit_at l f a x
   unfolding deficit_at
-  deficit_at-mono (Deficit vpd) x has j = ≼_refl (deficit_of f (natural vpd))
-  deficit_at-mono (Pressure vpd p) x has j = ≼_refl (deficit_of f (natural vpd))
-  deficit_at-mono (Humidity rh) x has j = factor-mono f s rh x has j
+  deficit_at-mono a x has j = grind (arith, ≼_refl, factor-mono f s)
 
   -- ---- between the two fractions
 
@@ -60,15 +54,11 @@ module _ (f : Figures) (s : Sound f) where
 
   pub deficit-low : (a : Air) (x : ℕ) → HasVpd a x → deficit_low f a x ≼ deficit_at entry_k f a x
   unfolding deficit_at deficit_low
-  deficit-low (Deficit vpd) x has = low-is vpd
-  deficit-low (Pressure vpd p) x has = low-is vpd
-  deficit-low (Humidity rh) x has = factor-low f s rh x has
+  deficit-low a x has = grind (arith, low-is, factor-low f s)
 
   pub deficit-high : (a : Air) (x : ℕ) → HasVpd a x → (k : ℕ) → deficit_at k f a x ≼ deficit_up f a x
   unfolding deficit_at deficit_up
-  deficit-high (Deficit vpd) x has k = high_is vpd
-  deficit-high (Pressure vpd p) x has k = high_is vpd
-  deficit-high (Humidity rh) x has k = factor-high f s rh x has k
+  deficit-high a x has k = grind (arith, high_is, factor-high f s)
 
   pub deficit_low-le : (a : Air) (x : ℕ) → deficit_low f a x ≼ natural 1
   unfolding deficit_low
@@ -88,8 +78,7 @@ module _ (f : Figures) (s : Sound f) where
   -- the fall over 5·10⁻⁶ Pa, by the deficit's range
   steep-width :
       (t : Bool) → ltb (f.vpdmin - f.vpdmax) 13 ≡ t → (10 ^ 9 + 1) * (100 - f.fmin) ≤ width_in t * (20000000 * (f.vpdmin - f.vpdmax))
-  steep-width true e = omega (arith, s.vpd, s.fmin)
-  steep-width false e = omega (arith, ltb-false (f.vpdmin - f.vpdmax) 13 e, s.fmin)
+  steep-width t e = grind (arith, nat_tests, s.vpd, s.fmin)
 
   module _ (x l u c : ℕ) (j : u ≤ l + c) (few : u ≤ 10 ^ 9 + 1) where
     pub deficit-gap : (a : Air) → times_up u (deficit_up f a x) ≤ times_down l (deficit_low f a x) + (c + width_in (is_steep f a) + 1)

@@ -1,8 +1,9 @@
 -- What the hour's pair is worth: for any sound figures, for the six trees and for what `hour_dose` answers.
+use Rattle.std.proofs.lemmas.Bool.Decides.{nat_tests}
 use Rattle.std.specs.Prelude.{Some}
-use Prim.Native.Nat.{ℕ, ◌-◌, ◌≤◌}
-use mathlib.Core.Bool.{Bool, true, false, cond, false≢true, ◌&&◌}
-use lib.Dec.{eqb, ltb}
+use Prim.Native.Nat.{ℕ, ◌≤◌}
+use mathlib.Core.Bool.{true, false, ◌&&◌}
+use lib.Dec.{eqb}
 use mathlib.Core.Path.{◌≡◌, refl, sym, ap, ◌∙◌}
 use native.Mathlib.Omega.{arith}
 use Rattle.trees.specs.declared.Figures.{Figures}
@@ -39,19 +40,8 @@ tree-limited tree f e = record {
 
 -- ---- a measured tree
 
-gap-le : (narrow : Bool) → cond narrow 6 2 ≤ 6
-gap-le true = omega arith
-gap-le false = omega arith
-
 measured-limited : (ps : Parameters) → parameter_out ps ≡ false → MeasuredLimited (measured_figures ps)
-measured-limited ps e =
-    let sound = parameters-sound ps e in
-    let f = measured_figures ps in
-    record {
-      sound = sound;
-      gap = gap-le (ltb (f.vpdmin - f.vpdmax) 13);
-      most = λ air. omega (arith, most_dose-le f.gmax air, sound.gmax.1);
-    }
+measured-limited ps e = grind (arith, nat_tests, parameters-sound, most_dose-le)
 
 -- ---- any tree that has figures
 
@@ -60,18 +50,11 @@ pub record TreeNamed (ps : Parameters) (tree : ℕ) (f : Figures) : Type 0 where
   pub measured : eqb tree 7 ≡ true → parameter_out ps ≡ false
   pub sound : Sound f
 
-not-and : (t u : Bool) → t && u ≡ false → t ≡ true → u ≡ false
-not-and true u e h = e
-not-and false u e h = absurd (false≢true h)
-
 pub tree-named : (ps : Parameters) (tree : ℕ) (f : Figures) → tree_of ps tree ≡ accepted f → TreeNamed ps tree f
 unfolding tree_of
 tree-named ps tree f e =
-    let passed = row-passed (eqb tree 7 && parameter_out ps) _ _ f e in
-    let found = on_tree-passed (figures_in ps tree) _ f passed.1 in
-    let measured = not-and (eqb tree 7) (parameter_out ps) passed.0 in
-    let chosen = found.1 ∙ ap Some (accepted-same found.2) in
-    record { chosen = chosen; measured = measured; sound = figures-in-sound ps tree f chosen measured }
+    let found = on_tree-passed (figures_in ps tree) _ f (row-passed (eqb tree 7 && parameter_out ps) _ _ f e).1 in
+    grind (arith, nat_tests, found, e, accepted-same found.2, figures-in-sound ps tree f)
 
 answered :
     (ps : Parameters) (age : Age) (tree first last ceiling : ℕ) (h : Hour) (pair : Bounds) → hour_dose_of (tree_of ps tree) age first last ceiling h ≡ accepted pair →

@@ -1,5 +1,6 @@
 -- F and the hour's dose, as functions of ozone's concentration z, the share x and the root r: they grow with z and x and fall with r.
-use mathlib.Core.Path.{◌≡◌, refl, ap}
+use Rattle.std.proofs.lemmas.Bool.Decides.{nat_tests}
+use mathlib.Core.Path.{◌≡◌, refl}
 use Prim.Native.Nat.{ℕ, ◌+◌, ◌-◌, ◌*◌, ◌^◌, ◌≤◌, ◌<◌, max}
 use native.Mathlib.Nat.{mul-le-mul, mul-le-mul_left, mul-pos, mul-sub}
 use native.Mathlib.Omega.{arith}
@@ -36,12 +37,10 @@ denominator g a b c d = 410000000 * (b * d) + 195000 * c * (10 * g * a + 164 * b
 
 denominator-pos : (g a b c d : ℕ) → 0 < b → 0 < d → 0 < denominator g a b c d
 unfolding denominator
-denominator-pos g a b c d p q = omega (arith, mul-pos p q)
+denominator-pos g a b c d p q = grind (arith, mul-pos p q)
 
 reduce : (b e m n : ℕ) → 0 < n → m ≡ n → e * (41000 * b) * max 1 m ≡ 41000 * b * (e * n)
-reduce b e m n p is =
-    let all : max 1 m ≡ n = omega arith in
-    omega (arith, ap (λ (t : ℕ). e * b * t) all)
+reduce b e m n p is = grind (arith, nat_tests)
 
 module _ (g : ℕ) (z x r : Frac) where
   pub flux-num : (shared_flux g z x r).num ≡ 41000 * x.den * (10000 * z.num * g * (x.num * r.den))
@@ -50,8 +49,7 @@ module _ (g : ℕ) (z x r : Frac) where
 
   pub flux-den : (shared_flux g z x r).den ≡ 41000 * x.den * (z.den * denominator g x.num x.den r.num r.den)
   unfolding shared_flux flux denominator
-  flux-den =
-      reduce x.den z.den _ _ (denominator-pos g x.num x.den r.num r.den x.positive r.positive) (omega arith)
+  flux-den = grind (arith, nat_tests, reduce, denominator-pos)
 
   module _ (y : ℕ) where
     pub dose-num : (shared_dose y g z x r).num ≡ 3600 * ((shared_flux g z x r).num - y * (shared_flux g z x r).den)
@@ -64,28 +62,23 @@ module _ (g : ℕ) (z x r : Frac) where
 
     -- without ozone there is no dose
     pub dose-none : z.num ≡ 0 → shared_dose y g z x r ≼ natural 0
-    dose-none e = record { cross = rw (dose-num, flux-num, e) (omega arith) }
+    dose-none e = grind (arith, dose-num, flux-num)
 
 grows : (g p P s S a b c d : ℕ) → p * b ≤ a * P → c * S ≤ s * d → p * S * denominator g a b c d ≤ a * d * denominator g p P s S
 unfolding denominator
-grows g p P s S a b c d h k = omega (arith, mul-le-mul_left (S * d) h, mul-le-mul_left (a * p * g) k, mul-le-mul h k)
+grows g p P s S a b c d h k = grind (arith, mul-le-mul_left (S * d) h, mul-le-mul_left (a * p * g) k, mul-le-mul h k)
 
 scale :
     (g u v m e m' e' X Y K L : ℕ) → m * e' ≤ m' * e → X * L ≤ Y * K →
     41000 * u * (10000 * m * g * X) * (41000 * v * (e' * L)) ≤ 41000 * v * (10000 * m' * g * Y) * (41000 * u * (e * K))
-scale g u v m e m' e' X Y K L h k = omega (arith, mul-le-mul_left (g * u * v) (mul-le-mul h k))
+scale g u v m e m' e' X Y K L h k = grind (arith, mul-le-mul_left (g * u * v) (mul-le-mul h k))
 
 less : (y n d m e : ℕ) → n * e ≤ m * d → e * (n - y * d) ≤ d * (m - y * e)
-less y n d m e h = rw (mul-sub e n (y * d), mul-sub d m (y * e)) (omega arith)
+less y n d m e h = grind (arith, mul-sub)
 
 module _ (g : ℕ) {z x r z' x' r' : Frac} (more : z ≼ z') (up : x ≼ x') (down : r' ≼ r) where
   pub flux-mono : shared_flux g z x r ≼ shared_flux g z' x' r'
-  flux-mono =
-      record {
-        cross = rw (flux-num g z x r, flux-den g z x r, flux-num g z' x' r', flux-den g z' x' r')
-            (scale g x.den x'.den z.num z.den z'.num z'.den (x.num * r.den) (x'.num * r'.den) _ _ more.cross
-            (grows g x.num x.den r.num r.den x'.num x'.den r'.num r'.den up.cross down.cross));
-      }
+  flux-mono = grind (arith, nat_tests, flux-num, flux-den, scale, grows)
 
   pub dose-mono : (y : ℕ) → shared_dose y g z x r ≼ shared_dose y g z' x' r'
   dose-mono y = record {

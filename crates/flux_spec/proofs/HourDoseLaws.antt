@@ -1,11 +1,11 @@
 -- What the hour's dose is, by each of the tests before it; and what an hour that none of them refuses has passed.
+use Rattle.std.proofs.lemmas.Bool.Decides.{nat_tests}
 use Rattle.std.specs.Prelude.{Some, None}
 use Prim.Native.Nat.{ℕ, ◌+◌, ◌≤◌}
 use mathlib.Core.Path.{◌≡◌, refl}
-use mathlib.Core.Bool.{Bool, true, false, or-false, ◌&&◌, ◌||◌}
+use mathlib.Core.Bool.{true, false, ◌&&◌}
 use native.Mathlib.Omega.{arith}
-use borrow.Author.Tests.{ltb-false, le-ltb}
-use lib.Dec.{eqb, ltb}
+use lib.Dec.{eqb}
 use Rattle.exact.specs.declared.Bounds.{Bounds}
 use Rattle.trees.specs.declared.Measure.{Measure}
 use Rattle.trees.specs.declared.Figures.{Figures}
@@ -17,9 +17,8 @@ use Rattle.records.specs.declared.Hour.{Hour}
 use Rattle.records.specs.declared.RawHour.{RawHour}
 use Rattle.records.specs.declared.Record.{Record}
 use Rattle.records.specs.Answers.{Outcome, accepted, refused}
-use Rattle.records.specs.Ranges.{ozone_out, vapour_out, soil_out, period_out, hour_checked, checked, ceiling_out, warmth_broken, lacks_ceiling}
-use Rattle.records.specs.Temperature.{temperature_out}
-use Rattle.records.proofs.AnswerLaws.{accepted-same, refused-not-accepted, or-neither, row-passed, onward-passed}
+use Rattle.records.specs.Ranges.{period_out, hour_checked, checked, ceiling_out, warmth_broken, lacks_ceiling}
+use Rattle.records.proofs.AnswerLaws.{accepted-same, refused-not-accepted, row-passed, onward-passed}
 use Rattle.records.proofs.OzoneLaws.{ceiling-le}
 use Rattle.frames.specs.Layout.{ozone_of, soil_of, hour_of}
 use Rattle.flux_spec.specs.declared.Age.{Age}
@@ -111,29 +110,17 @@ dark-adds stand h dark = rw dark
 
 -- a soil that is unfit is refused
 unfit-out : (h : Hour) → hour_checked true h ≡ accepted tt → ⊥
-unfit-out h e =
-    let ozone = row-passed (ozone_out h.ozone) _ _ tt e in
-    let ppfd = row-passed (ltb 3000 h.ppfd) _ _ tt ozone.1 in
-    let radiation = row-passed (ltb 1500 h.radiation) _ _ tt ppfd.1 in
-    let temperature = row-passed (temperature_out h.temperature) _ _ tt radiation.1 in
-    let vapour = row-passed (vapour_out h.air) _ _ tt temperature.1 in
-    let wind = row-passed (ltb 6000 h.wind) _ _ tt vapour.1 in
-    refused-not-accepted wind.1
-
-by_tests : (h : Hour) (out other : Bool) → hour_checked (out || other) h ≡ accepted tt → hour_checked out h ≡ accepted tt
-by_tests h true other e = e
-by_tests h false true e = absurd (unfit-out h e)
-by_tests h false false e = e
+unfit-out h e = grind (arith, nat_tests)
 
 -- row 10 lets it pass
 pub fit-checked : (m : Measure) (h : Hour) → hour_checked (soil_unfit m h.soil) h ≡ accepted tt → checked (Record.Hour h) ≡ accepted tt
 unfolding checked
-fit-checked m h e = by_tests h (soil_out h.soil) (other_measure m h.soil) e
+fit-checked m h e = grind (arith, unfit-out)
 
 -- and the other way for a soil in the tree's measure
 checked-fit : (m : Measure) (h : Hour) → other_measure m h.soil ≡ false → checked (Record.Hour h) ≡ accepted tt → hour_checked (soil_unfit m h.soil) h ≡ accepted tt
 unfolding checked
-checked-fit m h own e = rw (own, or-false (soil_out h.soil)) e
+checked-fit m h own e = grind arith
 
 -- ---- what an hour that no row refuses has passed
 
@@ -160,15 +147,10 @@ stand-passed (refused w) age first last ceiling h stand e = refused-not-accepted
 -- ---- an hour frame, read in the tree's measure, of a season whose header row 7 lets pass
 
 days-in : (header : Header) (f : Figures) → period_out header (f.f1 + f.f4) ≡ false → header.days ≤ 366 → days_out f header.first header.last ≡ false
-days-in header f e most =
-    let ramps = or-neither (ltb header.first 1 || ltb header.last header.first || ltb header.days header.last) _ e in
-    let last = or-neither (ltb header.first 1 || ltb header.last header.first) _ ramps.0 in
-    let year = ltb-false header.days header.last last.1 in
-    simp (last.0, le-ltb 366 header.last (omega (arith, year, most)), ramps.1)
+days-in header f e most = grind (arith, nat_tests)
 
 own-measure : (m : Measure) (n : ℕ) → other_measure m (soil_of m n) ≡ false
-own-measure Measure.Suction n = refl
-own-measure Measure.Water n = refl
+own-measure m n = grind arith
 
 pub frame-stand :
     (header : Header) (age : Age) (ceiling : ℕ) (f : Figures) (raw : RawHour) (tree : Outcome Figures) → tree ≡ accepted f → warmth_broken age.warmth ≡ false →

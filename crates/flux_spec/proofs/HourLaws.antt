@@ -1,15 +1,15 @@
 -- The hour's two numbers enclose its dose, for any sound figures.
+use Rattle.std.proofs.lemmas.Bool.Decides.{nat_tests}
 use Prim.Native.Nat.{ℕ, ◌+◌, ◌*◌, ◌^◌, ◌≤◌}
 use mathlib.Core.Path.{◌≡◌}
 use native.Mathlib.Omega.{arith}
 use Rattle.trees.specs.declared.Figures.{Figures}
 use Rattle.trees.specs.Sound.{Sound}
 use Rattle.flux_spec.specs.declared.Stand.{Stand}
-use Rattle.flux_spec.specs.BoundaryLayer.{wind_read}
 use Rattle.flux_spec.specs.Light.{light_at}
 use Rattle.flux_spec.specs.Deficit.{HasVpd}
 use Rattle.flux_spec.specs.Conductance.{above_of, share_at}
-use Rattle.flux_spec.specs.Dose.{concentration, flux_at, dose_at}
+use Rattle.flux_spec.specs.Dose.{flux_at, dose_at}
 use Rattle.flux_spec.specs.Pair.{lower_of, upper_of, share_low, share_up}
 use Rattle.flux_spec.specs.Enclosure.{gap_dose, HourEnclosed}
 use Rattle.exact.specs.Frac.{natural, ◌over◌, ◌≼◌}
@@ -40,10 +40,7 @@ module _ (stand : Stand) (s : Sound stand.figures) (h : Hour) where
   light-mono k l j = light_at-mono f h.ppfd j
 
   dose_at-mono : HasVpd h.air (above_of h.temperature) → (k l : ℕ) → k ≤ l → dose_at k stand h ≼ dose_at l stand h
-  dose_at-mono has k l j =
-      rw (dose_at-is k stand h, dose_at-is l stand h)
-      (dose-mono f.gmax (≼_refl (concentration h)) (share_at-mono stand s h has light-mono k l j)
-      (root_up_at-anti f.leaf (wind_read h.wind) (omega arith) j) f.y)
+  dose_at-mono has k l j = grind (arith, nat_tests, dose_at-is, dose-mono, ≼_refl, share_at-mono, light-mono, root_up_at-anti)
 
   module _ (passed : checked (Record.Hour h) ≡ accepted tt) where
     range : HourIn h
@@ -56,8 +53,7 @@ module _ (stand : Stand) (s : Sound stand.figures) (h : Hour) where
     steep = s.lighta.1
 
     share-under : share_low stand h over 10 ^ 7 ≼ share_at hour_terms stand h
-    share-under =
-        share-low stand s h has light-mono light_terms (light-low f h.ppfd steep range.ppfd) hour_terms (omega arith) (omega arith) (omega arith)
+    share-under = grind (arith, share-low stand s h has light-mono light_terms, light-low f h.ppfd steep range.ppfd)
 
     pub lower-under : natural (lower_of stand h) ≼ dose_at hour_terms stand h
     lower-under = lower_of-under stand h hour_terms (omega arith) share-under
@@ -80,12 +76,4 @@ module _ (stand : Stand) (s : Sound stand.figures) (h : Hour) where
         pair-none stand h s.gmax range shares-top shares-order near m hour_terms le (omega arith) share-under (few hour_terms)
 
     pub hour-enclosed : HourEnclosed stand h
-    hour-enclosed = record {
-      low = record { at = hour_terms; under = lower-under };
-      high = record { every = upper-over };
-      order = lower_of-le stand h shares-order;
-      gap = upper_of-gap stand h s.gmax range shares-top shares-order near;
-      most = upper_of-le stand h s.gmax range shares-top;
-      grows = dose_at-mono has;
-      none = λ some. no-dose _ (omega (arith, gap_dose-le f h.air));
-    }
+    hour-enclosed = grind (arith, nat_tests, lower-under, upper-over, lower_of-le, shares-order, upper_of-gap, range, shares-top, near, upper_of-le, dose_at-mono, has, no-dose, gap_dose-le)

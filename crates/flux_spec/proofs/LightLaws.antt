@@ -1,6 +1,7 @@
 -- f_light at k never falls as k grows, is at most 1 and in the dark 0; light_low and light_up enclose it and are at most 7 apart, in units of 10⁻⁹.
+use Rattle.std.proofs.lemmas.Bool.Decides.{nat_tests}
 use Prim.Native.Nat.{ℕ, ◌+◌, ◌-◌, ◌*◌, ◌^◌, ◌≤◌, ◌<◌}
-use native.Mathlib.Nat.{mul-le-mul, mul-sub, mul_comm, mul-zero, one-mul, mul-one}
+use native.Mathlib.Nat.{mul-le-mul, mul-sub, mul_comm, mul-zero}
 use native.Mathlib.Omega.{arith}
 use lib.Dec.{lit<}
 use Rattle.exact.specs.Frac.{Frac, natural, ◌over◌, ◌⊖◌, ◌≼◌}
@@ -8,24 +9,24 @@ use Rattle.exact.specs.Series.{decay_at}
 use Rattle.exact.proofs.FracLaws.{≼_trans, ≼-antisym, over-mono}
 use Rattle.exact.proofs.SeriesLaws.{decay_at-anti, decay_at-zero}
 use Rattle.trees.specs.declared.Figures.{Figures}
-use Rattle.flux_spec.specs.Light.{light_at, digit_terms, decay_low, light_low_of, light_up_of, light_low, light_up}
+use Rattle.flux_spec.specs.Light.{light_at, digit_terms, light_low_of, light_up_of, light_low, light_up}
 use Rattle.flux_spec.specs.Facts.{LightFacts}
 use Rattle.flux_spec.proofs.DecayLaws.{decay_low-near}
 
 -- ---- 1 less a fraction
 
 left_le : (a b s t : ℕ) → s * b ≤ a * t → (b - a) * t ≤ (t - s) * b
-left_le a b s t h = rw (mul_comm (b - a) t, mul_comm (t - s) b, mul-sub t b a, mul-sub b t s) (omega (arith, h))
+left_le a b s t h = grind (arith, mul_comm, mul-sub)
 
 rest-anti : {x y : Frac} → y ≼ x → natural 1 ⊖ x ≼ natural 1 ⊖ y
-rest-anti {x} {y} h = record { cross = simp (one-mul, mul-one) (left_le x.num x.den y.num y.den h.cross) }
+rest-anti {x} {y} h = grind (arith, left_le x.num x.den y.num y.den h.cross)
 
 rest_le : (x : Frac) → natural 1 ⊖ x ≼ natural 1
 rest_le x = omega arith
 
 module _ (x : Frac) (s : ℕ) where
   rest_under : x ≼ s over 10 ^ 9 → (10 ^ 9 - s) over 10 ^ 9 ≼ natural 1 ⊖ x
-  rest_under h = omega (arith, left_le s (10 ^ 9) x.num x.den h.cross)
+  rest_under h = grind (arith, left_le)
 
   rest-above : s over 10 ^ 9 ≼ x → natural 1 ⊖ x ≼ (10 ^ 9 - s) over 10 ^ 9
   rest-above h = omega (arith, left_le x.num x.den s (10 ^ 9) h.cross)
@@ -47,11 +48,7 @@ light_at-dark k f =
     rw (mul-zero f.lighta) (≼_trans (rest-anti (decay_at-zero 10000 (lit< tt) k)) (omega arith))
 
 pub light-facts : (f : Figures) → LightFacts f
-light-facts f = record {
-  limits = λ k ppfd. record { above = omega arith; below = light_at-le f ppfd k };
-  dark = λ k. ≼-antisym (light_at-dark k f) (omega arith);
-  grows = λ k l ppfd h. light_at-mono f ppfd h;
-}
+light-facts f = grind (arith, nat_tests, light_at-le, ≼-antisym, light_at-dark, light_at-mono)
 
 -- ---- the pair
 
@@ -65,12 +62,11 @@ module _ (f : Figures) (ppfd : ℕ) (steep : f.lighta ≤ 200) (bright : ppfd �
 
   pub light-low : light_low f ppfd over 10 ^ 9 ≼ light_at light_terms f ppfd
   unfolding light_at light_low light_low_of
-  light-low =
-      rest_under (decay_at light_terms (f.lighta * ppfd) 10000) _ (≼_trans (decay_low-near (f.lighta * ppfd) small).high (over-mono (10 ^ 9) (omega arith)))
+  light-low = grind (arith, mul-le-mul steep bright, rest_under, ≼_trans, decay_low-near, over-mono)
 
   pub light-high : (k : ℕ) → light_at k f ppfd ≼ light_up f ppfd over 10 ^ 9
   unfolding light_at light_up light_up_of
-  light-high k = rest-above (decay_at k (f.lighta * ppfd) 10000) (decay_low (f.lighta * ppfd)) ((decay_low-near (f.lighta * ppfd) small).low k)
+  light-high k = rest-above _ _ ((decay_low-near _ small).low k)
 
 module _ (f : Figures) (ppfd : ℕ) where
   pub light-gap : light_up f ppfd ≤ light_low f ppfd + 7

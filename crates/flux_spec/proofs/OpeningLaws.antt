@@ -1,5 +1,6 @@
 -- max(f_min, f_temp·f_VPD·f_SW), for any sound figures and hour: at most 1, never falling as k grows, and enclosed by its pair,
 -- which is at most 3 apart and as much more as f_VPD's two fractions bring.
+use Rattle.std.proofs.lemmas.Bool.Decides.{nat_tests}
 use Prim.Native.Nat.{ℕ, ◌+◌, ◌*◌, ◌^◌, ◌≤◌, max}
 use native.Mathlib.Omega.{arith}
 use Rattle.exact.specs.Frac.{Frac, natural, ◌over◌, ◌⊗◌, ◌≼◌}
@@ -119,5 +120,4 @@ module _ (f : Figures) (s : Sound f) (h : Hour) where
 
   pub opening_up-le : opening_up f h ≤ 10 ^ 9 + 1
   unfolding opening_up
-  opening_up-le =
-      omega (arith, times_up-le up₁ sw-le, times_up-le up₀ (deficit_up-le f s h.air x), up₀-le, s.fmin)
+  opening_up-le = grind (arith, nat_tests, times_up-le, sw-le, deficit_up-le, up₀-le)

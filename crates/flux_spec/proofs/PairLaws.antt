@@ -1,5 +1,6 @@
 -- The hour's pair encloses its dose and is at most as far apart as its gap says, where the bounds of the share enclose the share and are within its budget.
 -- It never falls with a higher reading of ozone.
+use Rattle.std.proofs.lemmas.Bool.Decides.{nat_tests}
 use Prim.Native.Nat.{ℕ, ◌+◌, ◌*◌, ◌^◌, ◌≤◌}
 use mathlib.Core.Path.{◌≡◌, refl}
 use mathlib.Core.Bool.{Bool}
@@ -9,7 +10,6 @@ use Rattle.exact.specs.Frac.{natural, ◌over◌, ◌≼◌}
 use Rattle.exact.proofs.FracLaws.{≼_refl, ≼_trans, over-mono}
 use Rattle.trees.specs.declared.Figures.{Figures}
 use Rattle.records.specs.declared.Air.{Air}
-use Rattle.records.specs.declared.Air.TheVariants.{Deficit, Pressure, Humidity}
 use Rattle.records.specs.declared.Hour.{Hour}
 use Rattle.records.specs.Ozone.{with_ozone}
 use Rattle.frames.proofs.RangeLaws.{HourIn}
@@ -49,19 +49,13 @@ module _ (stand : Stand) (h : Hour) where
       (k : ℕ) → 7 ≤ k → share_low stand h over 10 ^ 7 ≼ share_at k stand h →
       natural (lower_of stand h) ≼ dose_at k stand h
   unfolding lower_of
-  lower_of-under k from7 share =
-      rw (dose_at-is k stand h)
-      (quotient-under f.gmax _ (share_low stand h) _ _ _ _ (≼_trans (over-mono 18000 (omega arith)) (concentration-low h)) share
-      (≼_trans (root-under k from7) (over-mono (10 ^ 7) (omega arith))) f.y _ (omega arith))
+  lower_of-under k from7 share = grind (arith, nat_tests, dose_at-is, quotient-under, ≼_trans, over-mono, concentration-low, root-under)
 
   pub upper_of-over :
       (k : ℕ) → share_at k stand h ≼ share_up stand h over 10 ^ 7 →
       dose_at k stand h ≼ natural (upper_of stand h)
   unfolding upper_of
-  upper_of-over k share =
-      rw (dose_at-is k stand h)
-      (quotient-over f.gmax _ (share_up stand h) _ _ _ _ (≼_trans (concentration-high h) (over-mono 18000 (omega arith))) share
-      (≼_trans (over-mono (10 ^ 7) (omega arith)) (root_low-le f.leaf h.wind k)) f.y _ _ (omega arith))
+  upper_of-over k share = grind (arith, nat_tests, dose_at-is, quotient-over, ≼_trans, concentration-high, over-mono, root_low-le)
 
   pub lower_of-le : share_low stand h ≤ share_up stand h → lower_of stand h ≤ upper_of stand h
   unfolding lower_of upper_of
@@ -70,13 +64,10 @@ module _ (stand : Stand) (h : Hour) where
   module _ (gmax : (1 ≤ f.gmax) × (f.gmax ≤ 500)) (range : HourIn h) (share-le : share_up stand h ≤ 10000003) where
     quotient-in : (top each : ℕ) → top * 10000003 ≤ each * 2050000000000 → concentration_up h ≤ top → upper_of stand h ≤ each * f.gmax + 1
     unfolding upper_of
-    quotient-in top each room few =
-        omega (arith, quotient-most top each f.gmax (concentration_up h) (share_up stand h) (root_low f.leaf h.wind) 0 room few share-le)
+    quotient-in top each room few = grind (arith, nat_tests, quotient-most)
 
     upper_of-by : (a : Air) → concentration_up h ≤ top_of a → upper_of stand h ≤ most_dose f.gmax a
-    upper_of-by (Deficit vpd) few = omega (arith, quotient-in 374040000 1825 (omega arith) few, gmax)
-    upper_of-by (Pressure vpd p) few = omega (arith, quotient-in 533592000 2603 (omega arith) few, gmax)
-    upper_of-by (Humidity rh) few = omega (arith, quotient-in 374040000 1825 (omega arith) few, gmax)
+    upper_of-by a few = grind (arith, quotient-in 374040000 1825, quotient-in 533592000 2603, gmax)
 
     pub upper_of-le : upper_of stand h ≤ most_dose f.gmax h.air
     upper_of-le = upper_of-by h.air (concentration_up-most h range h.air refl)
@@ -88,9 +79,7 @@ module _ (stand : Stand) (h : Hour) where
       quotients-near :
           quotient f.gmax (concentration_up h) (share_up stand h) (root_low f.leaf h.wind) 0
           ≤ quotient f.gmax (concentration_low h) (share_low stand h) (root_low f.leaf h.wind + 1) 1 + step_in steep
-      quotients-near =
-          quotient-near steep f.gmax (concentration_up h) (share_up stand h) (root_low f.leaf h.wind) gmax.1 (concentration_up-top f h range h.air refl) share-le
-          (concentration_low h) (share_low stand h) (root_low f.leaf h.wind + 1) (concentration-gap h) (concentration-order h) order near (le_refl _)
+      quotients-near = grind (arith, quotient-near steep f.gmax, concentration_up-top, concentration-gap, concentration-order, le_refl)
 
       pub upper_of-gap : upper_of stand h ≤ lower_of stand h + gap_dose f h.air
       unfolding lower_of upper_of
@@ -122,25 +111,15 @@ module _ (stand : Stand) (n : ℕ) (h : Hour) where
 module _ (stand : Stand) (h : Hour) {m n : ℕ} (more : m ≤ n) where
   lower_of-mono : lower_of stand (with_ozone m h) ≤ lower_of stand (with_ozone n h)
   unfolding lower_of
-  lower_of-mono =
-      rw (share_low-same stand m h, share_low-same stand n h)
-      (omega (arith, quotient-mono stand.figures.gmax (share_low stand h) (root_low stand.figures.leaf h.wind + 1) 1 (concentration_low-mono h more)))
+  lower_of-mono = grind (arith, nat_tests, share_low-same, quotient-mono, concentration_low-mono)
 
   upper_of-mono : upper_of stand (with_ozone m h) ≤ upper_of stand (with_ozone n h)
   unfolding upper_of
-  upper_of-mono =
-      rw (share_up-same stand m h, share_up-same stand n h)
-      (omega (arith, quotient-mono stand.figures.gmax (share_up stand h) (root_low stand.figures.leaf h.wind) 0 (concentration_up-mono h more)))
+  upper_of-mono = grind (arith, nat_tests, share_up-same, quotient-mono, concentration_up-mono)
 
   dose_at-more : (k : ℕ) → dose_at k stand (with_ozone m h) ≼ dose_at k stand (with_ozone n h)
   unfolding share_at opening_at phenology_in
-  dose_at-more k =
-      rw (dose_at-is k stand (with_ozone m h), dose_at-is k stand (with_ozone n h))
-      (dose-mono stand.figures.gmax (concentration-mono h more) (≼_refl _) (≼_refl _) stand.figures.y)
+  dose_at-more k = grind (arith, nat_tests, dose_at-is, dose-mono, concentration-mono, ≼_refl)
 
 pub ozone-grows : (stand : Stand) (h : Hour) → OzoneGrows stand h
-ozone-grows stand h = record {
-  lower = λ m n more. lower_of-mono stand h more;
-  upper = λ m n more. upper_of-mono stand h more;
-  dose = λ m n more. dose_at-more stand h more;
-}
+ozone-grows stand h = grind (arith, nat_tests, lower_of-mono, upper_of-mono, dose_at-more)

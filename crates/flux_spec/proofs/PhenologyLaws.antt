@@ -1,7 +1,7 @@
 -- f_phen, by the day or by warmth, for any sound figures and any leaf age: which of the two it is, from 0 to 1, with a denominator of at most 2·10⁹.
 use Prim.Native.Nat.{◌*◌, ◌^◌, ◌≤◌, ◌<◌}
-use mathlib.Core.Path.{◌≡◌, refl}
-use mathlib.Core.Bool.{Bool, true, false}
+use mathlib.Core.Path.{◌≡◌}
+use mathlib.Core.Bool.{true, false}
 use native.Mathlib.Omega.{arith}
 use Rattle.exact.specs.Frac.{natural, Between}
 use Rattle.trees.specs.declared.Warmth.{Warmth}
@@ -31,19 +31,9 @@ module _ (stand : Stand) (h : Hour) where
 -- ---- its limits and its denominator, by either
 
 module _ (stand : Stand) (s : Sound stand.figures) (h : Hour) where
-  limits-by : (fed : Bool) → has_warmth stand.age.warmth ≡ fed → Between (natural 0) (natural 1) (phenology_in stand h)
-  limits-by true e = rw (by-warmth-is stand h e) (warmth-limits stand.figures s stand.age.warmth stand.age.sum)
-  limits-by false e = rw (by-day-is stand h e) (phenology-limits stand.figures s stand.first stand.last h.day (above_of h.temperature))
-
   pub phenology_in-limits : Between (natural 0) (natural 1) (phenology_in stand h)
-  phenology_in-limits = limits-by (has_warmth stand.age.warmth) refl
+  phenology_in-limits = grind (arith, by-warmth-is, warmth-limits, by-day-is, phenology-limits)
 
   module _ (rise : stand.age.warmth.rise < 65536) (fall : stand.age.warmth.fall < 65536) where
-    den-by : (fed : Bool) → has_warmth stand.age.warmth ≡ fed → (phenology_in stand h).den ≤ 2 * 10 ^ 9
-    den-by true e = rw (by-warmth-is stand h e) (warmth-den stand.figures s stand.age.warmth stand.age.sum rise fall)
-    den-by false e =
-        rw (by-day-is stand h e)
-        (omega (arith, (phenology-small stand.figures s stand.first stand.last h.day (above_of h.temperature)).den))
-
     pub phenology_in-den : (phenology_in stand h).den ≤ 2 * 10 ^ 9
-    phenology_in-den = den-by (has_warmth stand.age.warmth) refl
+    phenology_in-den = grind (arith, by-warmth-is, warmth-den, by-day-is, phenology-small)

@@ -1,4 +1,5 @@
 -- The quotient and one more, each less 3600·Y, enclose the hour's dose between the bounds of its concentration, of its share and of its root.
+use Rattle.std.proofs.lemmas.Bool.Decides.{nat_tests}
 use mathlib.Core.Path.{◌≡◌, ap}
 use Prim.Native.Nat.{ℕ, zero, suc, ◌+◌, ◌-◌, ◌*◌, ◌^◌, ◌≤◌, ◌<◌}
 use native.Mathlib.Nat.{mul-le-mul_left, mul-le-mul_right, le_of_mul-le-mul_left, le_of_mul-le-mul_right}
@@ -89,8 +90,7 @@ module _ (g c p s : ℕ) (z x r : Frac) where
         below (quotient g c p s 1) (dividend g c p) (divisor g p s 1) (whole g p s) n d (whole_pos g p s) (quotient_le g c p s 1) (divisor-up g p s) f
 
     pub quotient-few : (m : ℕ) → shared_flux g z x r ≼ m over 3600 → quotient g c p s 1 ≤ m
-    quotient-few m few =
-        le_of_mul-le-mul_right {k = d} (omega (arith, quotient-below, few.cross)) (shared_flux g z x r).positive
+    quotient-few m few = grind (arith, nat_tests, le_of_mul-le-mul_right, quotient-below, shared_flux)
 
     -- t is taken off
     pub quotient-under : (y t : ℕ) → 3600 * y ≤ t → natural (quotient g c p s 1 - t) ≼ shared_dose y g z x r

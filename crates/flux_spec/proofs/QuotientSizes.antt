@@ -51,8 +51,7 @@ product_le : (g p : ℕ) → g ≤ 500 → p ≤ 10000003 → g * p ≤ 50000015
 product_le g p h k = omega (arith, mul-le-mul h k)
 
 top_in-le : (steep : Bool) → top_in steep ≤ 533592000
-top_in-le true = omega arith
-top_in-le false = omega arith
+top_in-le steep = grind arith
 
 -- 533592000·500·5, or 374040000·500·51, for the share and 5000001500 for the concentration
 abbrev room_in : Bool → ℕ
@@ -84,8 +83,7 @@ apart a b d e q r x y m hq hr hb he room =
     omega (arith, less)
 
 room-le : (steep : Bool) (r d : ℕ) → r ≤ 1301500 → 2050000000000 ≤ d → room_in steep + (r + 1) * 503492 ≤ step_in steep * d
-room-le true r d h k = omega arith
-room-le false r d h k = omega arith
+room-le steep r d h k = grind arith
 
 module _ (steep : Bool) (g c q s : ℕ) (g-le : g ≤ 500) (c-le : c ≤ top_in steep) (q-le : q ≤ 10000003) where
   module _ (b p t : ℕ) (thick : c ≤ b + 1) (b-le : b ≤ c) (order : p ≤ q) (near : q ≤ p + near_in steep) (root : t ≤ s + 1) where

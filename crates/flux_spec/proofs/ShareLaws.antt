@@ -1,8 +1,8 @@
 -- f_phen × f_light × max(..), for any sound figures, period and hour: at most 1, never falling as k grows, and enclosed by its pair,
 -- which is at most 5 apart, and 51 where f_VPD out of humidity is steep. What a law needs of f_light it takes as a premise.
+use Rattle.std.proofs.lemmas.Bool.Decides.{nat_tests}
 use Prim.Native.Nat.{ℕ, ◌+◌, ◌*◌, ◌^◌, ◌≤◌}
-use mathlib.Core.Path.{◌≡◌, ap}
-use mathlib.Core.Bool.{Bool, true, false}
+use mathlib.Core.Bool.{Bool}
 use native.Mathlib.Nat.{mul-le-mul}
 use native.Mathlib.Omega.{arith}
 use lib.Dec.{lit≤}
@@ -17,7 +17,7 @@ use Rattle.humidity_spec.specs.Pair.{entry_k}
 use Rattle.flux_spec.specs.declared.Stand.{Stand}
 use Rattle.flux_spec.specs.Light.{light_at, light_low, light_up}
 use Rattle.flux_spec.specs.Deficit.{HasVpd}
-use Rattle.flux_spec.specs.Conductance.{above_of, phenology_in, opening_at, share_at}
+use Rattle.flux_spec.specs.Conductance.{above_of, phenology_in, share_at}
 use Rattle.flux_spec.specs.Pair.{opening_low, opening_up, share_low, share_up}
 use Rattle.flux_spec.specs.Facts.{ShareFacts, HourFacts}
 use Rattle.flux_spec.proofs.BudgetLaws.{is_steep, width_in, near_in}
@@ -30,8 +30,7 @@ use Rattle.flux_spec.proofs.OpeningLaws.{opening_at-le, opening_at-mono, opening
 pair-gap :
     (steep : Bool) (a b a' b' : ℕ) → a ≤ 10 ^ 9 → b ≤ 10 ^ 9 → a' ≤ a + 8 → b' ≤ b + (3 + width_in steep) →
     round_up ((a' * b') over 10 ^ 11) ≤ round_down ((a * b) over 10 ^ 11) + near_in steep
-pair-gap true a b a' b' p q r t = over-gap (a * b) (a' * b') (10 ^ 11) 50 (omega (arith, mul-le-mul r t))
-pair-gap false a b a' b' p q r t = over-gap (a * b) (a' * b') (10 ^ 11) 4 (omega (arith, mul-le-mul r t))
+pair-gap steep a b a' b' p q r t = grind (arith, over-gap (a * b) (a' * b') (10 ^ 11) 50, over-gap (a * b) (a' * b') (10 ^ 11) 4, mul-le-mul r t)
 
 pair-le : (a b : ℕ) → a ≤ 10 ^ 9 → b ≤ 10 ^ 9 + 1 → round_up ((a * b) over 10 ^ 11) ≤ 10 ^ 7 + 1
 unfolding round_up
@@ -59,9 +58,7 @@ module _ (stand : Stand) (s : Sound stand.figures) (h : Hour) where
   -- f_light stands outside the floor f_min
   share-dark : (k : ℕ) → light_at k f h.ppfd ≼ natural 0 → share_at k stand h ≼ natural 0
   unfolding share_at
-  share-dark k dark =
-      let none : (light_at k f h.ppfd).num ≡ 0 = omega (arith, dark.cross) in
-      record { cross = omega (arith, ap (λ (n : ℕ). phen.num * n * (opening_at k f h).num) none) }
+  share-dark k dark = grind (arith, nat_tests)
 
   share_at-le : (k : ℕ) → light_at k f h.ppfd ≼ natural 1 → share_at k stand h ≼ natural 1
   unfolding share_at
@@ -98,9 +95,7 @@ module _ (stand : Stand) (s : Sound stand.figures) (h : Hour) where
   pub share-order :
       HasVpd h.air (above_of h.temperature) → light_low f h.ppfd ≤ light_up f h.ppfd → share_low stand h ≤ share_up stand h
   unfolding share_low share_up
-  share-order has light-order =
-      over-order (low * opening_low f h) (up * opening_up f h) (10 ^ 11)
-      (mul-le-mul (times-order (light_low f h.ppfd) (light_up f h.ppfd) phen light-order) (opening-order f s h has))
+  share-order has light-order = grind (arith, nat_tests, over-order, mul-le-mul, times-order, opening-order)
 
   module _ (light-top : light_up f h.ppfd ≤ 10 ^ 9) where
     pub share-gap :
@@ -127,9 +122,4 @@ share-facts stand s h =
     }
 
 pub hour-facts : HourFacts
-hour-facts = record {
-  ozone = ozone-facts;
-  sea_level = record { above = record { cross = lit≤ tt }; below = record { cross = lit≤ tt } };
-  light = light-facts;
-  share = share-facts;
-}
+hour-facts = grind (arith, nat_tests, ozone-facts, lit≤, light-facts, share-facts)

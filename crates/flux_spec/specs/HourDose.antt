@@ -1,7 +1,6 @@
 -- What an hour adds to POD1, as two whole numbers; rows 24, 5, 25, 7, 17, 18 and 10, in that order, for parameters of tree 7 that are out, a number that is no tree,
 -- warmth that is out, days that are no period, a ceiling out of range, a missing ozone with none and readings out of range.
 use Rattle.std.specs.Prelude.{ℕ, ◌+◌, Bool, true, false, cond, ◌&&◌, ◌||◌, eqb}
-use Rattle.records.specs.declared.Refusal.{Refusal}
 use Rattle.exact.specs.declared.Bounds.{Bounds}
 use Rattle.trees.specs.declared.Measure.{Measure}
 use Rattle.trees.specs.declared.Figures.{Figures}
@@ -9,7 +8,7 @@ use Rattle.measured.specs.declared.Parameters.{Parameters}
 use Rattle.measured.specs.Figures.{figures_in}
 use Rattle.records.specs.declared.Soil.{Soil}
 use Rattle.records.specs.declared.Hour.{Hour}
-use Rattle.records.specs.Answers.{Outcome, accepted, refused, row, onward, row_of}
+use Rattle.records.specs.Answers.{Outcome, accepted, refused, row, onward}
 use Rattle.records.specs.Parameters.{parameter_out}
 use Rattle.records.specs.Ranges.{on_tree, period_out, soil_out, hour_checked, ceiling_out, warmth_broken, lacks_ceiling}
 use Rattle.flux_spec.specs.declared.Age.{Age}

@@ -6,6 +6,7 @@ use frames::Refusal;
 use trees::{Figures, Warmth};
 
 // Leaf age by warmth (W-213): its frame's sums (all 0: not fed, f_phen goes by the day), and the temperature sum of the earlier days, in tenths of a degree over hours.
+// Kept: zeros for not fed, as in `Season` of the account, which its warmth and a stand's ceiling are copied from.
 #[derive(Clone, Copy)]
 pub struct Age {
     pub warmth: Warmth,

@@ -6,27 +6,17 @@ use mathlib.Core.List.{List}
 use native.Mathlib.Nat.{le_of_eq}
 use native.Mathlib.Omega.{arith}
 use lib.Dec.{eqb}
-use lib.IntN.{ℤ}
 use lib.ListN.{length}
-use Rattle.measured.specs.Parameters.{no_parameters}
-use Rattle.measured.specs.Figures.{figures_in}
-use Rattle.trees.specs.declared.Figures.{Figures}
-use Rattle.trees.specs.declared.Measure.{Measure}
-use Rattle.records.specs.Answers.{Outcome, accepted, refused}
-use Rattle.records.specs.Temperature.{signed_of}
+use Rattle.records.specs.Answers.{accepted, refused}
 use Rattle.frames.specs.Digits.{all_digits, byte_at}
 use Rattle.frames.specs.Kinds.{one, kinds, size_of, is_length, length_of}
 use Rattle.frames.specs.Fields.{fields_at}
-use Rattle.frames.specs.Layout.{ozone_of, air_of, raw_hour_of, frame_of, frame_at, soil_of, hour_of}
+use Rattle.frames.specs.Layout.{air_of, raw_hour_of, frame_of, frame_at}
 use Rattle.frames.specs.Steps.{IsHour, with_deficit, with_pressure, with_humidity, Sized}
-use Rattle.frames.specs.Frames.{parsed_of, sound_of, record_of}
+use Rattle.frames.specs.Frames.{parsed_of}
 use Rattle.frames.proofs.KindLaws.{length-ge, kind-within}
 use Rattle.records.specs.declared.Air.{Air}
-use Rattle.records.specs.declared.Hour.{Hour}
 use Rattle.records.specs.declared.Raw.{Raw}
-use Rattle.records.specs.declared.RawHour.{RawHour}
-use Rattle.records.specs.declared.Record.{Record}
-use Rattle.records.specs.declared.Soil.{Soil}
 
 -- ---- a line by the first of rows 1 to 3 that refuses it
 

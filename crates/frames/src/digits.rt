@@ -6,7 +6,8 @@ ghost use Rattle.frames.specs.Steps.{bits_of, Values, Says, Finds};
 
 use crate::widths::{BYTE, HourLine, LONGEST};
 
-// A capital hexadecimal digit. `&` and `|`, not `&&` and `||`: no branch.
+// A capital hexadecimal digit.
+// Kept for speed: `&` and `|`, not `&&` and `||`, so there is no branch.
 #[tactic(auto, unfolding(crate::specs::Digits::is_digit))]
 pub fn is_digit(c: u8) -> bool
     ensures { result ≡ is_digit c }
@@ -22,7 +23,8 @@ pub fn digit_value(c: u8) -> u8
     (c % 16 + 9 * (c / 64)) % 16
 }
 
-// The values of a line's characters, and whether all are digits. Kept for speed: an Option would be a branch before the values are there.
+// The values of a line's characters, and whether all are digits.
+// Kept for speed: an Option would be made behind a branch on `digits`, its values copied, and `parse` would test it again.
 #[derive(Clone, Copy)]
 pub(crate) struct Line {
     pub digits: bool,
@@ -31,6 +33,7 @@ pub(crate) struct Line {
 }
 
 impl Line {
+    #[tactic(auto, unfolding(crate::specs::Digits::byte_at))]
     pub(crate) fn byte_at(&self, at: usize) -> u8
         requires { at + size_of one ≤ longest }
         ensures { Finds self.now.values (at + size_of one) result (byte_at at) }
@@ -40,6 +43,8 @@ impl Line {
         high * 16 + low
     }
 
+    // Kept: `from_be_bytes` would take an array made of the two bytes, for this sum.
+    #[tactic(auto, unfolding(crate::specs::Digits::number_at))]
     pub(crate) fn number_at(&self, at: usize) -> u16
         requires { at + size_of two ≤ longest }
         ensures { Finds self.now.values (at + size_of two) result (number_at at) }
@@ -50,7 +55,8 @@ impl Line {
     }
 }
 
-// A line of n characters. No way out at a byte that is no digit: with no branch the bytes are read many at a time.
+// A line of n characters. A byte that is no digit does not end the loop: with no branch the bytes are read many at a time.
+// Kept for speed: the length is an argument, so that an hour line's is a constant number of turns.
 fn line_of_length(s: &[u8], n: usize) -> Line
     requires { (n ≡ length s.now) × (n ≤ longest) }
     ensures digits { result.digits ≡ all_digits s.now }
@@ -65,7 +71,7 @@ fn line_of_length(s: &[u8], n: usize) -> Line
     Line { digits, values }
 }
 
-// An hour line's length is a constant to the compiler, which then writes its loop out.
+// An hour line's length is a constant to the compiler, which then unrolls the loop.
 pub(crate) fn line_of(s: &[u8]) -> Line
     requires { length s.now ≤ longest }
     ensures digits { result.digits ≡ all_digits s.now }

@@ -1,4 +1,4 @@
-// The number of digits of a line of each kind (rows 1 and 3), by the kind's number: a later kind is one more arm.
+// The number of digits of a line of each kind (rows 1 and 3), by the kind's number. A later kind is one more arm here and in `frame_at`, and one more in `KINDS`.
 ghost use Rattle.std.specs.Prelude.{◌≡◌};
 ghost use Rattle.frames.specs.Kinds.{is_length, length_of};
 
@@ -6,8 +6,8 @@ use crate::widths::{
     CeilingLine, EndLine, HeaderLine, HourLine, KINDS, ParameterLine, PressureLine, WarmthLine,
 };
 
-// The digits of a line of a kind, 0 where there is no such kind. Kept: a kind is a line's byte, and an
-// enum of kinds would be this match and one from the byte besides.
+// The digits of a line of a kind, 0 where there is no such kind.
+// Kept: the definition says 0 too, and no line that is read has 0 digits, so one comparison is enough; an enum of kinds would be one more match from the byte.
 #[tactic(auto, unfolding(crate::specs::Kinds::length_of))]
 pub(crate) fn length_of(kind: u8) -> usize
     ensures { result ≡ length_of kind }

@@ -3,7 +3,7 @@ ghost use Rattle.std.specs.Prelude.{◌≡◌, List, ℕ};
 ghost use Rattle.measured.specs.Parameters.{parameters_of};
 ghost use Rattle.measured.specs.Warmth.{warmth_of};
 ghost use Rattle.frames.specs.Steps.{Says, IsHour, Makes, Sized};
-ghost use Rattle.frames.specs.Layout.{ozone_number, ozone_of, vapour_number, soil_number, header_of, air_of, raw_hour_of, end_of, ceiling_of, frame_at, air_kind, soil_of, hour_of};
+ghost use Rattle.frames.specs.Layout.{ozone_number, ozone_of, vapour_number, soil_number, header_of, air_of, raw_hour_of, frame_at, air_kind, soil_of, hour_of};
 
 use crate::digits::Line;
 use crate::widths::{
@@ -26,6 +26,7 @@ fn header_at(line: &Line) -> Header
 }
 
 // An hour's air, by the kind of its frame. The pressure's place is read whatever the kind: no branch before it.
+// Kept: a kind is a line's byte, and an enum of an hour's kinds would be a match from the byte besides this one.
 #[tactic(auto, unfolding(crate::specs::Kinds::length_of))]
 fn air_at(kind: u8, line: &Line) -> Air
     ensures { IsHour kind → Makes line.now.values kind result (air_of kind) }
@@ -42,6 +43,7 @@ fn air_at(kind: u8, line: &Line) -> Air
     }
 }
 
+// Kept: the kind is the line's byte, passed on to `air_at`.
 #[tactic(auto, unfolding(crate::specs::Kinds::length_of))]
 fn hour_at(kind: u8, line: &Line) -> RawHour
     ensures { IsHour kind → Makes line.now.values kind result (λ ns. raw_hour_of (air_of kind ns) ns) }
@@ -56,24 +58,6 @@ fn hour_at(kind: u8, line: &Line) -> RawHour
         air: air_at(kind, line),
         wind: line.number_at(HourLine::WIND),
         soil: line.number_at(HourLine::SOIL),
-    }
-}
-
-#[tactic(auto, unfolding(crate::specs::Kinds::length_of))]
-fn end_at(line: &Line) -> End
-    ensures { Makes line.now.values 3 result end_of }
-{
-    End {
-        hours: line.number_at(EndLine::HOURS),
-    }
-}
-
-#[tactic(auto, unfolding(crate::specs::Kinds::length_of))]
-fn ceiling_at(line: &Line) -> Ceiling
-    ensures { Makes line.now.values 6 result ceiling_of }
-{
-    Ceiling {
-        ozone: line.number_at(CeilingLine::OZONE),
     }
 }
 
@@ -112,15 +96,21 @@ fn warmth_at(line: &Line) -> Warmth
     }
 }
 
-// The frame of a line that rows 1 to 3 let pass, by its kind. One call of `hour_at` for every kind of hour: called once it costs no call.
+// The frame of a line that rows 1 to 3 let pass, by its kind. One call of `hour_at` for every kind of hour: called at one place it is inlined.
 pub(crate) fn frame_at(line: &Line) -> Raw
     ensures { (l : List ℕ) → Says line.now.values l → Sized l → result ≡ frame_at l }
 {
     let kind = line.byte_at(KIND);
     match kind {
         1 => Raw::Header(header_at(line)),
-        3 => Raw::End(end_at(line)),
-        6 => Raw::Ceiling(ceiling_at(line)),
+        3 => {
+            let hours = line.number_at(EndLine::HOURS);
+            Raw::End(End { hours })
+        },
+        6 => {
+            let ozone = line.number_at(CeilingLine::OZONE);
+            Raw::Ceiling(Ceiling { ozone })
+        },
         7 => Raw::Parameters(parameters_at(line)),
         8 => Raw::Warmth(warmth_at(line)),
         _ => Raw::Hour(hour_at(kind, line)),
@@ -160,7 +150,8 @@ pub fn vapour_number(air: Air) -> u16
     }
 }
 
-// The kind of an hour's frame, by its air. Kept: the byte itself is written and compared.
+// The kind of an hour's frame, by its air.
+// Kept: the byte itself is written and compared.
 pub fn air_kind(air: Air) -> u8
     ensures { result ≡ air_kind air }
 {
@@ -181,6 +172,7 @@ pub fn soil_number(soil: Soil) -> u16
 }
 
 // The hour of a frame's numbers, its soil in a measure.
+// Kept: the measure is a second argument, so no From can stand here, and a struct update takes its own type alone.
 #[tactic(auto, unfolding(crate::specs::Layout::hour_of))]
 pub fn hour_of(raw: RawHour, measure: Measure) -> Hour
     ensures { result ≡ hour_of raw measure }

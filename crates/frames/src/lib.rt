@@ -1,5 +1,5 @@
 // Frames (document 01, "Frames"): a line of capital hexadecimal digits, and the record that it says.
-// A line goes to a frame (rows 1 to 3), a frame to a record (rows 5 to 8, 10, 17, 24 and 25). The crate `writer` has the way back.
+// A line goes to a frame (rows 1 to 3), a frame to a record (rows 5 to 8, 10, 17, 24 and 25). The crate `writer` writes a record's line.
 #![tactic(auto)]
 
 mod digits;
@@ -22,6 +22,7 @@ pub use records::{
 pub use temperature::{complement, signed};
 
 // A line to a frame: rows 1 to 3, in that order.
+#[tactic(auto, unfolding(crate::specs::Frames::parsed_of))]
 pub fn parse(line: &[u8]) -> Result<Raw, Refusal>
     ensures { outcome_of result ≡ parsed_of line.now }
 {
@@ -49,7 +50,8 @@ fn hour_record(tree: u8, raw: RawHour) -> Result<Record, Refusal>
     Ok(Record::Hour(h))
 }
 
-// A frame to a record; the given tree matters for an hour only. The rows are asked for by kind: `check` of a record is not written out by the compiler.
+// A frame to a record; the given tree matters for an hour only.
+// Kept for speed: the rows are asked for by kind, since the compiler does not inline `check` of a record.
 #[tactic(auto, unfolding(crate::specs::Frames::record_of, crate::specs::Frames::sound_of, records::specs::Ranges::checked))]
 pub fn record_of(tree: u8, frame: Raw) -> Result<Record, Refusal>
     ensures { outcome_of result ≡ record_of tree frame }

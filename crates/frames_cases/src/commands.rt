@@ -15,7 +15,7 @@ pub(crate) fn obey(rt: &impl Print, command: &[u8]) -> io::Result<()> {
     let tree = u8_at(head, 1);
     let n = u8_at(head, 3) as usize;
     rt.write_all(command)?;
-    // Kept: an enum of commands would name each letter a second time.
+    // Kept: an enum of commands would list them twice, by letter and by name.
     match head[0] {
         b'R' => print_reading(rt, tree, line)?,
         b'C' => print_marks(rt, tree, line, n)?,

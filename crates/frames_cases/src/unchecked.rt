@@ -1,12 +1,13 @@
 // A frame's numbers as a record that nothing has checked; its ozone, where `numeric`, a number even if that is FFFF.
-use frames::{Hour, Raw, RawHour, Record, Soil};
+use frames::{Hour, Raw, RawHour, Record};
+use trees::Measure;
 
 // Trees 1 and 2 are measured in available water.
-fn soil_of(tree: u8, n: u16) -> Soil {
+fn measure_of(tree: u8) -> Measure {
     if tree < 3 {
-        Soil::Water(n)
+        Measure::Water
     } else {
-        Soil::Suction(n)
+        Measure::Suction
     }
 }
 
@@ -20,15 +21,8 @@ fn ozone_of(numeric: bool, n: u16) -> Option<u16> {
 
 fn hour_of(tree: u8, numeric: bool, raw: RawHour) -> Hour {
     Hour {
-        day: raw.day,
-        hour: raw.hour,
         ozone: ozone_of(numeric, raw.ozone),
-        ppfd: raw.ppfd,
-        radiation: raw.radiation,
-        temperature: frames::signed(raw.temperature),
-        air: raw.air,
-        wind: raw.wind,
-        soil: soil_of(tree, raw.soil),
+        ..frames::hour_of(raw, measure_of(tree))
     }
 }
 

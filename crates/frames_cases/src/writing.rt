@@ -16,17 +16,15 @@ fn print_checked(rt: &impl Print, record: Record) -> io::Result<()> {
     }
 }
 
-// The line, and what reading it answers.
-fn print_back(rt: &impl Print, tree: u8, line: &[u8]) -> io::Result<()> {
-    rt.write_all(b" ")?;
-    rt.write_all(line)?;
-    print_reading(rt, tree, line)
-}
-
 // The record written into the lent bytes: the line and what it is read back as, or the row.
 fn print_written(rt: &impl Print, tree: u8, record: Record, lent: &mut [u8]) -> io::Result<()> {
     match writer::write_frame(record, lent) {
-        Ok(n) => print_back(rt, tree, lent.get(..n).unwrap_or_default()),
+        Ok(n) => {
+            let line = lent.get(..n).unwrap_or_default();
+            rt.write_all(b" ")?;
+            rt.write_all(line)?;
+            print_reading(rt, tree, line)
+        },
         Err(refusal) => print!(rt; " {}", Row(refusal)),
     }
 }

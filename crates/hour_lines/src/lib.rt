@@ -11,6 +11,7 @@ use frames::widths::{HourLine, PressureLine};
 use frames::{Air, Raw, RawHour, Refusal};
 
 // Of the 16 characters from a place on: whether all are digits, and the byte that each says with the character after it.
+// Kept for speed: no branch in the loop, and one test of the three flags in `read`.
 fn chunk(line: &[u8], from: usize, bytes: &mut [u8; 16]) -> bool
     requires { from + 17 ≤ length line.now }
     ensures { ReadTo line.now from 16 result bytes.new }
@@ -26,6 +27,7 @@ fn chunk(line: &[u8], from: usize, bytes: &mut [u8; 16]) -> bool
 }
 
 // The two-byte number whose digits begin at a place of a chunk.
+// Kept: `from_be_bytes` would take an array made of the two bytes, for this sum.
 fn number(bytes: &[u8; 16], at: usize) -> u16
     requires { at + 2 < 16 }
     ensures { result ≡ get_or bytes.now at 0 * 256 + get_or bytes.now (at + 2) 0 }
@@ -33,7 +35,8 @@ fn number(bytes: &[u8; 16], at: usize) -> u16
     (bytes[at] as u16) * 256 + bytes[at + 2] as u16
 }
 
-// The way that reads every line.
+// By `frames::parse`, which reads every line.
+// Kept: the kind is any byte that `read` is given, so no enum of an hour's kinds holds it.
 #[tactic(auto, unfolding(crate::specs::Read::read_of))]
 fn by_parse(kind: u8, line: &[u8]) -> Option<RawHour>
     ensures { result ≡ read_of kind (parsed_of line.now) }
@@ -45,6 +48,8 @@ fn by_parse(kind: u8, line: &[u8]) -> Option<RawHour>
 }
 
 // The hour of a line of an hour's kind: its first chunk, the one after it, and the one that ends at its last digit but one.
+// Kept: the kind is the line's byte, and an enum of an hour's kinds would be a match from the byte besides this one.
+// Kept: `frames` has this match too; a helper would need a definition of its own, since `air_of` takes the list of a line's numbers.
 fn hour_at(kind: u8, a: &[u8; 16], b: &[u8; 16], c: &[u8; 16]) -> RawHour
     ensures { (l : List ℕ) → HourIn kind l a.now b.now c.now → result ≡ hour_in kind l }
 {
@@ -72,7 +77,8 @@ fn hour_at(kind: u8, a: &[u8; 16], b: &[u8; 16], c: &[u8; 16]) -> RawHour
     }
 }
 
-// The digits of a line of an hour's kind, 0 for any other kind. Kept for speed: one comparison with a line's length.
+// The digits of a line of an hour's kind, 0 for any other kind.
+// Kept for speed: an Option would be one more branch in `read`, on whether the kind is an hour's, before the lengths are compared.
 #[tactic(auto, unfolding(frames::specs::Kinds::length_of))]
 fn length_of(kind: u8) -> usize
     ensures { 0 < result → LengthOf kind result }
@@ -85,6 +91,7 @@ fn length_of(kind: u8) -> usize
 }
 
 // The hour that a line says, where its kind is the one given.
+// Kept: a caller may give any byte, and a narrower type would ask more.
 pub fn read(kind: u8, line: &[u8]) -> Option<RawHour>
     ensures { result ≡ read_of kind (parsed_of line.now) }
 {

@@ -1,13 +1,13 @@
 -- An array that passes one computed test is the table.
-use Prim.Native.Nat.{ℕ, zero, suc, ◌+◌, ◌-◌, ◌<◌, ◌≤◌}
-use mathlib.Core.Path.{◌≡◌, ◌∙◌, subst, sym}
+use Prim.Native.Nat.{ℕ, zero, suc, ◌+◌, ◌<◌, ◌≤◌}
+use mathlib.Core.Path.{◌≡◌}
 use mathlib.Core.Bool.{Bool, true, ◌&&◌}
 use mathlib.Core.List.{List, [], ◌∷◌}
-use native.Mathlib.Nat.{add-zero, add-suc, suc-add, le_of_suc-le-suc, not-suc-le-zero}
+use native.Mathlib.Nat.{add-suc, suc-add, not-suc-le-zero}
 use native.Mathlib.Omega.{arith}
-use lib.Dec.{T, eqb, eqb→eq}
+use Rattle.std.proofs.lemmas.Bool.Decides.{nat_tests}
+use lib.Dec.{T, eqb}
 use lib.ListN.{length, get_or}
-use store.Enc.{and_l, and_r}
 use Rattle.humidity_spec.specs.Vapour.{celsius, exponent}
 use Rattle.humidity_spec.specs.Pair.{entry_of}
 use Rattle.humidity_spec.proofs.EntryLaws.{signed_entry}
@@ -24,13 +24,8 @@ table_test x (t ∷ ts) = eqb t (computed x) && table_test (suc x) ts
 
 tested : (x : ℕ) (ts : List ℕ) → T (table_test x ts) → (i : ℕ) → i < length ts → get_or ts i 0 ≡ computed (x + i)
 tested x [] h i l = absurd (not-suc-le-zero l)
-tested x (t ∷ ts) h zero l =
-    subst (λ (m : ℕ). t ≡ computed m) (sym (add-zero x)) (eqb→eq t (computed x) (and_l (eqb t (computed x)) (table_test (suc x) ts) h))
-tested x (t ∷ ts) h (suc i) l =
-    subst (λ (m : ℕ). get_or ts i 0 ≡ computed m) (suc-add x i ∙ sym (add-suc x i))
-    (tested (suc x) ts (and_r (eqb t (computed x)) (table_test (suc x) ts) h) i (le_of_suc-le-suc l))
+tested x (t ∷ ts) h zero l = grind (arith, nat_tests)
+tested x (t ∷ ts) h (suc i) l = grind (arith, nat_tests, suc-add, add-suc, (tested (suc x) ts))
 
 pub entry_read : {x r : ℕ} {ts : List ℕ} → EntryRead ts x r → x ≤ 1100 → T (table_test 0 ts) → r ≡ entry_of x
-entry_read {x} {r} {ts} h highest test =
-    let e : 0 + x ≡ x = omega arith in
-    h.entry ∙ subst (λ (m : ℕ). get_or ts x 0 ≡ computed m) e (tested 0 ts test x h.within) ∙ sym (entry_of-is x highest)
+entry_read {x} {r} {ts} h highest test = grind (arith, h.entry, tested 0 ts test x h.within, entry_of-is x highest)

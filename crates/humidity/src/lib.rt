@@ -39,6 +39,7 @@ fn entry_at(x: u16) -> u32
 }
 
 // The table's entry: the saturation pressure at a temperature in tenths of a degree above -50.0 °C, rounded down; 0 above 60.0 °C.
+// Kept: a public function that cannot fail; 0 is no entry of the table.
 #[tactic(auto, unfolding(crate::specs::Saturation::saturation_of))]
 pub fn saturation(x: u16) -> u32
     ensures { result ≡ saturation_of x }
@@ -51,6 +52,7 @@ pub fn saturation(x: u16) -> u32
 
 // The deficit at a humidity in tenths of a percent and a temperature in tenths of a degree above -50.0 °C; row 10 with field 4 for a temperature above
 // 60.0 °C, with field 5 for a humidity above 100.0 percent.
+#[tactic(auto, unfolding(humidity_spec::specs::Pair::deficits_of), using(humidity_spec::proofs::FactsLaws::facts))]
 pub fn deficit(h: u16, x: u16) -> Result<Deficits, Refusal>
     ensures result_value { outcome_of result ≡ deficits_of h x }
     ensures facts { HumidityFacts }

@@ -4,8 +4,8 @@ use mathlib.Core.Path.{◌≡◌}
 use mathlib.Core.Bool.{Bool, ◌&&◌}
 use native.Mathlib.Nat.{div-mul-le_self, mul-pos, lt_of_mul-lt-mul_left}
 use native.Mathlib.Omega.{arith}
-use lib.Dec.{T, leb, ltb, leb→le, ltb→lt, lit<, lit≤}
-use store.Enc.{and_l, and_r}
+use Rattle.std.proofs.lemmas.Bool.Decides.{nat_tests}
+use lib.Dec.{T, leb, ltb, lit<, lit≤}
 use Rattle.exact.specs.Frac.{Frac, natural, ◌over◌, ◌⊗◌, ◌≼◌, ◌≺◌, inverse}
 use Rattle.exact.specs.Series.{decay_at}
 use Rattle.exact.proofs.FracLaws.{≼_refl, ≼_trans, ≼-≺-trans, ≈-ge, ⊗-mono}
@@ -75,21 +75,9 @@ module _ (y : Frac) where
   plus-rounded : T (plus_test plus_entry) → Rounded (plus y) plus_entry
   unfolding entry_k
   plus-rounded h =
-      let s : ℕ = plus_entry in
-      let is_under : Bool = ltb n (4 * d) in
-      let is_far : Bool = leb (n * n * steps + n) (entry_k * d) in
-      let is_near : Bool = ltb (n * steps + 1) (d * steps * suc last) in
-      let is_below : Bool = rest_test (n * steps + 1) (d * steps) (611 * units_per_kpa) (1000 * s + 999) last in
-      let h₁ = and_r is_under (is_far && (is_near && is_below)) h in
-      let h₂ = and_r is_far (is_near && is_below) h₁ in
-      let under : y ≺ natural 4 = record { cross = omega (arith, ltb→lt n (4 * d) (and_l is_under (is_far && (is_near && is_below)) h)) } in
-      record {
-        under = under;
-        low = plus-low under;
-        high =
-            plus-high s under (leb→le (n * n * steps + n) (entry_k * d) (and_l is_far (is_near && is_below) h₁))
-            (ltb→lt (n * steps + 1) (d * steps * suc last) (and_l is_near is_below h₂)) (and_r is_near is_below h₂);
-      }
+      let test : T (plus_test plus_entry) = h in
+      let under : y ≺ natural 4 = grind (arith, nat_tests) in
+      record { under = under; low = plus-low under; high = plus-high plus_entry under (grind (arith, nat_tests)) (grind (arith, nat_tests)) (grind (arith, nat_tests)) }
 
 -- ---- y under 0, y = -z
 
@@ -137,14 +125,7 @@ module _ (z : Frac) where
       (record { cross = rw is (omega (arith, h)) })
 
   minus-rounded : T (minus_test minus_entry) → Rounded (minus z) minus_entry
-  minus-rounded h =
-      let is_near : Bool = ltb z.num (z.den * suc last) in
-      let is_above : Bool = ltb (611 * units_per_kpa * common_den last z.den) (1000 * (minus_entry + 1) * common_num last z.num z.den) in
-      record {
-        under = tt;
-        low = minus-low (ltb→lt _ _ (and_l is_near is_above h));
-        high = minus-high minus_entry (ltb→lt _ _ (and_r is_near is_above h));
-      }
+  minus-rounded h = record { under = tt; low = minus-low (grind (arith, nat_tests)); high = minus-high minus_entry (grind (arith, nat_tests)) }
 
 -- ---- of either sign
 

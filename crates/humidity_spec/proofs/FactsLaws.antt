@@ -62,3 +62,6 @@ module _ (h : ℕ) where
 
 pub humidity-facts : HumidityFacts
 humidity-facts = record { saturation = saturation-facts; deficit = vpd-facts; cases = saturation-cases }
+
+-- what the function names in `using`
+pub ruleset facts = (humidity-facts)

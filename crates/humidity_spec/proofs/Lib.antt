@@ -4,4 +4,3 @@ pub mod CaseLaws
 pub mod EntryTests
 pub mod FactsLaws
 pub mod FactorLaws
-pub mod AnswerLaws

@@ -1,9 +1,8 @@
 -- Two deficits that enclose VPD, out of a table of saturation pressures; rows 10.4 and 10.5 for a reading out of range.
 use Rattle.std.specs.Prelude.{ℕ, ◌+◌, ◌-◌, ◌*◌, ◌^◌, ltb}
-use Rattle.records.specs.declared.Refusal.{Refusal}
 use Rattle.exact.specs.Rounding.{times_down}
 use Rattle.trees.specs.declared.Deficits.{Deficits}
-use Rattle.records.specs.Answers.{Outcome, accepted, refused, field, row_of}
+use Rattle.records.specs.Answers.{Outcome, accepted, field}
 use Rattle.humidity_spec.specs.Vapour.{saturation_at}
 
 -- the k at which an entry is worked out: what it falls by from there on shows in no entry

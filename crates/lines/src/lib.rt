@@ -17,6 +17,7 @@ ghost use Rattle.lines.specs.Calls.{pair_line, none_yet_line, refused_line, head
 use account_spec::{Sums, Totals};
 use frames::Refusal;
 use report_spec::Text;
+pub use text::bytes_of;
 
 // The figures of an account.
 pub fn put_totals(totals: Totals, buf: &mut [u8]) -> Result<usize, Refusal>
@@ -40,6 +41,7 @@ pub fn put_season(totals: Totals, months: &[u8], buf: &mut [u8]) -> Result<usize
 }
 
 // A refusal by a row at a line.
+// Kept: any number may be handed over as a row, and a public function's parameter may not become narrower.
 pub fn put_refusal(row: u8, line: u64, buf: &mut [u8]) -> Result<usize, Refusal>
     ensures { Prints (accepted (refusal_line row line)) buf.old result buf.new }
 {
@@ -61,6 +63,7 @@ pub fn put_none_yet(buf: &mut [u8]) -> Result<usize, Refusal>
 }
 
 // A call refused by a row.
+// Kept: any number may be handed over as a row, and a public function's parameter may not become narrower.
 pub fn put_refused(row: u8, buf: &mut [u8]) -> Result<usize, Refusal>
     ensures { Prints (accepted (refused_line row)) buf.old result buf.new }
 {
@@ -68,6 +71,7 @@ pub fn put_refused(row: u8, buf: &mut [u8]) -> Result<usize, Refusal>
 }
 
 // A header refused by a row, its place from 1.
+// Kept: any number may be handed over as a row, and a public function's parameter may not become narrower.
 pub fn put_header_refused(row: u8, header: u64, buf: &mut [u8]) -> Result<usize, Refusal>
     ensures { Prints (accepted (header_refused_line row header)) buf.old result buf.new }
 {
@@ -75,6 +79,7 @@ pub fn put_header_refused(row: u8, header: u64, buf: &mut [u8]) -> Result<usize,
 }
 
 // One of two texts, 1 or 2, refused by a row at a line.
+// Kept: any numbers may be handed over as a text and a row, and a public function's parameter may not become narrower.
 pub fn put_text_refused(text: u8, row: u8, line: u64, buf: &mut [u8]) -> Result<usize, Refusal>
     ensures { Prints (accepted (text_refused_line text row line)) buf.old result buf.new }
 {

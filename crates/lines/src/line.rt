@@ -7,8 +7,9 @@ ghost use Rattle.report_spec.specs.Line.{totals_line};
 ghost use Rattle.report_spec.specs.Months.{month_line};
 ghost use Rattle.report_spec.specs.Season.{refusal_line};
 ghost use Rattle.report_spec.specs.Steps.{text_in, figures_before};
+ghost use Rattle.lines.specs.Calls.{phrase, word_refused};
 
-use crate::text::{byte_before, empty, number_before};
+use crate::text::{LINE_END, byte_before, number_before};
 use account_spec::{Sums, Totals, Verdict};
 use report_spec::Text;
 
@@ -19,25 +20,32 @@ pub(crate) fn word_before(t: Text, word: &[u8]) -> Text
     ensures room { result.at + length word.now ≡ t.at }
 {
     let mut made = t;
-    let mut left = word.len();
-    while 0 < left {
-        left -= 1;
-        made = byte_before(made, word[left]);
+    for c in word.iter().rev() {
+        made = byte_before(made, *c);
     }
     made
 }
 
-// The verdict's word, and the line feed.
-fn of_verdict(verdict: Verdict) -> Text
-    ensures text { text_in result ≡ word_of verdict ++ line_feed ∷ [] }
-    ensures room { 150 ≤ result.at }
+// A word and a number before the text.
+pub(crate) fn phrase_before(t: Text, word: &[u8], n: u64) -> Text
+    requires room { 20 + length word.now ≤ t.at }
+    ensures text { text_in result ≡ phrase word.now n (text_in t) }
+    ensures room { t.at ≤ result.at + 20 + length word.now }
 {
-    let end = byte_before(empty(), b'\n');
+    word_before(number_before(t, n), word)
+}
+
+// The verdict's word.
+// Kept: the bytes of a text that is proved; `trial_cases` prints a str.
+fn word_of(verdict: Verdict) -> &'static [u8]
+    ensures word { result.now ≡ word_of verdict }
+    ensures short { length result.now ≤ 9 }
+{
     match verdict {
-        Verdict::None => word_before(end, b"none"),
-        Verdict::Undecided => word_before(end, b"undecided"),
-        Verdict::Exceeded => word_before(end, b"exceeded"),
-        Verdict::Below => word_before(end, b"below"),
+        Verdict::None => b"none",
+        Verdict::Undecided => b"undecided",
+        Verdict::Exceeded => b"exceeded",
+        Verdict::Below => b"below",
     }
 }
 
@@ -56,37 +64,52 @@ fn figures_before(t: Text, sums: Sums) -> Text
     ensures text { text_in result ≡ figures_before sums (text_in t) }
     ensures room { t.at ≤ result.at + 84 }
 {
-    let least = column_before(t, sums.least as u64);
+    let least = column_before(t, u64::from(sums.least));
     let upper = column_before(least, sums.upper);
     let lower = column_before(upper, sums.lower);
-    column_before(lower, sums.counted as u64)
+    column_before(lower, u64::from(sums.counted))
 }
 
 // Hours, counted hours, lower, upper, AOT40's lower and upper, and verdict.
+#[tactic(auto, unfolding(report_spec::specs::Line::totals_line))]
 pub(crate) fn of_totals(t: Totals) -> Text
     ensures text { text_in result ≡ totals_line t }
 {
     let verdict = t.verdict;
     let sums = t.sums;
-    let end = of_verdict(verdict);
-    let most = column_before(end, sums.most as u64);
-    column_before(figures_before(most, sums), sums.hours as u64)
+    let end = word_before(LINE_END, word_of(verdict));
+    let most = column_before(end, u64::from(sums.most));
+    column_before(figures_before(most, sums), u64::from(sums.hours))
 }
 
 // Month number, counted hours, lower, upper, AOT40's lower and upper.
+#[tactic(auto, unfolding(report_spec::specs::Months::month_line))]
 pub(crate) fn of_month(month: u16, sums: Sums) -> Text
     ensures text { text_in result ≡ month_line month sums }
 {
-    let end = byte_before(empty(), b'\n');
-    let most = number_before(end, sums.most as u64);
-    column_before(figures_before(most, sums), month as u64)
+    let most = number_before(LINE_END, u64::from(sums.most));
+    column_before(figures_before(most, sums), u64::from(month))
+}
+
+// `refused N`, a word and a place's number.
+// Kept: a row is the number that is printed, as the public functions take it.
+pub(crate) fn refused_at(row: u8, word: &[u8], place: u64) -> Text
+    requires room { length word.now ≤ 8 }
+    ensures text { text_in result ≡ phrase word_refused row (phrase word.now place (line_feed ∷ [])) }
+    ensures room { 26 ≤ result.at }
+{
+    phrase_before(
+        phrase_before(LINE_END, word, place),
+        b"refused ",
+        u64::from(row),
+    )
 }
 
 // `refused N line L`
+// Kept: a row is the number that is printed, as the public functions take it.
 pub(crate) fn of_refusal(row: u8, line: u64) -> Text
     ensures text { text_in result ≡ refusal_line row line }
+    ensures room { 26 ≤ result.at }
 {
-    let end = number_before(byte_before(empty(), b'\n'), line);
-    let place = number_before(word_before(end, b" line "), row as u64);
-    word_before(place, b"refused ")
+    refused_at(row, b" line ", line)
 }

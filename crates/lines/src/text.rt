@@ -1,6 +1,5 @@
 // Text of up to 160 bytes, made from its end, and put into a lent buffer.
-ghost use Rattle.std.specs.Prelude.{◌≡◌, ◌+◌, ◌≤◌, [], ◌∷◌, ◌++◌, length};
-ghost use Rattle.std.proofs.Math.Seq.{paste};
+ghost use Rattle.std.specs.Prelude.{◌≡◌, ◌+◌, ◌≤◌, ◌∷◌, ◌++◌};
 ghost use Rattle.records.specs.Answers.{accepted};
 ghost use Rattle.records.specs.Buffer.{Prints};
 ghost use Rattle.report_spec.specs.Text.{decimal};
@@ -9,17 +8,14 @@ ghost use Rattle.report_spec.specs.Steps.{text_in};
 use frames::Refusal;
 use report_spec::Text;
 
-pub(crate) fn empty() -> Text
-    ensures text { text_in result ≡ [] }
-    ensures room { result.at ≡ 160 }
-{
-    Text {
-        bytes: [0; 160],
-        at: 160,
-    }
-}
+// A line feed alone.
+pub(crate) const LINE_END: Text = Text {
+    bytes: [b'\n'; 160],
+    at: 159,
+};
 
 // A byte before the text.
+// Kept: the functions that write before a text each ask for another room, so no ghost field of the text holds it.
 pub(crate) fn byte_before(t: Text, c: u8) -> Text
     requires room { 1 ≤ t.at }
     ensures text { text_in result ≡ c ∷ text_in t }
@@ -32,6 +28,7 @@ pub(crate) fn byte_before(t: Text, c: u8) -> Text
 }
 
 // A number's digits before the text, the last digit first.
+// Kept: the contract of the library's printing says nothing of the bytes that are written, and the clause here states them.
 pub(crate) fn number_before(t: Text, n: u64) -> Text
     requires room { 20 ≤ t.at }
     ensures text { text_in result ≡ decimal n (text_in t) }
@@ -46,39 +43,31 @@ pub(crate) fn number_before(t: Text, n: u64) -> Text
     byte_before(made, 48 + (left as u8))
 }
 
+// The text's bytes.
+pub fn bytes_of(t: &Text) -> &[u8]
+    ensures { result.now ≡ text_in t.now }
+{
+    &t.bytes[t.at..]
+}
+
 // The text into a lent buffer: row 12 where it is too short, and then nothing is written.
 pub(crate) fn put(t: Text, buf: &mut [u8]) -> Result<usize, Refusal>
     ensures { Prints (accepted (text_in t)) buf.old result buf.new }
 {
-    let n = 160 - t.at;
-    if buf.len() < n {
-        return Err(Refusal::Buffer);
-    }
-    let bytes = t.bytes;
-    buf[..n].copy_from_slice(&bytes[t.at..]);
-    Ok(n)
-}
-
-// Bytes into a buffer, from a place on.
-fn copy(bytes: &[u8], buf: &mut [u8], at: usize)
-    requires room { at + length bytes.now ≤ length buf.old }
-    ensures { buf.new ≡ paste buf.old at bytes.now (length bytes.now) }
-{
-    buf[at..at + bytes.len()].copy_from_slice(bytes);
+    put_both(t, b"", buf)
 }
 
 // The text and more after it into a lent buffer: row 12 where it is too short for both, and then nothing is written.
 pub(crate) fn put_both(t: Text, more: &[u8], buf: &mut [u8]) -> Result<usize, Refusal>
     ensures { Prints (accepted (text_in t ++ more.now)) buf.old result buf.new }
 {
-    let at = t.at;
-    let n = 160 - at;
+    let line = bytes_of(&t);
+    let n = line.len();
     let all = n + more.len();
     if buf.len() < all {
         return Err(Refusal::Buffer);
     }
-    let bytes = t.bytes;
-    copy(&bytes[at..], buf, 0);
-    copy(more, buf, n);
+    buf[..n].copy_from_slice(line);
+    buf[n..all].copy_from_slice(more);
     Ok(all)
 }

@@ -2,4 +2,3 @@ pub mod StepLaws
 pub mod ListLaws
 pub mod LineLaws
 pub mod TallyLaws
-pub mod FirstLaws

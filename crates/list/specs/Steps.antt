@@ -1,6 +1,6 @@
 -- Serves the code's own steps; no reader need believe it.
 -- A list is seen account by account; what is known so far is a tally.
-use Rattle.std.specs.Prelude.{ℕ, ◌≡◌, Bool, true, false, not, cond, ◌||◌, List, [], ◌∷◌, ltb, Option, Some, None, is_none}
+use Rattle.std.specs.Prelude.{ℕ, ◌≡◌, Bool, true, false, not, cond, ◌||◌, List, [], ◌∷◌, Option, Some, None, is_none}
 use Rattle.trees.specs.declared.Measure.{Measure}
 use Rattle.records.specs.declared.Raw.{Raw}
 use Rattle.records.specs.declared.Record.{Record}
@@ -99,7 +99,3 @@ abbrev pub Keeps : Outcome Unit → Outcome Record → Account → Account → T
 Keeps (refused w) line a b = b ≡ a
 Keeps (accepted u) (refused w) a b = b ≡ a
 Keeps (accepted u) (accepted r) a b = NextBy a r b
-
--- how many of six accounts are listed: none above six, which row 22 refuses too
-abbrev pub listed_of : ℕ → ℕ
-listed_of count = cond (ltb 6 count) 0 count

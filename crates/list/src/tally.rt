@@ -3,12 +3,14 @@ ghost use Rattle.records.specs.Answers.{outcome_of};
 ghost use Rattle.std.specs.Prelude.{◌≡◌};
 ghost use Rattle.list.specs.Steps.{common_as, tallied_as, start_of, first_common, next_line, line_of, seen_of, settled_of};
 
+use crate::MOST;
 use crate::alike::{Common, alike, common_of};
 use account::Account;
 use frames::{Raw, Record, Refusal};
 
 // Rows 22, 13 and 23, what the first account is compared by where one was seen, and the record that all seen so far take, or the first refusal.
-// Kept: a flag for each row: an impossible account comes before an unlike one, in whichever order they are seen.
+// Kept: a flag for each row: an impossible account comes before an unlike one, in whichever order they are seen; row 22, by the length alone, stands with them so
+// that one function says the order of all. Before the first account is seen, `line` is not read: an empty list is row 22.
 #[derive(Clone, Copy)]
 pub(crate) struct Tally {
     outside: bool,
@@ -22,7 +24,7 @@ pub(crate) fn start(n: usize) -> Tally
     ensures { tallied_as result ≡ start_of n }
 {
     Tally {
-        outside: (n == 0) | (6 < n),
+        outside: (n == 0) | (MOST < n),
         impossible: false,
         unlike: false,
         first: None,

@@ -2,12 +2,15 @@
 // digits after `H` and `F` are a place: `H` sets a field of that account, `F` feeds it alone a line. `L` feeds a line to the list, `P` prints every account.
 use account::Account;
 use cases::{Refused, u8_at};
-use cases_account::{Answer, Fields, with_field};
+use cases_account::{Answer, Fields, left_by, with_field};
+use frames::Refusal;
+use list::MOST;
 use std::io;
 
+// Kept: the count says how many of the six the list is, not how many there are: those past it are set, fed and printed too, so no Vec has that length.
 #[derive(Clone, Copy)]
 pub(crate) struct Held {
-    accounts: [Account; 6],
+    accounts: [Account; MOST],
     count: usize,
 }
 
@@ -20,7 +23,7 @@ fn placed(digits: &[u8]) -> (usize, &[u8]) {
 impl Held {
     pub(crate) fn new() -> Held {
         Held {
-            accounts: [account::fresh(); 6],
+            accounts: [account::fresh(); MOST],
             count: 0,
         }
     }
@@ -48,16 +51,18 @@ impl Held {
     fn feed_one(&mut self, rt: &impl Print, digits: &[u8]) -> io::Result<()> {
         let (place, line) = placed(digits);
         let answer = account::feed(self.account_at(place), line);
-        let left = answer.unwrap_or_else(|(_, same)| same);
+        let left = left_by(answer);
         self.put(place, left);
         println!(rt; "{}: {}", Answer(answer), Fields(left))
     }
 
+    // More than the six are refused as a list of seven is.
     fn feed_list(&mut self, rt: &impl Print, line: &[u8]) -> io::Result<()> {
-        let six = list::feed_six(self.accounts, self.count, line);
-        let accounts = six.accounts;
-        self.accounts = accounts;
-        match six.answer {
+        let listed = self.accounts.get_mut(..self.count);
+        let answer = listed
+            .ok_or(Refusal::ListSize)
+            .and_then(|accounts| list::feed_all(accounts, line));
+        match answer {
             Ok(()) => println!(rt; "accepted"),
             Err(refusal) => println!(rt; "{}", Refused(refusal)),
         }
@@ -74,7 +79,7 @@ impl Held {
         let Some((letter, rest)) = command.split_first() else {
             return Ok(());
         };
-        // Kept: an enum of commands would name each letter a second time.
+        // Kept: an enum of commands would list them twice, by letter and by name.
         match *letter {
             b'N' => *self = Held::new(),
             b'C' => self.count = u8_at(rest, 0) as usize,

@@ -3,15 +3,15 @@ use Rattle.records.specs.declared.Refusal.{Refusal}
 use Rattle.account_spec.specs.declared.Totals.{Totals}
 use Rattle.std.specs.Prelude.{Result, Ok}
 use Prim.Native.Nat.{ℕ}
-use mathlib.Core.Path.{◌≡◌, refl, sym, ap, subst, ◌∙◌}
+use mathlib.Core.Path.{◌≡◌, refl, sym, ap}
 use mathlib.Core.List.{List, [], ◌∷◌, ◌++◌, map}
 use lib.ListN.{length}
-use Rattle.records.specs.Answers.{Outcome, accepted}
+use Rattle.records.specs.Answers.{accepted}
 use Rattle.account_spec.specs.declared.Account.{Account}
 use Rattle.account_spec.specs.Account.{fresh_account}
 use Rattle.account_spec.specs.Rules.{feed_of, left_of, left_by, Feeds}
 use Rattle.account_spec.specs.Reading.{Reads}
-use Rattle.account_spec.specs.Runs.{Event, fed, taken, Run, stop, feeds, reads, Call, line, calls_of, replies_of, account_after, TakesAll}
+use Rattle.account_spec.specs.Runs.{Event, fed, taken, Run, stop, feeds, reads, line, calls_of, replies_of, account_after, TakesAll}
 use Rattle.account_spec.specs.Promise.{acceptances}
 use Rattle.account_spec.proofs.SeasonLaws.{season-kept}
 use Rattle.list_spec.specs.Promise.{Begun, RunKept, Continued}
@@ -46,8 +46,8 @@ lines-run a b ls (TakesAll.line {b = next} {l = l} {ls = more} e alone) =
     let rest = lines-run next b more alone in
     record {
       events = fed l (Ok next) ∷ rest.events;
-      calls = ap (λ (cs : List Call). line l ∷ cs) rest.calls;
-      replies = ap (λ (os : List (Outcome Unit)). accepted tt ∷ os) rest.replies;
+      calls = rw rest.calls refl;
+      replies = rw rest.replies refl;
       run = feeds (taken-feeds a next l e) rest.run;
       ends = rest.ends;
     }
@@ -62,13 +62,13 @@ module _ (a : Account) (own : Begun a) (ls : List (List ℕ)) (b : Account) (mor
   all = own.events ++ more.events
 
   whole : Run fresh_account all
-  whole = run-append fresh_account own.events more.events own.run (subst (λ (x : Account). Run x more.events) (sym own.ends) more.run)
+  whole = run-append fresh_account own.events more.events own.run (rw own.ends more.run)
 
   whole-ends : account_after fresh_account all ≡ b
-  whole-ends = end-append fresh_account own.events more.events ∙ ap (λ (x : Account). account_after x more.events) own.ends ∙ more.ends
+  whole-ends = rw (end-append fresh_account own.events more.events, own.ends) more.ends
 
   read : (r : Result Totals Refusal) → Reads b r → Run fresh_account (all ++ taken r ∷ [])
-  read r k = run-append fresh_account all (taken r ∷ []) whole (reads (subst (λ (x : Account). Reads x r) (sym whole-ends) k) stop)
+  read r k = run-append fresh_account all (taken r ∷ []) whole (reads (rw whole-ends k) stop)
 
   continued : Continued a own ls b
   continued = record {

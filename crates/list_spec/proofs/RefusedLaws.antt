@@ -2,17 +2,15 @@
 use Rattle.records.specs.declared.Refusal.{Refusal}
 use Rattle.std.specs.Prelude.{Result, Ok, Err}
 use Prim.Native.Nat.{ℕ}
-use mathlib.Core.Path.{◌≡◌, refl, sym, ap, ◌∙◌}
-use mathlib.Core.Bool.{true, false}
+use mathlib.Core.Path.{◌≡◌, refl, sym, ◌∙◌}
 use mathlib.Core.List.{List}
-use lib.ListN.{length}
-use Rattle.records.specs.Answers.{Outcome, accepted, refused, row_of, reply, outcome_of}
+use native.Mathlib.Omega.{arith}
+use Rattle.records.specs.Answers.{Outcome, accepted, refused, row_of, outcome_of}
 use Rattle.records.proofs.AnswerLaws.{refused-not-accepted}
 use Rattle.account_spec.specs.declared.Account.{Account}
 use Rattle.account_spec.specs.Rules.{feed_of}
-use Rattle.list_spec.specs.Together.{together, left_together, Each, FirstRefuses}
-use Rattle.list_spec.specs.Alike.{unlike}
-use Rattle.list_spec.specs.Feeding.{size_out, any_impossible, feed_all_of, FeedsAll}
+use Rattle.list_spec.specs.Together.{together, Each, FirstRefuses}
+use Rattle.list_spec.specs.Feeding.{feed_all_of, FeedsAll}
 use Rattle.list_spec.specs.Promise.{In, LineTogether}
 use Rattle.list_spec.proofs.RunLaws.{accepted-fed, refused-same}
 
@@ -43,38 +41,14 @@ module _ (xs ys : List Account) (l : List ℕ) (r : Result Unit Refusal) (k : Fe
       by-reply (Ok tt) j = absurd (one-not-all (λ b. feed_of b l) at e (accepted-fed xs ys l j))
       by-reply (Err s) j = (row_of s, refl)
 
-  size-row : size_out (length xs) ≡ true → outcome_of r ≡ refused (22, 0)
-  unfolding feed_all_of
-  size-row size = k.answers ∙ rw size refl
-
-  possible-row : size_out (length xs) ≡ false → any_impossible xs ≡ true → outcome_of r ≡ refused (13, 0)
-  unfolding feed_all_of
-  possible-row sized impossible = k.answers ∙ rw (sized, impossible) refl
-
-  alike-row : size_out (length xs) ≡ false → any_impossible xs ≡ false → unlike xs ≡ true → outcome_of r ≡ refused (23, 0)
-  unfolding feed_all_of
-  alike-row sized possible differ = k.answers ∙ rw (sized, possible, differ) refl
-
-  module _ (sized : size_out (length xs) ≡ false) (possible : any_impossible xs ≡ false) (alike : unlike xs ≡ false) where
-    passed : feed_all_of xs l ≡ together (λ a. feed_of a l) xs
-    unfolding feed_all_of
-    passed = rw (sized, possible, alike) refl
-
-    first-refused : (w : ℕ × ℕ) → FirstRefuses (λ a. feed_of a l) w xs → outcome_of r ≡ refused w
-    first-refused w first = k.answers ∙ ap reply (passed ∙ first-together (λ a. feed_of a l) w xs first)
-
-    each-accepted : (zs : List Account) → Each (λ a b. feed_of a l ≡ accepted b) xs zs → (outcome_of r ≡ accepted tt) × (ys ≡ zs)
-    each-accepted zs each =
-        let is = passed ∙ each-together (λ a. feed_of a l) xs zs each in
-        (k.answers ∙ ap reply is, k.leaves ∙ ap (left_together xs) is)
-
   pub line-together : LineTogether xs l r ys
+  unfolding feed_all_of
   line-together = record {
-    size = size-row;
-    possible = possible-row;
-    alike = alike-row;
-    all = each-accepted;
-    first = first-refused;
+    size = λ large. grind (arith, k);
+    possible = λ sized impossible. grind (arith, k);
+    alike = λ sized possible differ. grind (arith, k);
+    all = λ sized possible alike zs each. grind (arith, k, each-together (λ a. feed_of a l) xs zs each);
+    first = λ sized possible alike w first. grind (arith, k, first-together (λ a. feed_of a l) w xs first);
     one = one-refused;
     unchanged = refused-same xs ys l r k;
   }

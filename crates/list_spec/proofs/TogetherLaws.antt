@@ -1,9 +1,10 @@
 -- A list takes a step together: each place takes it by itself, or the first that refuses answers.
 use Prim.Native.Nat.{ℕ}
-use mathlib.Core.Path.{◌≡◌, refl, sym, ap, subst, ◌∙◌}
+use mathlib.Core.Path.{◌≡◌, refl, sym}
 use mathlib.Core.List.{List, [], ◌∷◌}
+use native.Mathlib.Omega.{arith}
 use Rattle.records.specs.Answers.{Outcome, accepted, refused, onward}
-use Rattle.records.proofs.AnswerLaws.{refused-not-accepted, accepted-same, onward-passed}
+use Rattle.records.proofs.AnswerLaws.{refused-not-accepted}
 use Rattle.list_spec.specs.Together.{together, Each, FirstRefuses, Together}
 
 -- ---- two lists, place by place
@@ -25,19 +26,14 @@ module _ {A : Type 0} (step : A → Outcome A) where
 
   together-all : (xs ys : List A) → together step xs ≡ accepted ys → AllTake xs ys
   unfolding together
-  together-all [] ys e = subst (AllTake []) (accepted-same e) Each.none
-  together-all (a ∷ xs) ys e =
-      let first = onward-passed (step a) _ ys e in
-      let rest = onward-passed (together step xs) _ ys first.2 in
-      subst (AllTake (a ∷ xs)) (accepted-same rest.2) (Each.more first.1 (together-all xs rest.0 rest.1))
+  together-all [] ys e = grind (arith, Each.none)
+  together-all (a ∷ xs) ys e = grind (arith, together-all xs, Each.more)
 
   -- by what the head answers, then the rest
   by-answers :
       (a : A) (xs : List A) (w : ℕ × ℕ) (head : Outcome A) (rest : Outcome (List A)) → step a ≡ head →
       onward head (λ b. onward rest (λ ys. accepted (b ∷ ys))) ≡ refused w → (rest ≡ refused w → FirstRefuses step w xs) → FirstRefuses step w (a ∷ xs)
-  by-answers a xs w (refused v) rest is e later = let same : v ≡ w = cc in FirstRefuses.here (is ∙ ap refused same)
-  by-answers a xs w (accepted b) (refused v) is e later = FirstRefuses.later is (later e)
-  by-answers a xs w (accepted b) (accepted ys) is e later = refused-not-accepted (sym e)
+  by-answers a xs w head rest is e later = grind (arith, FirstRefuses.here, FirstRefuses.later)
 
   together-first : (xs : List A) (w : ℕ × ℕ) → together step xs ≡ refused w → FirstRefuses step w xs
   unfolding together

@@ -1,7 +1,7 @@
 -- Feeding a list of accounts a line (W-210): rows 22, 13 and 23, then every account takes it or none.
 use Rattle.std.specs.Prelude.{ℕ, ◌≡◌, Bool, false, ◌||◌, List, [], ◌∷◌, eqb, ltb, length, Result}
 use Rattle.records.specs.declared.Refusal.{Refusal}
-use Rattle.records.specs.Answers.{Outcome, accepted, refused, row, row_of, reply, outcome_of}
+use Rattle.records.specs.Answers.{Outcome, row, reply, outcome_of}
 use Rattle.account_spec.specs.declared.Account.{Account}
 use Rattle.account_spec.specs.Account.{impossible}
 use Rattle.account_spec.specs.Rules.{feed_of}

@@ -7,7 +7,6 @@ use borrow.Author.Tests.{lt-ltb, le-ltb}
 use Rattle.trees.specs.Figures.{tree_row}
 use Rattle.exact.proofs.OrderLaws.{le-or-lt}
 use Rattle.measured.specs.Figures.{number_row}
-use Rattle.measured.specs.Facts.{MeasuredFacts}
 
 pub number-row-is : (t : ℕ) → t ≢ 7 → tree_row t ≡ number_row t
 number-row-is t other =

@@ -50,6 +50,7 @@ pub fn is_fed(p: Parameters) -> bool
 }
 
 // Leaf age of a season whose frame of kind 08 was not fed.
+// Kept: a caller that asks for one hour's dose gives it (README).
 pub fn no_warmth() -> Warmth
     ensures { result ≡ no_warmth }
 {
@@ -57,6 +58,7 @@ pub fn no_warmth() -> Warmth
 }
 
 // Some number is not 0.
+// Kept: like `is_fed` one comparison with the type's zeros; a generic test for both would be the same comparison and two calls.
 pub fn has_warmth(w: Warmth) -> bool
     ensures { result ≡ has_warmth w }
 {
@@ -78,10 +80,12 @@ pub fn powers(p: Parameters) -> Option<Ratio>
 }
 
 // The figures that parameters make, their powers given.
+// Kept: two types, and a struct update takes its own type alone.
 fn figures_by(p: Parameters, found: Option<Ratio>) -> Figures
     requires { found ≡ powers_in p }
     ensures { result ≡ measured_figures p }
 {
+    // Kept: p and q are numbers for every tree; 0 is no power, and `power::f_temp` answers None for it.
     let ratio = found.unwrap_or(Ratio { p: 0, q: 0 });
     Figures {
         gmax: p.gmax,
@@ -116,7 +120,8 @@ pub fn figures(p: Parameters) -> Figures
     figures_by(p, powers(p))
 }
 
-// The figures of the tree with a number, 1 to 7; those of tree 7 before its parameters are fed. No powers are worked out, so that the compiler writes it out.
+// The figures of the tree with a number, 1 to 7; those of tree 7 before its parameters are fed.
+// Kept for speed: apart from `figures_in`, since no powers are worked out here and the compiler inlines it.
 #[tactic(auto, unfolding(crate::specs::Figures::figures_in, power::specs::Powers::powers_of))]
 pub fn figures_before(tree: u8) -> Option<Figures>
     ensures { result ≡ figures_in no_parameters tree }

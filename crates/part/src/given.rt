@@ -5,6 +5,7 @@ ghost use Rattle.part_spec.specs.Frames.{soil_from, hour_from, parameters_from};
 use frames::{Air, Hour, Parameters, Soil};
 use part_spec::{HourReadings, TreeParameters};
 
+// Kept for the C interface: soil's kind is a number beside its value, so no From takes it.
 fn soil_from(water: u8, n: u16) -> Soil
     ensures { result ≡ soil_from water n }
 {
@@ -15,7 +16,7 @@ fn soil_from(water: u8, n: u16) -> Soil
     }
 }
 
-// Kept: the types of both ends are of other crates, so no From can stand here
+// Kept: the air is a second argument, which the call gives by its kind, so no From takes it.
 pub(crate) fn hour_from(readings: HourReadings, air: Air) -> Hour
     ensures { result ≡ hour_from readings air }
 {
@@ -32,6 +33,7 @@ pub(crate) fn hour_from(readings: HourReadings, air: Air) -> Hour
     }
 }
 
+// Kept: neither type is this crate's, so a From would have to stand in part_spec or measured, away from its one use.
 pub(crate) fn parameters_from(p: TreeParameters) -> Parameters
     ensures { result ≡ parameters_from p }
 {

@@ -18,6 +18,7 @@ pub(crate) fn next_by(fed: Fed) -> Result<Account, Refusal>
 }
 
 // The next account, stored over the one in a buffer that has room for it, or the code of a refusal.
+// Kept: three calls take up, step and leave in two statements each; a helper for all would take the step as a closure and need a contract about what it ensures.
 pub(crate) fn leave(next: Result<Account, Refusal>, account: &mut [u8]) -> u32
     requires { ForOk next (λ _. total_width widths ≤ length account.old) }
     ensures { LeavesBytes account.old (outcome_of next) result account.new }

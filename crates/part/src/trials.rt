@@ -27,7 +27,7 @@ fn tried_of(made: Trial) -> Tried
 pub fn pod1_trial(account: &[u8], line: &[u8], trial: &mut [u8]) -> Tried
     ensures { TriesBytes account.now line.now trial.old result trial.new }
 {
-    // Kept: the two refusals are told alike, and only the second leaves a trial made
+    // Kept: no `?`, since this returns a struct of numbers; a helper that returns a Result would need a definition of its own for its contract about the bytes.
     match stored::take_up(account) {
         Ok(a) => {
             let made = trial::trial(a, line);

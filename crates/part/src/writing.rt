@@ -1,4 +1,5 @@
 // Lines to feed, each into a lent buffer without a line feed: the frame's own rows, then row 12.
+// Kept for the C interface: the numbers of kinds 01, 03, 06 and 08, and kind 04's pressure, apart, as C hands them.
 ghost use Rattle.records.specs.declared.Air.{Air};
 ghost use Rattle.records.specs.declared.Record.{Record};
 ghost use Rattle.writer.specs.Writer.{text_of};

@@ -2,7 +2,7 @@
 use Rattle.std.specs.Prelude.{Result, Ok, Err}
 use Rattle.std.specs.Result.{ForOk, MatchResult}
 use Prim.Native.Nat.{ℕ, ◌≤◌}
-use mathlib.Core.Path.{◌≡◌, refl, sym, ap, ◌∙◌}
+use mathlib.Core.Path.{◌≡◌, sym, ap, ◌∙◌}
 use mathlib.Core.Bool.{Bool, true, false}
 use mathlib.Core.List.{List, ◌++◌}
 use native.Mathlib.Omega.{arith}
@@ -12,7 +12,7 @@ use lib.ListN.{length, drop}
 use Rattle.records.specs.Answers.{Outcome, accepted, refused, onward, row_of, outcome_of}
 use Rattle.records.specs.Buffer.{Prints}
 use Rattle.records.specs.declared.Refusal.{Refusal}
-use Rattle.records.proofs.AnswerLaws.{refused-not-accepted, onward-passed}
+use Rattle.records.proofs.AnswerLaws.{onward-passed}
 use Rattle.account_spec.specs.declared.Account.{Account}
 use Rattle.stored.specs.Packing.{total_width}
 use Rattle.stored.specs.Layout.{widths, account_bytes, take_up_of}
@@ -42,32 +42,24 @@ module _ (a : Account) (before after : List ℕ) (w : Result ℕ Refusal) (p : P
   short-code : short ≡ true → code_of (outcome_of w) ≡ 12
   short-code e = ap code_of p.answers ∙ rw e
 
-  stored_at : (code : ℕ) → code ≡ code_of (outcome_of w) → code ≡ 0 → (t : Bool) → short ≡ t → take_up_of after ≡ accepted a
-  stored_at code is none false e = put-held e
-  stored_at code is none true e = absurd (omega (arith, is, short-code e))
-
   pub stores : (code : ℕ) → code ≡ code_of (outcome_of w) → Stores a before code after
-  stores code is = record { answers = is ∙ ap code_of p.answers; leaves = p.leaves; holds = λ none. stored_at code is none short refl }
+  stores code is = record { answers = is ∙ ap code_of p.answers; leaves = p.leaves; holds = λ none. grind (arith, put-held, short-code) }
 
 -- ---- the account that an answer gives, over the bytes of the one before
 
-row-leaves : (before : List ℕ) (o : Outcome Account) (r : ℕ × ℕ) (code : ℕ) → o ≡ refused r → code ≡ code_of_row r → LeavesBytes before o code before
-row-leaves before o r code q is = record { answers = is ∙ rw q; leaves = rw q; holds = λ a e. refused-not-accepted (sym q ∙ e) }
-
 module _ (before : List ℕ) (given : Result Account Refusal) where
   pub refused-leaves : (why : Refusal) (code : ℕ) → given ≡ Err why → code ≡ code_of_row (row_of why) → LeavesBytes before (outcome_of given) code before
-  refused-leaves why code e is = row-leaves before (outcome_of given) (row_of why) code (ap outcome_of e) is
+  refused-leaves why code e is = record { answers = grind arith; leaves = grind arith; holds = λ a f. grind arith }
 
   pub accepted-leaves : total_width widths ≤ length before → (next : Account) (after : List ℕ) (w : Result ℕ Refusal) (code : ℕ) → given ≡ Ok next
       → Prints (accepted (account_bytes next)) before w after → TakenUp next → code ≡ code_of (outcome_of w) → LeavesBytes before (outcome_of given) code after
   accepted-leaves room next after w code e p back is =
-      let q : outcome_of given ≡ accepted next = ap outcome_of e in
       let size = account-length next in
       let long = le-ltb (length before) (length (account_bytes next)) (omega (arith, size, room)) in
       record {
-        answers = is ∙ put-code next before after w p back long ∙ rw q;
-        leaves = put-bytes next before after w p back long ∙ rw (q, size);
-        holds = λ b f. put-held next before after w p back long ∙ sym q ∙ f;
+        answers = grind (arith, put-code next before after w p back long);
+        leaves = grind (arith, put-bytes next before after w p back long, size);
+        holds = λ b f. grind (arith, put-held next before after w p back long);
       }
 
 -- ---- a step on the account that the bytes hold

@@ -1,20 +1,17 @@
 -- A list of calls on bytes tells what a season of an account tells.
 use Prim.Native.Nat.{ℕ}
-use mathlib.Core.Path.{◌≡◌, refl, sym, ap, ◌∙◌}
+use mathlib.Core.Path.{◌≡◌, refl}
 use mathlib.Core.List.{List, [], ◌∷◌}
 use native.Mathlib.Omega.{arith}
-use Rattle.records.specs.Answers.{Outcome, accepted, refused, outcome_of}
+use Rattle.records.specs.Answers.{Outcome, accepted}
 use Rattle.account_spec.specs.declared.Account.{Account}
 use Rattle.account_spec.specs.Account.{fresh_account}
-use Rattle.account_spec.specs.Rules.{feed_of, fed_as, left_by, left_of}
+use Rattle.account_spec.specs.Rules.{feed_of, left_by, left_of}
 use Rattle.account_spec.specs.Reading.{read_of}
 use Rattle.account_spec.specs.Runs.{Event, fed, taken, Run, Call, line, reading, calls_of}
 use Rattle.account_spec.specs.Promise.{SeasonPromise}
 use Rattle.stored.specs.Layout.{take_up_of}
-use Rattle.answers.specs.declared.Readout.{Readout}
-use Rattle.answers.specs.Code.{code_of}
-use Rattle.answers.specs.Reading.{readout_of}
-use Rattle.part_spec.specs.Calls.{fed_in, bytes_after, FeedsBytes, read_in}
+use Rattle.part_spec.specs.Calls.{fed_in, FeedsBytes, read_in}
 use Rattle.part_spec.specs.Promise.{Told, line_told, reading_told, BytesRun, told_of, PartPromise}
 
 abbrev asked_in : List Told → List Call
@@ -33,29 +30,21 @@ module _ (a : Account) (b : List ℕ) (held : take_up_of b ≡ accepted a) where
 
   -- the bytes that a line leaves hold the account that it leaves
   pub left-held : (l after : List ℕ) (code : ℕ) → FeedsBytes b l code after → (o : Outcome Account) → fed_in b l ≡ o → take_up_of after ≡ accepted (left_of a o)
-  left-held l after code k (accepted n) e = k.holds n e
-  left-held l after code k (refused r) e = ap take_up_of (k.leaves ∙ ap (bytes_after b) e) ∙ held
+  left-held l after code k o e = grind (arith, k, held)
 
 told_same : (a : Account) (b : List ℕ) (es : List Event) (ts : List Told) → take_up_of b ≡ accepted a → Run a es → BytesRun b ts → calls_of es ≡ asked_in ts → told_of es ≡ ts
 told_same a b [] [] held Run.stop BytesRun.stop e = refl
-told_same a b [] (line_told l code ∷ ts) held Run.stop run e = let z : ◌≡◌ {A = ℕ} 0 1 = cc in absurd (omega arith)
-told_same a b [] (reading_told f ∷ ts) held Run.stop run e = let z : ◌≡◌ {A = ℕ} 0 1 = cc in absurd (omega arith)
-told_same a b (fed m r ∷ es) [] held (Run.feeds j more) run e = let z : ◌≡◌ {A = ℕ} 0 1 = cc in absurd (omega arith)
+told_same a b [] (t ∷ ts) held Run.stop run e = grind arith
+told_same a b (x ∷ es) [] held more run e = grind arith
 told_same a b (fed m r ∷ es) (line_told l code ∷ ts) held (Run.feeds j more) (BytesRun.feeds {after = after} k run) e =
-    let same_line : m ≡ l = cc in
-    let is : fed_in b l ≡ feed_of a m = ap (fed_in b) (sym same_line) ∙ fed-is a b held m in
-    let code_is : code_of (fed_as r) ≡ code = ap code_of (j.answers ∙ sym is) ∙ sym k.answers in
-    let next : take_up_of after ≡ accepted (left_by r) = left-held a b held l after code k (feed_of a m) is ∙ ap accepted (sym j.leaves) in
-    ap (λ (x : List ℕ). line_told x (code_of (fed_as r)) ∷ told_of es) same_line
-    ∙ ap (λ (n : ℕ). line_told l n ∷ told_of es) code_is
-    ∙ ap (λ (xs : List Told). line_told l code ∷ xs) (told_same (left_by r) after es ts next more run cc)
-told_same a b (fed m r ∷ es) (reading_told f ∷ ts) held (Run.feeds j more) run e = let z : ◌≡◌ {A = ℕ} 0 1 = cc in absurd (omega arith)
-told_same a b (taken r ∷ es) [] held (Run.reads j more) run e = let z : ◌≡◌ {A = ℕ} 0 1 = cc in absurd (omega arith)
-told_same a b (taken r ∷ es) (line_told l code ∷ ts) held (Run.reads j more) run e = let z : ◌≡◌ {A = ℕ} 0 1 = cc in absurd (omega arith)
+    let next : take_up_of after ≡ accepted (left_by r) = grind (arith, j, k, held, fed-is, left-held) in
+    let rest : told_of es ≡ ts = told_same (left_by r) after es ts next more run cc in
+    grind (arith, j, k, held, fed-is, rest)
+told_same a b (fed m r ∷ es) (reading_told f ∷ ts) held more run e = grind arith
+told_same a b (taken r ∷ es) (line_told l code ∷ ts) held more run e = grind arith
 told_same a b (taken r ∷ es) (reading_told f ∷ ts) held (Run.reads j more) (BytesRun.reads k run) e =
-    let read : readout_of (outcome_of r) ≡ f = ap readout_of (j.answers ∙ sym (read_is a b held)) ∙ sym k in
-    ap (λ (x : Readout). reading_told x ∷ told_of es) read
-    ∙ ap (λ (xs : List Told). reading_told f ∷ xs) (told_same a b es ts held more run cc)
+    let rest : told_of es ≡ ts = told_same a b es ts held more run cc in
+    grind (arith, j, k, held, read_is, rest)
 
 pub part-promise : SeasonPromise → PartPromise
 part-promise p = record {

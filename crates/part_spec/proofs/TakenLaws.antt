@@ -1,7 +1,7 @@
 -- A trial made of an account in bytes, taken with bytes that hold the same account, is the line fed.
 use Prim.Native.Nat.{ℕ}
 use mathlib.Core.Path.{◌≡◌, refl, sym, ap, ◌∙◌}
-use mathlib.Core.Bool.{Bool, true, false}
+use mathlib.Core.Bool.{Bool}
 use mathlib.Core.List.{List}
 use native.Mathlib.Omega.{arith}
 use lib.Dec.{ltb}
@@ -29,13 +29,7 @@ module _ (tried line : List ℕ) (room : ℕ) where
   made_by : (o : Outcome Account) → take_up_of tried ≡ o → (b : Bool) → ltb room trial_width ≡ b → (tried_of made).code ≡ 0
       → (a : Account) × (take_up_of tried ≡ accepted a) × (made ≡ accepted (contents_by a line))
   unfolding tried_in
-  made_by (accepted a) e false f z = (a, e, rw (e, f) refl)
-  made_by (accepted a) e true f z =
-      let q : made ≡ refused (12, 0) = rw (e, f) refl in
-      absurd (omega (arith, ap (λ (o : Outcome Contents). (tried_of o).code) q))
-  made_by (refused w) e b f z =
-      let q : made ≡ refused (13, 0) = rw (taken-row tried w e) refl in
-      absurd (omega (arith, ap (λ (o : Outcome Contents). (tried_of o).code) q))
+  made_by o e b f z = grind (arith, taken-row)
 
 module _ (tried line before trial account : List ℕ) (made : Tried) (k : TriesBytes tried line before made trial) (a : Account) (has : take_up_of tried ≡ accepted a)
     (is : tried_in tried line (length before) ≡ accepted (contents_by a line)) (same : take_up_of account ≡ take_up_of tried) where

@@ -3,7 +3,7 @@
 
 // An hour in the units of its frames: ozone with 65535 for none; vapour, which is the deficit of kinds 02 and 04 or the humidity of kind 05; soil, which is suction
 // where `water` is 0, else available water.
-// Kept for the C interface: kinds by numbers beside their values
+// Kept for the C interface: kinds by numbers beside their values.
 #[repr(C)]
 #[derive(Clone, Copy)]
 pub struct HourReadings {
@@ -19,7 +19,8 @@ pub struct HourReadings {
     pub soil: u16,
 }
 
-// The numbers of a frame of kind 07, temperatures with their sign.
+// The numbers of a frame of kind 07.
+// Kept for the C interface: the fields of Parameters again, the temperatures with their sign.
 #[repr(C)]
 #[derive(Clone, Copy)]
 pub struct TreeParameters {

@@ -21,7 +21,7 @@ fn put_comparison(
     ensures { Prints (accepted (comparison_line (comparison_as answer))) buf.old result buf.new }
 {
     match answer {
-        Ok(found) => lines::put_pair(found.hours as u64, found.sum as u64, buf),
+        Ok(found) => lines::put_pair(u64::from(found.hours), u64::from(found.sum), buf),
         Err(NotCompared::First(stop)) => {
             lines::put_text_refused(1, frames::row_of(stop.refusal), stop.line, buf)
         },
@@ -42,30 +42,24 @@ fn print_difference(rt: &impl Print, line: &[u8]) {
 }
 
 fn print_comparison(rt: &impl Print, first: &[u8], second: &[u8], tolerance: u16) {
-    let mut line = [0; 160];
-    let written = put_comparison(compare::compare(first, second, tolerance), &mut line);
-    words::print_written(rt, &line, written);
+    let answer = compare::compare(first, second, tolerance);
+    words::print_line(rt, |line| put_comparison(answer, line));
     print_difference(rt, compare::first_difference(first, second, tolerance));
 }
 
 // A word that is no number and a file that cannot be read print nothing. A text longer than what is read of it is refused by the same row at the same line, so
 // it has no line to hand back.
-fn print_answer(rt: &(impl Env + Files + Print + AllocGlobal)) {
+fn print_answer(rt: &(impl Env + Files + Print + AllocGlobal)) -> Option<()> {
     if words::word_count(rt) != 4 {
-        return;
+        return None;
     }
-    let Some(tolerance) = words::number_at(rt, 3) else {
-        return;
-    };
-    let Some(first) = words::read_named(rt, 1) else {
-        return;
-    };
-    let Some(second) = words::read_named(rt, 2) else {
-        return;
-    };
+    let tolerance = words::number_at(rt, 3)?;
+    let first = words::read_named(rt, 1)?;
+    let second = words::read_named(rt, 2)?;
     print_comparison(rt, first.as_slice(), second.as_slice(), tolerance);
+    Some(())
 }
 
 fn main(rt: HostRuntime) {
-    print_answer(&rt);
+    let _ = print_answer(&rt);
 }

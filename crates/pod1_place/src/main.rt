@@ -4,39 +4,33 @@
 use frames::{Header, Record, Refusal};
 use std::env::Env;
 
-// The words' numbers.
-#[derive(Clone, Copy)]
-struct Place {
-    tree: u8,
-    year: u16,
-    level: u16,
-    latitude: u16,
-    height: u16,
-}
-
-// A tree's number is the greatest of 8 bits for any that is greater. None where a word is no number.
-fn place_of(rt: &impl Env) -> Option<Place> {
+// The header that the words' numbers ask for. A tree's number is the greatest of 8 bits for any that is greater. None where a word is no number.
+fn header_of(rt: &impl Env) -> Option<Result<Header, Refusal>> {
     let tree = words::number_at(rt, 1)?;
-    Some(Place {
-        tree: u8::try_from(tree).unwrap_or(u8::MAX),
-        year: words::number_at(rt, 2)?,
-        level: words::number_at(rt, 3)?,
-        latitude: words::number_at(rt, 4)?,
-        height: words::number_at(rt, 5)?,
-    })
+    let days = words::number_at(rt, 2)?;
+    let level = words::number_at(rt, 3)?;
+    let latitude = words::number_at(rt, 4)?;
+    let height = words::number_at(rt, 5)?;
+    Some(dates::header_at(
+        u8::try_from(tree).unwrap_or(u8::MAX),
+        days,
+        level,
+        latitude,
+        height,
+    ))
 }
 
 fn print_header(rt: &impl Print, header: Header) {
-    let mut line = [0; 160];
-    let written = writer::write_frame(Record::Header(header), &mut line);
-    words::print_written(rt, &line, written);
+    words::print_line(rt, |line| {
+        writer::write_frame(Record::Header(header), line)
+    });
     let _ = println!(rt; "");
 }
 
 fn print_refused(rt: &impl Print, refusal: Refusal) {
-    let mut line = [0; 160];
-    let written = lines::put_refused(frames::row_of(refusal), &mut line);
-    words::print_written(rt, &line, written);
+    words::print_line(rt, |line| {
+        lines::put_refused(frames::row_of(refusal), line)
+    });
 }
 
 // A word that is no number prints nothing.
@@ -44,19 +38,10 @@ fn print_answer(rt: &(impl Env + Print)) {
     if words::word_count(rt) != 6 {
         return;
     }
-    let Some(place) = place_of(rt) else {
-        return;
-    };
-    let answer = dates::header_at(
-        place.tree,
-        place.year,
-        place.level,
-        place.latitude,
-        place.height,
-    );
-    match answer {
-        Ok(header) => print_header(rt, header),
-        Err(refusal) => print_refused(rt, refusal),
+    match header_of(rt) {
+        Some(Ok(header)) => print_header(rt, header),
+        Some(Err(refusal)) => print_refused(rt, refusal),
+        None => {}
     }
 }
 

@@ -13,9 +13,7 @@ use std::rt::Files;
 use stopped::Stopped;
 
 fn print_account(rt: &impl Print, held: Account) {
-    let mut line = [0; 160];
-    let written = report::format(held, &mut line);
-    words::print_written(rt, &line, written);
+    words::print_line(rt, |line| report::format(held, line));
 }
 
 fn print_accounts(rt: &impl Print, accounts: &[Account]) {
@@ -24,18 +22,20 @@ fn print_accounts(rt: &impl Print, accounts: &[Account]) {
     }
 }
 
-fn print_stopped(rt: &impl Print, stopped: Stopped) {
-    let mut buf = [0; 160];
-    let written = match stopped {
-        Stopped::Call(refusal) => lines::put_refused(frames::row_of(refusal), &mut buf),
+fn put_stopped(stopped: Stopped, buf: &mut [u8]) -> Result<usize, Refusal> {
+    match stopped {
+        Stopped::Call(refusal) => lines::put_refused(frames::row_of(refusal), buf),
         Stopped::Header { refusal, header } => {
-            lines::put_header_refused(frames::row_of(refusal), header, &mut buf)
+            lines::put_header_refused(frames::row_of(refusal), header, buf)
         }
         Stopped::Line { refusal, line } => {
-            lines::put_refusal(frames::row_of(refusal), line, &mut buf)
+            lines::put_refusal(frames::row_of(refusal), line, buf)
         }
-    };
-    words::print_written(rt, &buf, written);
+    }
+}
+
+fn print_stopped(rt: &impl Print, stopped: Stopped) {
+    words::print_line(rt, |line| put_stopped(stopped, line));
 }
 
 // An account for each header, fed the text.
@@ -48,7 +48,7 @@ fn feed(rt: &impl Env, text: &[u8], accounts: &mut [Account]) -> Result<(), Stop
 }
 
 fn print_stand(rt: &(impl Env + Print), text: &[u8], count: usize) {
-    let mut six = [account::fresh(); 6];
+    let mut six = [account::fresh(); list::MOST];
     let Some(accounts) = six.get_mut(..count) else {
         return print_stopped(rt, Stopped::Call(Refusal::ListSize));
     };
@@ -59,16 +59,13 @@ fn print_stand(rt: &(impl Env + Print), text: &[u8], count: usize) {
 }
 
 // A file that cannot be read prints nothing.
-fn print_answer(rt: &(impl Env + Files + Print + AllocGlobal)) {
-    let Some(count) = words::word_count(rt).checked_sub(2) else {
-        return;
-    };
-    let Some(text) = words::read_named(rt, 1) else {
-        return;
-    };
+fn print_answer(rt: &(impl Env + Files + Print + AllocGlobal)) -> Option<()> {
+    let count = words::word_count(rt).checked_sub(2)?;
+    let text = words::read_named(rt, 1)?;
     print_stand(rt, text.as_slice(), count);
+    Some(())
 }
 
 fn main(rt: HostRuntime) {
-    print_answer(&rt);
+    let _ = print_answer(&rt);
 }

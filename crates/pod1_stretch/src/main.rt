@@ -19,7 +19,7 @@ fn put_stretch(
     ensures { Prints (accepted (stretch_line (stretch_as answer))) buf.old result buf.new }
 {
     match answer {
-        Ok(Some(worst)) => lines::put_pair(worst.sum as u64, worst.day as u64, buf),
+        Ok(Some(worst)) => lines::put_pair(u64::from(worst.sum), u64::from(worst.day), buf),
         Ok(None) => lines::put_none_yet(buf),
         Err(NoStretch::Stopped(stop)) => {
             lines::put_refusal(frames::row_of(stop.refusal), stop.line, buf)
@@ -31,26 +31,21 @@ fn put_stretch(
 // The scratch has room for the most days, so row 21 does not come up.
 fn print_stretch(rt: &impl Print, text: &[u8], days: u16) {
     let mut scratch = [0; 1098];
-    let mut line = [0; 160];
     let answer = stretch::worst_stretch(text, days, &mut scratch);
-    let written = put_stretch(answer, &mut line);
-    words::print_written(rt, &line, written);
+    words::print_line(rt, |line| put_stretch(answer, line));
 }
 
 // A word that is no number and a file that cannot be read print nothing. A text longer than what is read of it is refused by the same row at the same line.
-fn print_answer(rt: &(impl Env + Files + Print + AllocGlobal)) {
+fn print_answer(rt: &(impl Env + Files + Print + AllocGlobal)) -> Option<()> {
     if words::word_count(rt) != 3 {
-        return;
+        return None;
     }
-    let Some(days) = words::number_at(rt, 1) else {
-        return;
-    };
-    let Some(text) = words::read_named(rt, 2) else {
-        return;
-    };
+    let days = words::number_at(rt, 1)?;
+    let text = words::read_named(rt, 2)?;
     print_stretch(rt, text.as_slice(), days);
+    Some(())
 }
 
 fn main(rt: HostRuntime) {
-    print_answer(&rt);
+    let _ = print_answer(&rt);
 }

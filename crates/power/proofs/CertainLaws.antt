@@ -3,7 +3,7 @@ use Rattle.std.proofs.Common.{◌≡◌, ℕ, ◌+◌, ◌-◌, ◌*◌, ◌/◌
 use mathlib.Core.Path.{subst⁻¹}
 use native.Mathlib.Nat.{one-le-pow}
 use Rattle.exact.proofs.MeanLaws.{bernoulli}
-use Rattle.exact.proofs.PowerLaws.{mul-pow}
+use Rattle.std.proofs.lemmas.Nat.{mul-pow}
 use Rattle.power.specs.declared.terms.Terms.{Terms}
 use Rattle.power.specs.declared.rounded.Rounded.{Rounded}
 use Rattle.power.specs.Steps.{full, StandsFor, left, right, Decided, Certain}

@@ -1,55 +1,9 @@
 -- Rounded products: the highest 64 bits of a product, and how far it is above them.
-use Rattle.std.proofs.Common.{◌≡◌, ℕ, suc, ◌+◌, ◌-◌, ◌*◌, ◌/◌, ◌%◌, ◌^◌, ◌<◌, ◌≤◌, sym, ap, ◌∙◌, ap₂, le_of_eq, le_of_lt, mul-le-mul_right, mod-eq_of_lt, mul_assoc, mul-le-mul, add_comm, mul-le-mul_left, mul-lt-mul_of_pos_right, pow-suc, le_of_mul-le-mul_right, arith, pow-add}
-use mathlib.Core.Path.{subst⁻¹}
+use Rattle.std.proofs.Common.{◌≡◌, ℕ, suc, ◌+◌, ◌-◌, ◌*◌, ◌%◌, ◌^◌, ◌<◌, ◌≤◌, sym, ap, ◌∙◌, le_of_eq, le_of_lt, mul-le-mul_right, mod-eq_of_lt, mul_assoc, mul-le-mul, add_comm, mul-le-mul_left, mul-lt-mul_of_pos_right, pow-suc, le_of_mul-le-mul_right, arith, pow-add}
 use native.Mathlib.Nat.{one-le-pow}
 use lib.Count.{count_leading_zeros, leading_top}
 use Rattle.power.specs.declared.rounded.Rounded.{Rounded}
 use Rattle.power.specs.Steps.{full, IsHigh, StandsFor}
-
--- ---- the high half of a product, in halves of 32 bits
-
-abbrev high : ℕ → ℕ
-high x = x / 4294967296
-
-abbrev low : ℕ → ℕ
-low x = x % 4294967296
-
-abbrev pub halves : ℕ → ℕ → ℕ
-halves x y = high x * high y + high x * low y / 4294967296 + low x * high y / 4294967296
-
--- a and b are the halves of x, c and d of y
-halves-low : (a b c d : ℕ) → (a * c + a * d / 4294967296 + b * c / 4294967296) * 18446744073709551616 ≤ (a * 4294967296 + b) * (c * 4294967296 + d)
-halves-low a b c d = omega arith
-
-halves-high :
-    (a b c d : ℕ) → b ≤ 4294967295 → d ≤ 4294967295 →
-    (a * 4294967296 + b) * (c * 4294967296 + d) < (a * c + a * d / 4294967296 + b * c / 4294967296 + 3) * 18446744073709551616
-halves-high a b c d hb hd = omega (arith, mul-le-mul hb hd)
-
-halves-fit :
-    (a b c d : ℕ) → a ≤ 4294967295 → b ≤ 4294967295 → c ≤ 4294967295 → d ≤ 4294967295 →
-    a * c + a * d / 4294967296 + b * c / 4294967296 < 18446744073709551616
-halves-fit a b c d ha hb hc hd = omega (arith, mul-le-mul ha hc, mul-le-mul ha hd, mul-le-mul hb hc)
-
-split : (x : ℕ) → x ≡ high x * 4294967296 + low x
-split x = omega arith
-
-module _ (x y : ℕ) where
-  product-low : halves x y * 18446744073709551616 ≤ x * y
-  product-low =
-      subst⁻¹ (λ (m : ℕ). halves x y * 18446744073709551616 ≤ m) (ap₂ (λ (m n : ℕ). m * n) (split x) (split y)) (halves-low (high x) (low x) (high y) (low y))
-
-  product_high : x * y < (halves x y + 3) * 18446744073709551616
-  product_high =
-      subst⁻¹ (λ (m : ℕ). m < (halves x y + 3) * 18446744073709551616) (ap₂ (λ (m n : ℕ). m * n) (split x) (split y))
-      (halves-high (high x) (low x) (high y) (low y) (omega arith) (omega arith))
-
-  pub halves-high-product : IsHigh x y (halves x y)
-  unfolding full
-  halves-high-product = record { low = product-low; high = product_high }
-
-  pub halves_lt : x < 18446744073709551616 → y < 18446744073709551616 → halves x y < 18446744073709551616
-  halves_lt hx hy = halves-fit (high x) (low x) (high y) (low y) (omega arith) (omega arith) (omega arith) (omega arith)
 
 -- ---- the product of two rounded numbers
 

@@ -1,9 +1,10 @@
 -- Words of base 2³²: what a store, a product with one word and a comparison do to the number that they stand for.
-use Rattle.std.proofs.Common.{◌≡◌, ℕ, zero, suc, ◌+◌, ◌*◌, ◌/◌, ◌%◌, ◌^◌, ◌<◌, ◌≤◌, Bool, leb, List, length, get_or, set, replicate, sym, refl, ap, ◌∙◌, ap₂, ⊎_elim, mul-le-mul_right, mul_assoc, mul-le-mul, eq-or-lt_of_le, one-mul, pow-suc, mul-one, add-one, arith, get_or-set_other, get_or-set_same, le-leb}
+use Rattle.std.proofs.Common.{◌≡◌, ℕ, zero, suc, ◌+◌, ◌*◌, ◌/◌, ◌%◌, ◌^◌, ◌<◌, ◌≤◌, Bool, leb, List, length, get_or, set, replicate, sym, refl, ap, ◌∙◌, ap₂, ⊎_elim, mul-le-mul_right, mul_assoc, mul-le-mul, eq-or-lt_of_le, pow-suc, mul-one, add-one, arith, get_or-set_other, get_or-set_same, le-leb}
+use native.Mathlib.Nat.{pow-le-pow_right}
 use native.Mathlib.Numerals.{unary_clauses}
 use borrow.Author.Tests.{lt-leb}
 use Rattle.exact.proofs.OrderLaws.{le-or-lt}
-use Rattle.power.specs.Steps.{worth, Settled}
+use Rattle.power.specs.Steps.{worth, Holds, Settled}
 
 worth-next : (i : ℕ) (a : List ℕ) → worth (i + 1) a ≡ worth i a + get_or a i 0 * 4294967296 ^ i
 unfolding worth
@@ -46,27 +47,51 @@ module _ (c : ℕ) (a₀ a : List ℕ) where
       (carry-sum (worth i a) (worth i a₀) (get_or a₀ i 0) c k (v % 4294967296) (v / 4294967296) (4294967296 ^ i) inv
       (omega (arith, d, ap (λ (t : ℕ). t * c) e)))
 
-  -- no carry is left
-  pub times-ends : (i n k : ℕ) → i ≡ n → k ≡ 0 → worth i a + k * 4294967296 ^ i ≡ worth i a₀ * c → worth n a ≡ worth n a₀ * c
-  times-ends i n k e z h =
-      let f : worth n a + k * 4294967296 ^ n ≡ worth n a₀ * c = rw e at h in
-      omega (arith, f, ap (λ (t : ℕ). t * 4294967296 ^ n) z)
+times-small : (m c N : ℕ) → m < N → c < 4294967296 → m * c < N * 4294967296
+times-small m c N h k =
+    let x : m + 1 ≤ N = omega arith in
+    let y : c ≤ 4294967295 = omega arith in
+    omega (arith, mul-le-mul x y)
 
-  -- the carry is one more word
-  pub times-carries :
-      (i n k : ℕ) → i ≡ n → n < length a → worth i a + k * 4294967296 ^ i ≡ worth i a₀ * c → worth (n + 1) (set a n k) ≡ worth n a₀ * c
-  times-carries i n k e l h = set-worth n k a l ∙ (rw e at h)
+-- no carry is left where a product is small
+no-carry : (P x k M : ℕ) → P + k * M ≡ x → x < M → P ≡ x
+no-carry P x zero M e h = omega arith
+no-carry P x (suc k) M e h = absurd (omega arith)
+
+pub times-holds :
+    (c : ℕ) (a₀ a : List ℕ) (i k : ℕ) → i ≡ 67 → c < 4294967296 → worth i a + k * 4294967296 ^ i ≡ worth i a₀ * c →
+    (m n : ℕ) → n < 67 → Holds a₀ m n → Holds a (m * c) (n + 1)
+times-holds c a₀ a i k e l h m n f is =
+    let small : m * c < 4294967296 ^ (n + 1) = rw (add-one n, pow-suc 4294967296 n) (times-small m c (4294967296 ^ n) is.small l) in
+    let room : 4294967296 ^ (n + 1) ≤ 4294967296 ^ i = pow-le-pow_right {n = 4294967296} (omega arith) (omega arith) in
+    let value : worth i a₀ ≡ m = rw e is.value in
+    let whole : worth i a + k * 4294967296 ^ i ≡ m * c = h ∙ ap (λ (t : ℕ). t * c) value in
+    let all : worth i a ≡ m * c = no-carry (worth i a) (m * c) k (4294967296 ^ i) whole (omega (arith, small, room)) in
+    record { value = rw e at all; small = small }
 
 -- ---- powers
 
-pub power-none : (v c : ℕ) → v ≡ v * c ^ 0
-power-none v c = simp unary_clauses (sym (mul-one v))
+-- a number times c^j: j words more at most
+pub record Grown (a₀ a : List ℕ) (c j k : ℕ) : Type 0 where
+  pub holds : (m n : ℕ) → n + k ≤ 67 → Holds a₀ m n → Holds a (m * c ^ j) (n + j)
 
-pub power-next :
-    (c v j m n : ℕ) (a b : List ℕ) → worth n b ≡ worth m a * c → worth m a ≡ v * c ^ j → worth n b ≡ v * c ^ (j + 1)
-power-next c v j m n a b e f =
-    e ∙ ap (λ (t : ℕ). t * c) f ∙ mul_assoc v (c ^ j) c
-    ∙ ap (λ (t : ℕ). v * t) (sym (pow-suc c j) ∙ ap (λ (t : ℕ). c ^ t) (sym (add-one j)))
+pub grown-none : (a : List ℕ) (c k : ℕ) → Grown a a c 0 k
+grown-none a c k = record {
+  holds = λ m n f is.
+      let power : m ≡ m * c ^ 0 = simp unary_clauses (sym (mul-one m)) in
+      let words : n ≡ n + 0 = omega arith in
+      record { value = is.value ∙ power; small = rw (← power, ← words) is.small };
+}
+
+pub grown-next :
+    (a₀ a b : List ℕ) (c j k : ℕ) → j < k → Grown a₀ a c j k → ((m n : ℕ) → n < 67 → Holds a m n → Holds b (m * c) (n + 1)) → Grown a₀ b c (j + 1) k
+grown-next a₀ a b c j k h g next = record {
+  holds = λ m n f is.
+      let more = next (m * c ^ j) (n + j) (omega (arith, f, h)) (g.holds m n f is) in
+      let power : m * c ^ j * c ≡ m * c ^ (j + 1) = mul_assoc m (c ^ j) c ∙ ap (λ (t : ℕ). m * t) (sym (pow-suc c j) ∙ ap (λ (t : ℕ). c ^ t) (sym (add-one j))) in
+      let words : n + j + 1 ≡ n + (j + 1) = omega arith in
+      record { value = more.value ∙ power; small = rw (← power, ← words) more.small };
+}
 
 -- ---- order
 
@@ -108,10 +133,10 @@ order-next i a b before r ha hb inv s =
 
 -- ---- the product of three powers
 
-pub first_word : worth 1 (set (replicate 67 0) 0 1) ≡ 1
+-- 1, in one word
+pub first-holds : Holds (set (replicate 67 0) 0 1) 1 1
 unfolding worth
-first_word = refl
+first-holds = record { value = refl; small = omega arith }
 
-pub product_is : (x y z i j k r : ℕ) → i ≡ 1 * x → j ≡ i * y → k ≡ j * z → r ≡ k → r ≡ x * (y * z)
-product_is x y z i j k r e f g h =
-    h ∙ g ∙ ap (λ (m : ℕ). m * z) (f ∙ ap (λ (m : ℕ). m * y) (e ∙ one-mul x)) ∙ mul_assoc x y z
+pub product-is : (x y z : ℕ) → 1 * x * y * z ≡ x * (y * z)
+product-is x y z = omega arith

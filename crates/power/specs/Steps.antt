@@ -49,6 +49,11 @@ unfoldable pub worth : ℕ → List ℕ → ℕ
 worth zero a = zero
 worth (suc i) a = worth i a + slice_index a i * 4294967296 ^ i
 
+-- 67 words stand for m, which has at most n of them
+pub record Holds (a : List ℕ) (m n : ℕ) : Type 0 where
+  pub value : worth 67 a ≡ m
+  pub small : m < 4294967296 ^ n
+
 -- whether x is below y, or, where they are equal, what it was before
 pub record Settled (x y : ℕ) (before r : Bool) : Type 0 where
   pub below : x < y → r ≡ true

@@ -51,6 +51,8 @@ fn value(s: Terms) -> f64 {
     1000000000.0 * a * exponential((s.p as f64) / (s.q as f64) * l) + 0.0001
 }
 
+// From 1 to 10⁹.
+// Kept: `search` and `is_certain` ask for these limits as well, each of a bare number; a struct around it would be opened at once in both.
 pub(crate) fn guess(s: Terms) -> u32
     ensures { (0 < result) × (result ≤ 1000000000) }
 {

@@ -7,9 +7,8 @@ use crate::terms::Terms;
 // 2⁶³
 const HALF: u64 = 9223372036854775808;
 
-const WORD: u64 = 4294967296;
-
 // From mantissa·2^exponent to (mantissa + short)·2^exponent, over 2⁶⁴.
+// Kept: the limits of `Bounded` differ from function to function, so no invariant here says them.
 #[derive(Clone, Copy)]
 pub(crate) struct Rounded {
     mantissa: u64,
@@ -30,15 +29,11 @@ fn whole(c: u64) -> Rounded
     }
 }
 
-// x·y / 2⁶⁴, at most 3 too low.
+// x·y / 2⁶⁴, rounded down.
 fn high_product(x: u64, y: u64) -> u64
     ensures { IsHigh x y result }
 {
-    let a = x / WORD;
-    let b = x % WORD;
-    let c = y / WORD;
-    let d = y % WORD;
-    a * c + a * d / WORD + b * c / WORD
+    x.carrying_mul(y, 0).1
 }
 
 fn times(x: Rounded, y: Rounded) -> Rounded
@@ -85,7 +80,8 @@ fn step(before: Rounded, x: Rounded, y: Rounded, q: u32, p: u32) -> Rounded
     times_odd(times_odd(square, x, q), y, p)
 }
 
-// x^q·y^p. Kept: how far each step may be off differs, so a loop's invariant would be this table of bounds.
+// x^q·y^p.
+// Kept: the most that `short` may be grows from step to step (56, 952, 15288, ..), so a loop's invariant would list it for each.
 fn powers_of(x: u64, y: u64, q: u32, p: u32) -> Rounded
     requires { (0 < x) × (0 < y) × (q < 32) × (p < 32) }
     ensures { StandsFor (x ^ q * y ^ p) result }

@@ -1,6 +1,6 @@
 // Records (document 01, "Frames"): what a line says by its kind, why a call is refused, the rows that a record meets by itself, the hours
 // of a header's period, and what is written into a lent buffer.
-// The crate `frames` reads a line to a record, the crate `writer` has the way back.
+// The crate `frames` reads a line to a record, the crate `writer` writes a record's line.
 #![tactic(auto)]
 
 mod period;
@@ -98,6 +98,7 @@ pub struct RawHour {
 }
 
 // A frame that rows 1 to 3 let pass.
+// Kept: it differs from `Record` in its hour alone; the arms of every definition over records name one of the two, and with one type they would name neither.
 #[derive(Clone, Copy)]
 pub enum Raw {
     Header(Header),
@@ -140,7 +141,8 @@ pub enum Refusal {
     Float(u8),
 }
 
-// A refusal's row, 1 to 26. Kept: two cases have a field, so the enum has no numbers of its own, and a `From` would be this match.
+// A refusal's row, 1 to 26.
+// Kept: two cases have a field, so the enum has no numbers of its own, and a `From` would be this match.
 pub fn row_of(refusal: Refusal) -> u8
     ensures { result ≡ (row_of «refusal»).0 }
 {
@@ -181,10 +183,7 @@ pub fn check(record: Record) -> Result<(), Refusal>
 {
     match record {
         Record::Header(h) => check_header(h),
-        Record::Hour(h) => {
-            let soil = h.soil;
-            check_hour(h, soil_out(soil))
-        },
+        Record::Hour(h) => check_hour(h, soil_out(h.soil)),
         Record::End(_) => Ok(()),
         Record::Ceiling(c) => check_ceiling(c),
         Record::Parameters(p) => check_parameters(p),

@@ -1,6 +1,6 @@
 // The rows that a record meets by itself: 5 to 8 for a header, 10 with its first field out of range for an hour, 17 for a ceiling, 24 for parameters, 25 for warmth; and row 18.
-ghost use Rattle.records.specs.Answers.{outcome_of};
-ghost use Rattle.std.specs.Prelude.{◌≡◌};
+ghost use Rattle.records.specs.Answers.{accepted, refused, row_of, outcome_of};
+ghost use Rattle.std.specs.Prelude.{◌≡◌, cond};
 ghost use Rattle.records.specs.Ranges.{period_out, ramps_out, ozone_out, vapour_out, soil_out, pressure_out, hour_checked, checked, ceiling_out, warmth_out, warmth_broken, lacks_ceiling};
 ghost use Rattle.records.specs.Numbers.{is_outside};
 ghost use Rattle.records.specs.Parameters.{pair_out, temperatures_out, parameter_out};
@@ -16,6 +16,13 @@ pub fn outside(low: u16, high: u16, n: u16) -> bool
     n < low || high < n
 }
 
+// Refused by a row where its test holds.
+fn refused_where(test: bool, refusal: Refusal) -> Result<(), Refusal>
+    ensures { outcome_of result ≡ cond test (refused (row_of «refusal»)) (accepted tt) }
+{
+    if test { Err(refusal) } else { Ok(()) }
+}
+
 // Row 7, for a tree whose ramps take so many days.
 fn period_out(h: Header, ramps: u32) -> bool
     ensures { result ≡ period_out h ramps }
@@ -28,19 +35,10 @@ fn period_out(h: Header, ramps: u32) -> bool
 pub fn check_header(h: Header) -> Result<(), Refusal>
     ensures { outcome_of result ≡ checked (Record.Header h) }
 {
-    let Some(f) = measured::figures_before(h.tree) else {
-        return Err(Refusal::Tree);
-    };
-    if outside(365, 366, h.days) {
-        return Err(Refusal::Year);
-    }
-    if period_out(h, trees::ramp_days(f)) {
-        return Err(Refusal::Period);
-    }
-    if outside(1, 10000, h.level) {
-        return Err(Refusal::Level);
-    }
-    Ok(())
+    let f = measured::figures_before(h.tree).ok_or(Refusal::Tree)?;
+    refused_where(outside(365, 366, h.days), Refusal::Year)?;
+    refused_where(period_out(h, trees::ramp_days(f)), Refusal::Period)?;
+    refused_where(outside(1, 10000, h.level), Refusal::Level)
 }
 
 // Field 4.
@@ -91,33 +89,14 @@ pub fn soil_out(soil: Soil) -> bool
 pub fn check_hour(h: Hour, unfit: bool) -> Result<(), Refusal>
     ensures { outcome_of result ≡ hour_checked unfit h }
 {
-    let ozone = h.ozone;
-    if ozone_out(ozone) {
-        return Err(Refusal::Range(1));
-    }
-    if 3000 < h.ppfd {
-        return Err(Refusal::Range(2));
-    }
-    if 1500 < h.radiation {
-        return Err(Refusal::Range(3));
-    }
-    if temperature_out(h.temperature) {
-        return Err(Refusal::Range(4));
-    }
-    let air = h.air;
-    if vapour_out(air) {
-        return Err(Refusal::Range(5));
-    }
-    if 6000 < h.wind {
-        return Err(Refusal::Range(6));
-    }
-    if unfit {
-        return Err(Refusal::Range(7));
-    }
-    if pressure_out(air) {
-        return Err(Refusal::Range(8));
-    }
-    Ok(())
+    refused_where(ozone_out(h.ozone), Refusal::Range(1))?;
+    refused_where(3000 < h.ppfd, Refusal::Range(2))?;
+    refused_where(1500 < h.radiation, Refusal::Range(3))?;
+    refused_where(temperature_out(h.temperature), Refusal::Range(4))?;
+    refused_where(vapour_out(h.air), Refusal::Range(5))?;
+    refused_where(6000 < h.wind, Refusal::Range(6))?;
+    refused_where(unfit, Refusal::Range(7))?;
+    refused_where(pressure_out(h.air), Refusal::Range(8))
 }
 
 // Row 17.
@@ -125,10 +104,7 @@ pub fn check_hour(h: Hour, unfit: bool) -> Result<(), Refusal>
 pub fn check_ceiling(c: Ceiling) -> Result<(), Refusal>
     ensures { outcome_of result ≡ checked (Record.Ceiling c) }
 {
-    if outside(1, 5000, c.ozone) {
-        return Err(Refusal::Ceiling);
-    }
-    Ok(())
+    refused_where(outside(1, 5000, c.ozone), Refusal::Ceiling)
 }
 
 // Row 17 refuses a season's ceiling, which is 0 where none was fed.
@@ -184,10 +160,7 @@ pub fn parameters_out(p: Parameters) -> bool
 pub fn check_parameters(p: Parameters) -> Result<(), Refusal>
     ensures { outcome_of result ≡ checked (Record.Parameters p) }
 {
-    if parameters_out(p) {
-        return Err(Refusal::Parameter);
-    }
-    Ok(())
+    refused_where(parameters_out(p), Refusal::Parameter)
 }
 
 // Row 7 of a measured tree's ramps.
@@ -208,10 +181,7 @@ pub fn warmth_out(w: Warmth) -> bool
 pub fn check_warmth(w: Warmth) -> Result<(), Refusal>
     ensures { outcome_of result ≡ checked (Record.Warmth w) }
 {
-    if warmth_out(w) {
-        return Err(Refusal::Warmth);
-    }
-    Ok(())
+    refused_where(warmth_out(w), Refusal::Warmth)
 }
 
 // Row 25 refuses a season's warmth, which is all 0 where none was fed.

@@ -1,4 +1,5 @@
 -- An account's bytes: the numbers that they hold, stored and taken up, taken up and stored.
+use Rattle.std.specs.Prelude.{Option}
 use Prim.Native.Nat.{ℕ, ◌+◌, ◌≤◌, ◌<◌}
 use mathlib.Core.Path.{◌≡◌, refl, sym, ap, ◌∙◌}
 use mathlib.Core.Bool.{true, false}
@@ -53,29 +54,25 @@ account-back a s rest =
     let same : account_in l ≡ a =
     ap (λ (ms : List ℕ). account_from (phase_of (get_or ms 1 0)) (hour_kind_of (get_or ms 2 0)) (signed_of (get_or ms 11 0)) ms) read
     ∙ ap (λ (p : Phase). account_from p (hour_kind_of (kind_number a.kind)) (signed_of (complement_of a.carried.total)) ns) (phase-back a.phase)
-    ∙ ap (λ (k : HourKind). account_from a.phase k (signed_of (complement_of a.carried.total)) ns) (kind-back a.kind)
+    ∙ ap (λ (k : Option HourKind). account_from a.phase k (signed_of (complement_of a.carried.total)) ns) (kind-back a.kind)
     ∙ ap (λ (t : ℤ). account_from a.phase a.kind t ns) s.total
     in
     simp (long, phase, kind) (ap accepted same)
 
 pub put-bytes : (a : Account) (b : List ℕ) → total_width widths ≤ length b → sets b 0 (packed widths (account_numbers a)) ≡ account_bytes a ++ drop (total_width widths) b
 unfolding account_bytes
-put-bytes a b h =
-    let size = account-length a in
-    sets-eq (account_bytes a) b 0 (rw (zero-add, size) h) ∙ rw (zero-add, size)
+put-bytes a b h = rw (sets-eq (account_bytes a) b 0 (omega (arith, account-length a)), zero-add, account-length a) refl
 
 -- in bytes that have room for an account alone
 pub put-alone : (a : Account) (b : List ℕ) → length b ≡ account_width → sets b 0 (packed widths (account_numbers a)) ≡ account_bytes a
-put-alone a b h =
-    let none : drop account_width b ≡ [] = drop_all account_width b (omega arith) in
-    put-bytes a b (omega arith) ∙ ap (λ (l : List ℕ). account_bytes a ++ l) none ∙ append-nil (account_bytes a)
+put-alone a b h = rw (put-bytes a b (omega arith), drop_all account_width b (omega arith)) (append-nil (account_bytes a))
 
 pub storable : (a : Account) → SFits w16 a.carried.total → FitFrom 0 (take 21 widths) (account_numbers a) → FitFrom 21 (drop 21 widths) (account_numbers a) → Storable a
 storable a total front parameters = record { numbers = fits-split 21 widths (account_numbers a) 0 front parameters; total = total-back a.carried.total total }
 
 -- ---- taken up and stored
 
-one_byte : (at : ℕ) (l : List ℕ) → big_endian_at 1 at l ≡ get_or l at 0
+pub one_byte : (at : ℕ) (l : List ℕ) → big_endian_at 1 at l ≡ get_or l at 0
 unfolding big_endian_at
 one_byte at l = rw (add-zero, zero-mul, zero-add)
 

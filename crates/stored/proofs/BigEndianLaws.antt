@@ -1,6 +1,6 @@
 -- A number's bytes: one more byte read, below what bound; the library's bytes of a number.
 use Prim.Native.Nat.{ℕ, zero, suc, ◌+◌, ◌-◌, ◌*◌, ◌/◌, ◌%◌, ◌^◌, ◌≤◌, ◌<◌}
-use mathlib.Core.Path.{◌≡◌, refl, sym, ap, ◌∙◌}
+use mathlib.Core.Path.{◌≡◌, refl, ap, ◌∙◌}
 use mathlib.Core.List.{List, [], ◌∷◌, ◌++◌, append-nil}
 use native.Mathlib.Omega.{arith}
 use native.Mathlib.Nat.{zero-add, suc-add, pow-suc, mul_comm, pow-le-pow_right, div-div-eq-div-mul}
@@ -27,15 +27,11 @@ small i n h k = let p : 256 ^ i ≤ 256 ^ 7 = pow-le-pow_right (omega arith) {i 
 
 byte_at-suc : (k n : ℕ) → byte_at (suc k) n ≡ byte_at k (n / 256)
 byte_at-suc zero n = omega arith
-byte_at-suc (suc k) n =
-    let p : 256 ^ suc (suc k) ≡ 256 * 256 ^ suc k = pow-suc 256 (suc k) ∙ mul_comm (256 ^ suc k) 256 in
-    ap (λ (m : ℕ). n / m % 256) p ∙ ap (λ (m : ℕ). m % 256) (sym (div-div-eq-div-mul n 256 (256 ^ suc k)))
+byte_at-suc (suc k) n = rw (pow-suc 256 (suc k), mul_comm (256 ^ suc k) 256, div-div-eq-div-mul) refl
 
 bytes-snoc : (w n : ℕ) → bytes_high_first (suc w) n ≡ bytes_high_first w (n / 256) ++ n % 256 ∷ []
 bytes-snoc zero n = refl
-bytes-snoc (suc w) n =
-    ap (λ (l : List ℕ). byte_at (suc w) n ∷ l) (bytes-snoc w n)
-    ∙ ap (λ (b : ℕ). b ∷ (bytes_high_first w (n / 256) ++ n % 256 ∷ [])) (byte_at-suc w n)
+bytes-snoc (suc w) n = rw (bytes-snoc w n, byte_at-suc w n) refl
 
 bytes-on : (w n : ℕ) (rest : List ℕ) → bytes_high_first w n ++ rest ≡ big_endian w n rest
 unfolding big_endian
@@ -52,5 +48,5 @@ low-bytes (suc k) w n = rw suc-add (low-bytes k w n)
 -- the last w of a number's eight bytes
 pub last-bytes : (w n : ℕ) → w ≤ 8 → drop (8 - w) (bytes_high_first 8 n) ≡ big_endian w n []
 last-bytes w n h =
-    let all : 8 - w + w ≡ 8 = omega arith in
-    ap (λ (m : ℕ). drop (8 - w) (bytes_high_first m n)) (sym all) ∙ low-bytes (8 - w) w n ∙ sym (append-nil (bytes_high_first w n)) ∙ bytes-on w n []
+    let all : 8 ≡ 8 - w + w = omega arith in
+    rw (← bytes-on w n [], append-nil, ← low-bytes (8 - w) w n, ← all) refl

@@ -1,6 +1,6 @@
 -- Numbers one after another, for any list of widths: what is read fits, what is written is as long as the widths.
 use Prim.Native.Nat.{ℕ, zero, suc, ◌+◌, ◌-◌, ◌/◌, ◌%◌, ◌^◌, ◌≤◌, ◌<◌}
-use mathlib.Core.Path.{◌≡◌, refl, sym, ap, ◌∙◌}
+use mathlib.Core.Path.{◌≡◌, refl, ◌∙◌}
 use mathlib.Core.List.{List, [], ◌∷◌, ◌++◌, append_assoc}
 use native.Mathlib.Omega.{arith}
 use native.Mathlib.Nat.{add-zero, add-suc, suc-add}
@@ -58,7 +58,7 @@ big_endian-on (suc w) n xs rest = big_endian-on w (n / 256) (n % 256 ∷ xs) res
 pub big_endian-length : (w n : ℕ) (rest : List ℕ) → length (big_endian w n rest) ≡ w + length rest
 unfolding big_endian
 big_endian-length zero n rest = omega arith
-big_endian-length (suc w) n rest = big_endian-length w (n / 256) (n % 256 ∷ rest) ∙ add-suc w (length rest) ∙ sym (suc-add w (length rest))
+big_endian-length (suc w) n rest = omega (arith, big_endian-length w (n / 256) (n % 256 ∷ rest))
 
 -- what is put at a place of a list: the last w of a number's eight bytes
 pub put-part : (b : List ℕ) (at w n : ℕ) → w ≤ 8 → at + w ≤ length b → put_mid at (at + w - at) b (take (8 - (8 - w)) (drop (8 - w) (bytes_high_first 8 n))) ≡ sets b at (big_endian w n [])
@@ -66,15 +66,8 @@ put-part b at w n h room =
     let xs = big_endian w n [] in
     let size : length xs ≡ w = big_endian-length w n [] ∙ add-zero w in
     let k : at + w - at ≡ w = omega arith in
-    let part : take (8 - (8 - w)) (drop (8 - w) (bytes_high_first 8 n)) ≡ xs = ap (take (8 - (8 - w))) (last-bytes w n h) ∙ take_all (8 - (8 - w)) xs (omega (arith, size)) in
-    let rest : drop (at + w - at) (drop at b) ≡ drop (at + length xs) b = ap (λ (m : ℕ). drop m (drop at b)) k ∙ drop-drop w at b ∙ ap (λ (m : ℕ). drop (at + m) b) (sym size) in
-    ap (λ (l : List ℕ). take at b ++ (l ++ drop (at + w - at) (drop at b))) part
-    ∙ ap (λ (l : List ℕ). take at b ++ (xs ++ l)) rest
-    ∙ sym (append_assoc (take at b) xs (drop (at + length xs) b))
-    ∙ sym (sets-eq xs b at (omega (arith, size)))
+    rw (last-bytes w n h, take_all (8 - (8 - w)) xs (omega arith), k, drop-drop, sets-eq xs b at (omega arith), size, append_assoc) refl
 
 pub sets-append : (xs ys b : List ℕ) (at : ℕ) → sets (sets b at xs) (at + length xs) ys ≡ sets b at (xs ++ ys)
-sets-append [] ys b at = ap (λ (n : ℕ). sets b n ys) (add-zero at)
-sets-append (x ∷ xs) ys b at =
-    ap (λ (n : ℕ). sets (sets (set b at x) (suc at) xs) n ys) (add-suc at (length xs) ∙ sym (suc-add at (length xs)))
-    ∙ sets-append xs ys (set b at x) (suc at)
+sets-append [] ys b at = rw add-zero
+sets-append (x ∷ xs) ys b at = rw (add-suc, ← suc-add) (sets-append xs ys (set b at x) (suc at))

@@ -1,5 +1,5 @@
 -- The account as bytes: the one list of widths, an account's numbers in that order, the bytes of an account and the account of bytes.
-use Rattle.std.specs.Prelude.{ℕ, Bool, cond, not, ◌||◌, List, [], ◌∷◌, ◌++◌, eqb, ltb, ℤ, length, get_or}
+use Rattle.std.specs.Prelude.{ℕ, Bool, cond, not, ◌||◌, List, [], ◌∷◌, ◌++◌, eqb, ltb, ℤ, length, get_or, Option, Some, None}
 use Rattle.records.specs.Answers.{Outcome, accepted, row}
 use Rattle.records.specs.Temperature.{signed_of, complement_of}
 use Rattle.measured.specs.Parameters.{parameters_of}
@@ -8,7 +8,7 @@ use Rattle.frames.specs.Layout.{header_of}
 use Rattle.account_spec.specs.declared.Phase.{Phase}
 use Rattle.account_spec.specs.declared.Phase.TheVariants.{Fresh, Open, Closed}
 use Rattle.account_spec.specs.declared.HourKind.{HourKind}
-use Rattle.account_spec.specs.declared.HourKind.TheVariants.{None, Deficit, Pressure, Humidity}
+use Rattle.account_spec.specs.declared.HourKind.TheVariants.{Deficit, Pressure, Humidity}
 use Rattle.account_spec.specs.declared.Season.{Season}
 use Rattle.account_spec.specs.declared.Sums.{Sums}
 use Rattle.account_spec.specs.declared.Account.{Account}
@@ -44,8 +44,8 @@ account_numbers a = front_numbers a ++ season_numbers a.season
 unfoldable pub phase_of : ℕ → Phase
 phase_of n = cond (eqb n 0) Fresh (cond (eqb n 1) Open Closed)
 
-unfoldable pub hour_kind_of : ℕ → HourKind
-hour_kind_of n = cond (eqb n 0) None (cond (eqb n 2) Deficit (cond (eqb n 4) Pressure Humidity))
+unfoldable pub hour_kind_of : ℕ → Option HourKind
+hour_kind_of n = cond (eqb n 0) None (cond (eqb n 2) (Some Deficit) (cond (eqb n 4) (Some Pressure) (Some Humidity)))
 
 -- 0, 2, 4 or 5
 abbrev pub is_kind : ℕ → Bool
@@ -65,7 +65,7 @@ sums_from ns = record {
 abbrev pub season_from : List ℕ → Season
 season_from ns = record { header = header_of (slice 12 5 ns); ceiling = get_or ns 17 0; warmth = warmth_of (slice 18 3 ns); parameters = parameters_of (slice 21 16 ns) }
 
-abbrev pub account_from : Phase → HourKind → ℤ → List ℕ → Account
+abbrev pub account_from : Phase → Option HourKind → ℤ → List ℕ → Account
 account_from phase kind total ns = record { phase = phase; season = season_from ns; kind = kind; sums = sums_from ns; carried = record { sum = get_or ns 10 0; total = total } }
 
 -- ---- bytes

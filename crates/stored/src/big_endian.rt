@@ -1,4 +1,6 @@
 // A number of a width at a place of an account's bytes, high byte first.
+// Kept: the buffer is an array of fixed size, and a place and a width are those of specs/Layout, where `widths` has them once; a cursor would say at each call
+// where it stands.
 ghost use Rattle.std.specs.Prelude.{◌≡◌, [], ◌∷◌, ◌+◌, ◌^◌, ◌≤◌, ◌<◌};
 ghost use Rattle.std.proofs.lemmas.List.Edits.{sets};
 ghost use Rattle.stored.specs.Packing.{big_endian, big_endian_at, packed, unpacked, slice};
@@ -45,6 +47,7 @@ pub(crate) fn get_four(b: &[u8; SIZE], at: usize) -> [u16; 4]
     ]
 }
 
+#[tactic(auto, unfolding(crate::specs::Packing::big_endian))]
 pub(crate) fn put_four(b: &mut [u8; SIZE], at: usize, ns: [u16; 4])
     requires inside { at + 8 ≤ account_width }
     ensures { b.new ≡ sets b.old at (packed (2 ∷ 2 ∷ 2 ∷ 2 ∷ []) (slice 0 4 ns)) }

@@ -10,7 +10,7 @@ mod taking;
 ghost use Rattle.std.specs.Prelude.{◌≡◌};
 ghost use Rattle.records.specs.Answers.{accepted, outcome_of};
 ghost use Rattle.records.specs.Buffer.{Prints};
-ghost use Rattle.stored.specs.Layout.{account_bytes, holds_none, take_up_of};
+ghost use Rattle.stored.specs.Layout.{account_bytes, take_up_of};
 ghost use Rattle.stored.specs.RoundTrip.{TakenUp, StoredBack};
 
 use account_spec::Account;
@@ -35,19 +35,6 @@ pub fn store(account: Account, buffer: &mut [u8]) -> Result<usize, Refusal>
     Ok(SIZE)
 }
 
-// Whether no account has these bytes.
-fn holds_none(bytes: &[u8; SIZE]) -> bool
-    ensures { result ≡ holds_none bytes.now }
-{
-    if bytes[0] != VERSION {
-        return true;
-    }
-    if 2 < bytes[1] {
-        return true;
-    }
-    !taking::is_kind(bytes[2])
-}
-
 // The account in the first bytes of a slice: row 13 where there is none.
 pub fn take_up(bytes: &[u8]) -> Result<Account, Refusal>
     ensures result_value { outcome_of result ≡ take_up_of bytes.now }
@@ -56,8 +43,5 @@ pub fn take_up(bytes: &[u8]) -> Result<Account, Refusal>
     let Some(front) = bytes.first_chunk::<SIZE>() else {
         return Err(Refusal::Account);
     };
-    if holds_none(front) {
-        return Err(Refusal::Account);
-    }
-    Ok(taking::account_in(front))
+    taking::account_in(front)
 }

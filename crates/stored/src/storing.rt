@@ -11,6 +11,7 @@ use crate::{SIZE, VERSION};
 use account_spec::{Account, Season, Sums};
 use frames::Parameters;
 
+#[tactic(auto, unfolding(crate::specs::Packing::big_endian))]
 fn put_counts(b: &mut [u8; SIZE], hours: u16, counted: u16, missing: u16)
     ensures { b.new ≡ sets b.old 3 (packed (take 3 (drop 3 widths)) (hours ∷ counted ∷ missing ∷ [])) }
 {
@@ -19,6 +20,7 @@ fn put_counts(b: &mut [u8; SIZE], hours: u16, counted: u16, missing: u16)
     put(b, 7, 2, missing as u64);
 }
 
+#[tactic(auto, unfolding(crate::specs::Packing::big_endian))]
 fn put_sums(b: &mut [u8; SIZE], sums: Sums)
     ensures { b.new ≡ sets b.old 3 (packed (take 7 (drop 3 widths)) (sums_numbers sums)) }
 {
@@ -30,6 +32,7 @@ fn put_sums(b: &mut [u8; SIZE], sums: Sums)
 }
 
 // The numbers before the season's.
+#[tactic(auto, unfolding(crate::specs::Packing::big_endian))]
 pub(crate) fn put_front(b: &mut [u8; SIZE], account: Account)
     ensures { b.new ≡ sets b.old 0 (packed (take 12 widths) (front_numbers account)) }
 {
@@ -41,6 +44,7 @@ pub(crate) fn put_front(b: &mut [u8; SIZE], account: Account)
     put(b, 37, 2, frames::complement(account.carried.total) as u64);
 }
 
+#[tactic(auto, unfolding(crate::specs::Packing::big_endian))]
 fn put_parameters(b: &mut [u8; SIZE], p: Parameters)
     ensures { b.new ≡ sets b.old 56 (packed (drop 21 widths) (parameter_numbers p)) }
 {
@@ -50,6 +54,7 @@ fn put_parameters(b: &mut [u8; SIZE], p: Parameters)
     put_four(b, 80, [p.e, p.f1, p.f4, p.y]);
 }
 
+#[tactic(auto, unfolding(crate::specs::Packing::big_endian))]
 pub(crate) fn put_season(b: &mut [u8; SIZE], season: Season)
     ensures { b.new ≡ sets b.old 39 (packed (drop 12 widths) (season_numbers season)) }
 {

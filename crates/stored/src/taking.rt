@@ -1,43 +1,25 @@
 // The account in bytes, each number from its place in the layout.
-ghost use Rattle.std.specs.Prelude.{◌≡◌, ◌∷◌, ◌++◌};
+ghost use Rattle.std.specs.Prelude.{◌≡◌, ◌∷◌, ◌++◌, not};
+ghost use Rattle.records.specs.Answers.{accepted, row, outcome_of};
 ghost use Rattle.measured.specs.Parameters.{parameters_of};
 ghost use Rattle.measured.specs.Warmth.{warmth_of};
 ghost use Rattle.frames.specs.Layout.{header_of};
 ghost use Rattle.stored.specs.Packing.{unpacked, slice};
-ghost use Rattle.stored.specs.Layout.{widths, phase_of, hour_kind_of, is_kind, sums_from, season_from, account_in};
+ghost use Rattle.stored.specs.Layout.{widths, hour_kind_of, is_kind, sums_from, season_from, take_up_of};
 
-use crate::SIZE;
 use crate::big_endian::{get, get_four};
+use crate::{SIZE, VERSION};
 use account_spec::{Account, Carried, HourKind, Phase, Season, Sums};
-use frames::{Header, Parameters, Warmth};
+use frames::{Header, Parameters, Refusal, Warmth};
 
-// Kept: Phase and HourKind are of another crate, where no TryFrom can stand that leaves the test of the bytes to `holds_none`
-fn phase_of(n: u64) -> Phase
-    ensures { result ≡ phase_of n }
+// An hour kind by its number, 0 for none.
+fn hour_kind_of(n: u8) -> Result<Option<HourKind>, Refusal>
+    ensures { outcome_of result ≡ row 13 (not (is_kind n)) (accepted (hour_kind_of n)) }
 {
-    match n {
-        0 => Phase::Fresh,
-        1 => Phase::Open,
-        _ => Phase::Closed,
+    if n == 0 {
+        return Ok(None);
     }
-}
-
-fn hour_kind_of(n: u64) -> HourKind
-    ensures { result ≡ hour_kind_of n }
-{
-    match n {
-        0 => HourKind::None,
-        2 => HourKind::Deficit,
-        4 => HourKind::Pressure,
-        _ => HourKind::Humidity,
-    }
-}
-
-// Whether an hour kind has this number.
-pub(crate) fn is_kind(n: u8) -> bool
-    ensures { result ≡ is_kind n }
-{
-    matches!(n, 0 | 2 | 4 | 5)
+    Ok(Some(HourKind::try_from(n)?))
 }
 
 fn header_of(tree: u8, ns: [u16; 4]) -> Header
@@ -116,17 +98,21 @@ fn sums_in(b: &[u8; SIZE]) -> Sums
     }
 }
 
-pub(crate) fn account_in(b: &[u8; SIZE]) -> Account
-    ensures { result ≡ account_in b.now }
+// Row 13 for another layout's version, and for a phase or kind that no account has.
+pub(crate) fn account_in(b: &[u8; SIZE]) -> Result<Account, Refusal>
+    ensures { outcome_of result ≡ take_up_of b.now }
 {
-    Account {
-        phase: phase_of(get(b, 1, 1)),
+    if b[0] != VERSION {
+        return Err(Refusal::Account);
+    }
+    Ok(Account {
+        phase: Phase::try_from(b[1])?,
         season: season_in(b),
-        kind: hour_kind_of(get(b, 2, 1)),
+        kind: hour_kind_of(b[2])?,
         sums: sums_in(b),
         carried: Carried {
             sum: get(b, 33, 4) as u32,
             total: frames::signed(get(b, 37, 2) as u16),
         },
-    }
+    })
 }

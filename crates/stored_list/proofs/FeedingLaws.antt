@@ -5,10 +5,9 @@ use mathlib.Core.Path.{◌≡◌, refl, sym, ap, ◌∙◌}
 use mathlib.Core.Bool.{true, false}
 use mathlib.Core.List.{List, ◌++◌}
 use native.Mathlib.Omega.{arith}
-use borrow.Author.Tests.{le-ltb, ltb-false}
+use borrow.Author.Tests.{ltb-false}
 use lib.Dec.{eqb, ltb}
-use lib.ListN.{length, take, drop, length-append, length-drop}
-use lib.Seq.{take_at}
+use lib.ListN.{length, drop, length-append, length-drop}
 use Rattle.records.specs.declared.Refusal.{Refusal}
 use Rattle.records.specs.Answers.{Outcome, accepted, refused, reply, row_of, outcome_of}
 use Rattle.records.proofs.AnswerLaws.{or-neither, refused-not-accepted}
@@ -16,9 +15,8 @@ use Rattle.account_spec.specs.declared.Account.{Account}
 use Rattle.stored.specs.Packing.{total_width}
 use Rattle.stored.specs.Layout.{widths}
 use Rattle.list_spec.specs.Together.{left_together, Each}
-use Rattle.list_spec.specs.Feeding.{size_out, feed_all_of}
+use Rattle.list_spec.specs.Feeding.{size_out, feed_all_of, FeedsAll}
 use Rattle.list_spec.proofs.RunLaws.{accepted-fed}
-use Rattle.list.specs.FirstFed.{feed_first_of, FeedsFirst}
 use Rattle.stored_list.specs.InBytes.{accounts_bytes, accounts_in, count_in, list_in}
 use Rattle.stored_list.specs.Feeding.{fed_listed_of, listed_after, FeedsListed}
 use Rattle.stored_list.specs.Steps.{StoresAll}
@@ -65,56 +63,37 @@ module _ (before line : List ℕ) where
 
     -- ---- the list fed
 
-    module _ (xs ys : List Account) (held : accepted (take count xs) ≡ list_in before) (answer : Result Unit Refusal) (fed : FeedsFirst count xs line answer ys) where
-      fed-first : feed_first_of count xs line ≡ feed_all_of (take count xs) line
-      unfolding feed_first_of
-      fed-first = rw (le-ltb 6 count (listed-few count fits))
-
-      fed-is : fed_listed_of before line ≡ feed_all_of (take count xs) line
+    module _ (xs ys : List Account) (held : accepted xs ≡ list_in before) (answer : Result Unit Refusal) (fed : FeedsAll xs line answer ys) where
+      fed-is : fed_listed_of before line ≡ feed_all_of xs line
       unfolding fed_listed_of
       fed-is = rw (fits, sym held)
 
-      told : outcome_of answer ≡ reply (feed_all_of (take count xs) line)
-      told = fed.answers ∙ ap reply fed-first
-
       pub listed-refused : (why : Refusal) → answer ≡ Err why → FeedsListed before line (Err why) before
-      listed-refused why e = refused-by why (fed-is ∙ reply-refused (feed_all_of (take count xs) line) (row_of why) (sym told ∙ ap outcome_of e))
+      listed-refused why e = refused-by why (fed-is ∙ reply-refused (feed_all_of xs line) (row_of why) (sym fed.answers ∙ ap outcome_of e))
 
-      -- the list that it leaves
-      abbrev left : List Account
-      left = left_together (take count xs) (feed_all_of (take count xs) line)
+      module _ (after : List ℕ) (e : answer ≡ (Ok tt)) (stores : StoresAll ys before after) where
+        fed-left : feed_all_of xs line ≡ accepted ys
+        fed-left = reply-accepted xs (feed_all_of xs line) (sym fed.answers ∙ ap outcome_of e) ∙ ap accepted (sym fed.leaves)
 
-      module _ (after : List ℕ) (e : answer ≡ (Ok tt)) (stores : StoresAll (take count ys) before after) where
-        fed-left : feed_all_of (take count xs) line ≡ accepted left
-        fed-left = reply-accepted (take count xs) (feed_all_of (take count xs) line) (sym told ∙ ap outcome_of e)
+        left-length : length ys ≡ count
+        left-length = fed-length xs ys line fed-left ∙ taken-length count before xs (sym held)
 
-        left-length : length left ≡ count
-        left-length = fed-length (take count xs) left line fed-left ∙ taken-length count before (take count xs) (sym held)
+        after_is : after ≡ accounts_bytes ys ++ drop (total_width widths * count) before
+        after_is = stores.leaves ∙ ap (λ (n : ℕ). accounts_bytes ys ++ drop (total_width widths * n) before) left-length
 
-        left_is : take count ys ≡ left
-        left_is =
-            let all : ys ≡ left ++ drop count xs = fed.leaves ∙ ap (λ (o : Outcome (List Account)). left_together (take count xs) o ++ drop count xs) fed-first in
-            rw all (take_at left (drop count xs) count left-length)
-
-        stores-left : StoresAll left before after
-        stores-left = rw left_is at stores
-
-        after_is : after ≡ accounts_bytes left ++ drop (total_width widths * count) before
-        after_is = stores-left.leaves ∙ ap (λ (n : ℕ). accounts_bytes left ++ drop (total_width widths * n) before) left-length
-
-        count_same : count_in after ≡ length left
+        count_same : count_in after ≡ length ys
         count_same =
             let rest = drop (total_width widths * count) before in
-            let size : length after ≡ length (accounts_bytes left) + length rest = ap length after_is ∙ length-append (accounts_bytes left) rest in
-            omega (arith, left-length, accounts-length left, length-drop (total_width widths * count) before)
+            let size : length after ≡ length (accounts_bytes ys) + length rest = ap length after_is ∙ length-append (accounts_bytes ys) rest in
+            omega (arith, left-length, accounts-length ys, length-drop (total_width widths * count) before)
 
-        after-held : list_in after ≡ accepted left
+        after-held : list_in after ≡ accepted ys
         after-held =
             ap (λ (n : ℕ). accounts_in n after) count_same
-            ∙ ap (accounts_in (length left)) after_is
-            ∙ accounts-back left stores-left.back (drop (total_width widths * count) before)
+            ∙ ap (accounts_in (length ys)) after_is
+            ∙ accounts-back ys stores.back (drop (total_width widths * count) before)
 
         pub listed-accepted : FeedsListed before line (Ok tt) after
         listed-accepted =
-            let q : fed_listed_of before line ≡ accepted left = fed-is ∙ fed-left in
+            let q : fed_listed_of before line ≡ accepted ys = fed-is ∙ fed-left in
             record { answers = ap reply (sym q); leaves = after_is ∙ ap (listed_after before) (sym q); holds = λ zs f. after-held ∙ sym q ∙ f }

@@ -6,7 +6,7 @@ use mathlib.Core.List.{List, [], ◌∷◌, ◌++◌, append-nil}
 use native.Mathlib.Omega.{arith}
 use native.Mathlib.Numerals.{add-one}
 use lib.ListN.{length, set, take, drop}
-use lib.Seq.{take-suc-set, drop-drop, append_snoc}
+use lib.Seq.{take_all, take-suc-set, drop-drop, append_snoc}
 use Rattle.records.specs.declared.Refusal.{Refusal}
 use Rattle.records.specs.Answers.{Outcome, accepted, refused, onward, row_of, outcome_of}
 use Rattle.records.proofs.AnswerLaws.{accepted-same, onward-passed}
@@ -27,11 +27,12 @@ joined-none (refused w) = refl
 pub taken_start : (n : ℕ) (l : List ℕ) → accounts_in n l ≡ joined_to [] (accounts_in (n - 0) l)
 taken_start n l = let all : n - 0 ≡ n = omega arith in rw all (joined-none (accounts_in n l))
 
-pub taken-end : (n i : ℕ) (l r : List ℕ) (xs : List Account) → i ≡ n → accounts_in n l ≡ joined_to (take i xs) (accounts_in (n - i) r) → accepted (take n xs) ≡ accounts_in n l
+pub taken-end : (n i : ℕ) (l r : List ℕ) (xs : List Account) → i ≡ n → length xs ≡ n → accounts_in n l ≡ joined_to (take i xs) (accounts_in (n - i) r) → accepted xs ≡ accounts_in n l
 unfolding accounts_in
-taken-end n i l r xs all so_far =
+taken-end n i l r xs all long so_far =
     let none : n - i ≡ 0 = omega arith in
-    ap (λ (m : ℕ). accepted (take m xs)) (sym all) ∙ ap accepted (sym (append-nil (take i xs))) ∙ ap (λ (m : ℕ). joined_to (take i xs) (accounts_in m r)) (sym none) ∙ sym so_far
+    let whole : take i xs ≡ xs = take_all i xs (omega arith) in
+    ap accepted (sym (append-nil (take i xs) ∙ whole)) ∙ ap (λ (m : ℕ). joined_to (take i xs) (accounts_in m r)) (sym none) ∙ sym so_far
 
 joined-more : (front : List Account) (a : Account) (o : Outcome (List Account)) → joined_to front (onward o (λ xs. accepted (a ∷ xs))) ≡ joined_to (front ++ a ∷ []) o
 joined-more front a (accepted xs) = ap accepted (sym (append_snoc front a xs))

@@ -1,5 +1,5 @@
 -- Serves the code's own steps; no reader need believe it.
-use Rattle.std.specs.Prelude.{ℕ, ◌*◌, ◌≤◌, ◌≡◌, List, [], ◌∷◌, ◌++◌, length, take, drop, Result, Ok, Err}
+use Rattle.std.specs.Prelude.{ℕ, ◌*◌, ◌≡◌, List, [], ◌∷◌, ◌++◌, length, drop, Result, Ok, Err}
 use Rattle.records.specs.declared.Refusal.{Refusal}
 use Rattle.records.specs.Answers.{Outcome, accepted, refused, row_of}
 use Rattle.account_spec.specs.declared.Account.{Account}
@@ -8,15 +8,10 @@ use Rattle.stored.specs.Layout.{widths}
 use Rattle.stored.specs.RoundTrip.{TakenUp}
 use Rattle.stored_list.specs.InBytes.{accounts_bytes}
 
--- at most six accounts, and bytes for them
-pub record HasRoom (count : ℕ) (l : List ℕ) : Type 0 where
-  pub few : count ≤ 6
-  pub room : total_width widths * count ≤ length l
-
--- the first of some accounts, or their refusal
-abbrev pub held_all_as : ℕ → Result (List Account) Refusal → Outcome (List Account)
-held_all_as count (Ok xs) = accepted (take count xs)
-held_all_as count (Err r) = refused (row_of r)
+-- the accounts taken up, or their refusal
+abbrev pub taken_as : Result Unit Refusal → List Account → Outcome (List Account)
+taken_as (Ok tt) xs = accepted xs
+taken_as (Err r) xs = refused (row_of r)
 
 -- the bytes of each are taken up as the account
 abbrev pub TakenUpAll : List Account → Type 0

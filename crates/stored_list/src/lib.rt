@@ -1,39 +1,37 @@
 // A list of accounts in a lent buffer of bytes, one after the other, that takes each line together, or not at all.
 #![tactic(auto)]
 
-ghost use Rattle.std.specs.Prelude.{◌≡◌, take};
-ghost use Rattle.stored_list.specs.InBytes.{accounts_in};
+ghost use Rattle.std.specs.Prelude.{◌≡◌, length};
+ghost use Rattle.stored_list.specs.InBytes.{count_in, list_in};
 ghost use Rattle.stored_list.specs.Feeding.{FeedsListed};
 ghost use Rattle.stored_list.specs.Promise.{ListedPromise};
-ghost use Rattle.stored_list.specs.Steps.{HasRoom, held_all_as, StoresAll};
+ghost use Rattle.stored_list.specs.Steps.{taken_as, StoresAll};
 
 use account::Account;
 use frames::Refusal;
+use list::MOST;
 use stored::SIZE;
 
-// The most accounts of a list.
-const MOST: usize = 6;
-
-// The first accounts of a slice of bytes as the first of six: row 13 where the bytes of one hold none.
-fn take_up_all(bytes: &[u8], count: usize) -> Result<[Account; MOST], Refusal>
-    requires { HasRoom count bytes.now }
-    ensures { held_all_as count result ≡ accounts_in count bytes.now }
+// The accounts that bytes hold, into as many: row 13 where the bytes of one hold none.
+// Kept: each account's place in the bytes is computed, here and below; tried by zips of iter_mut, chunks_exact and chunks_exact_mut: std does not say what lent
+// slices end as, so no proof closed.
+fn take_up_all(accounts: &mut [Account], bytes: &[u8]) -> Result<(), Refusal>
+    requires { length accounts.old ≡ count_in bytes.now }
+    ensures { taken_as result accounts.new ≡ list_in bytes.now }
 {
-    let mut accounts = [account::fresh(); MOST];
-    for i in 0..count {
+    for i in 0..accounts.len() {
         accounts[i] = stored::take_up(&bytes[SIZE * i..])?;
     }
-    Ok(accounts)
+    Ok(())
 }
 
-// The first of six accounts into the first bytes of a buffer.
-fn store_all(accounts: [Account; MOST], count: usize, bytes: &mut [u8])
-    requires { HasRoom count bytes.old }
-    ensures { StoresAll (take count accounts) bytes.old bytes.new }
+// As many accounts as a buffer has room for into its first bytes.
+fn store_all(accounts: &[Account], bytes: &mut [u8])
+    requires { length accounts.now ≡ count_in bytes.old }
+    ensures { StoresAll accounts.now bytes.old bytes.new }
 {
-    for i in 0..count {
-        let at = SIZE * i;
-        let _ = stored::store(accounts[i], &mut bytes[at..]);
+    for (i, account) in accounts.iter().enumerate() {
+        let _ = stored::store(*account, &mut bytes[SIZE * i..]);
     }
 }
 
@@ -46,9 +44,10 @@ pub fn feed_all(accounts: &mut [u8], line: &[u8]) -> Result<(), Refusal>
     if (count == 0) | (MOST < count) {
         return Err(Refusal::ListSize);
     }
-    let before = take_up_all(accounts, count)?;
-    let six = list::feed_six(before, count, line);
-    six.answer?;
-    store_all(six.accounts, count, accounts);
+    let mut six = [account::fresh(); MOST];
+    let listed = &mut six[..count];
+    take_up_all(listed, accounts)?;
+    list::feed_all(listed, line)?;
+    store_all(listed, accounts);
     Ok(())
 }

@@ -7,7 +7,7 @@ use mathlib.Core.List.{List}
 use native.Mathlib.Omega.{arith}
 use lib.ListN.{length, drop, length-drop}
 use Rattle.records.specs.declared.Refusal.{Refusal}
-use Rattle.records.specs.Answers.{Outcome, accepted, refused, row, onward, row_of}
+use Rattle.records.specs.Answers.{Outcome, accepted, refused, row, onward, row_of, outcome_of}
 use Rattle.account_spec.specs.declared.Account.{Account}
 use Rattle.account_spec.specs.Rules.{fed_as, left_by, Fed}
 use Rattle.account_spec.specs.Reading.{Reads}
@@ -39,23 +39,17 @@ module _ (code : ℕ) (tried next : Account) (coded : Option (Result Unit Refusa
   abbrev read : Outcome Contents
   read = row 13 (not (is_code code)) (accepted (contents code tried next))
 
-  pub holds-unknown : coded ≡ None → Holds read (Err Refusal.Account)
-  holds-unknown e = holds-none read Refusal.Account (rw (unknown-code code (sym says ∙ ap coded_as e)) refl)
-
   -- a trial whose answer has this code and this account
-  holds-trial : (o : Outcome Unit) (f : Fed) (t : Trial) → coded_of code ≡ Some o → code_of (fed_as f) ≡ code_of o → left_by f ≡ next
+  pub holds-trial : (named : Result Unit Refusal) (f : Fed) (t : Trial) → coded ≡ Some named → code_of (fed_as f) ≡ code_of (outcome_of named) → left_by f ≡ next
       → (t.tried ≡ tried) × (t.answer ≡ f) → Reads (left_by f) t.reading → Holds read (Ok t)
-  holds-trial o f t named same left is reads = record {
-    answers = rw (named-code code o named)
-        (ap accepted (contents-same (ap (λ (g : Fed). code_of (fed_as g)) is.1 ∙ same ∙ code-promise.same code o named) is.0 (ap left_by is.1 ∙ left)));
-    reading = λ u e. subst (λ (v : Trial). Reads (left_by v.answer) v.reading) (trial-same e) (subst (λ (g : Fed). Reads (left_by g) t.reading) (sym is.1) reads);
-  }
-
-  pub holds-accepted : (t : Trial) → coded ≡ Some (Ok tt) → (t.tried ≡ tried) × (t.answer ≡ Ok next) → Reads next t.reading → Holds read (Ok t)
-  holds-accepted t e is reads = holds-trial (accepted tt) (Ok next) t (sym says ∙ ap coded_as e) refl refl is reads
-
-  pub holds-refused : (r : Refusal) (t : Trial) → coded ≡ Some (Err r) → (t.tried ≡ tried) × (t.answer ≡ Err (r, next)) → Reads next t.reading → Holds read (Ok t)
-  holds-refused r t e is reads = holds-trial (refused (row_of r)) (Err (r, next)) t (sym says ∙ ap coded_as e) refl refl is reads
+  holds-trial named f t e same left is reads =
+      let o = outcome_of named in
+      let of_code : coded_of code ≡ Some o = sym says ∙ ap coded_as e in
+      record {
+        answers = rw (named-code code o of_code)
+            (ap accepted (contents-same (ap (λ (g : Fed). code_of (fed_as g)) is.1 ∙ same ∙ code-promise.same code o of_code) is.0 (ap left_by is.1 ∙ left)));
+        reading = λ u e. subst (λ (v : Trial). Reads (left_by v.answer) v.reading) (trial-same e) (subst (λ (g : Fed). Reads (left_by g) t.reading) (sym is.1) reads);
+      }
 
 -- ---- bytes
 
@@ -100,6 +94,10 @@ module _ (l : List ℕ) where
   unfolding contents_in
   none-in-second w e = rw (taken-which (drop (code_width + account_width) l) w e, taken-row (drop (code_width + account_width) l) w e) (second_none code (not (is_code code)) (drop code_width l))
 
+  pub none-in-code : (coded : Option (Result Unit Refusal)) → coded_as coded ≡ coded_of code → coded ≡ None → refused (13, 0) ≡ contents_in l
+  unfolding contents_in
+  none-in-code coded says e = rw (unknown-code code (sym says ∙ ap coded_as e)) refl
+
   pub contents-short : length l < trial_width → refused (13, 0) ≡ contents_in l
   contents-short h =
       let k = drop (code_width + account_width) l in
@@ -111,7 +109,6 @@ module _ (l : List ℕ) where
   unfolding contents_in
   contents-is tried next e f = rw (e, f) refl
 
-  pub holds-in : (n : ℕ) (tried next : Account) (held : Result Trial Refusal) → n ≡ code → take_up_of (drop code_width l) ≡ accepted tried → take_up_of (drop (code_width + account_width) l) ≡ accepted next
-      → Holds (row 13 (not (is_code n)) (accepted (contents n tried next))) held → Holds (contents_in l) held
-  holds-in n tried next held is e f h =
-      subst (λ (o : Outcome Contents). Holds o held) (ap (λ (k : ℕ). row 13 (not (is_code k)) (accepted (contents k tried next))) is ∙ contents-is tried next e f) h
+  pub holds-in : (tried next : Account) (held : Result Trial Refusal) → take_up_of (drop code_width l) ≡ accepted tried → take_up_of (drop (code_width + account_width) l) ≡ accepted next
+      → Holds (row 13 (not (is_code code)) (accepted (contents code tried next))) held → Holds (contents_in l) held
+  holds-in tried next held e f h = subst (λ (o : Outcome Contents). Holds o held) (contents-is tried next e f) h

@@ -1,15 +1,17 @@
 -- Trials stored and taken up, taken up and stored.
 use Rattle.records.specs.declared.Refusal.{Refusal}
 use Rattle.std.specs.Prelude.{Result, Ok, Err}
-use Prim.Native.Nat.{ℕ, ◌+◌, ◌*◌, ◌/◌, ◌%◌, ◌≤◌, ◌<◌}
+use Prim.Native.Nat.{ℕ, ◌+◌, ◌-◌, ◌*◌, ◌/◌, ◌%◌, ◌≤◌, ◌<◌}
 use mathlib.Core.Path.{◌≡◌, refl, sym, ap, subst, ◌∙◌}
 use mathlib.Core.Bool.{true, not}
 use mathlib.Core.List.{List, [], ◌++◌, append_assoc}
 use native.Mathlib.Omega.{arith}
 use native.Mathlib.Nat.{zero-add}
 use lib.ListN.{length, get_or, take, drop, length-append, length-drop, take-append-drop}
-use lib.Seq.{sets, sets-eq, drop_at, drop-drop, get_or-drop}
+use lib.Seq.{length-sets, sets, sets-eq, drop_at, drop-drop, get_or-drop}
+use borrow.Rule.Slice.PartMut.{mid_of, put_mid}
 use Rattle.records.specs.Answers.{accepted}
+use Rattle.records.specs.Buffer.{Prints}
 use Rattle.records.proofs.AnswerLaws.{row-passed, onward-passed, accepted-same, refused-not-accepted}
 use Rattle.account_spec.specs.declared.Account.{Account}
 use Rattle.account_spec.specs.Rules.{fed_as, left_by, Fed}
@@ -27,6 +29,7 @@ use Rattle.trial_spec.specs.declared.Trial.{Trial}
 use Rattle.trial_spec.specs.Trial.{Tries}
 use Rattle.trial_spec.proofs.TrialLaws.{taken_is}
 use Rattle.stored_trial.specs.Layout.{Contents, contents_of, carried_by, code_width, account_width, trial_width, trial_bytes, contents_in, Holds}
+use Rattle.stored_trial.proofs.PartLaws.{put-part}
 use Rattle.stored_trial.specs.RoundTrip.{TriedAgain, TrialTakenUp, TrialStoredBack}
 
 -- ---- the bytes
@@ -38,7 +41,7 @@ trial-length c =
     omega (arith, both, account-length c.tried, account-length c.next)
 
 -- the code, then the tried account, then the next
-pub put-bytes : (c : Contents) (b : List ℕ) → trial_width ≤ length b
+put-bytes : (c : Contents) (b : List ℕ) → trial_width ≤ length b
     → sets (sets (sets b 0 (big_endian code_width c.code [])) code_width (account_bytes c.tried)) (code_width + account_width) (account_bytes c.next)
     ≡ trial_bytes c ++ drop trial_width b
 unfolding trial_bytes big_endian
@@ -52,6 +55,32 @@ put-bytes c b h =
     ∙ sets-append (xs ++ a) n b 0
     ∙ sets-eq (trial_bytes c) b 0 (omega arith)
     ∙ ap (λ (k : ℕ). trial_bytes c ++ drop k b) size
+
+-- the bytes by what each call leaves: the code, then the tried account into the part from its place on, then the next
+module _ (c : Contents) (b front e f : List ℕ) (room : trial_width ≤ length b) (code : front ≡ sets b 0 (big_endian code_width c.code []))
+    (v : Result ℕ Refusal) (first : Prints (accepted (account_bytes c.tried)) (mid_of code_width (length front - code_width) front) v e) where
+  abbrev at : ℕ
+  at = code_width + account_width
+
+  abbrev both : List ℕ
+  both = put_mid code_width (length front - code_width) front e
+
+  front-length : length front ≡ length b
+  front-length = ap length code ∙ length-sets b 0 (big_endian code_width c.code [])
+
+  both_is : both ≡ sets front code_width (account_bytes c.tried)
+  both_is = put-part (account_bytes c.tried) front code_width (omega (arith, front-length, account-length c.tried)) e v first
+
+  both-length : length both ≡ length b
+  both-length = ap length both_is ∙ length-sets front code_width (account_bytes c.tried) ∙ front-length
+
+  pub laid : (next : Account) → next ≡ c.next → (w : Result ℕ Refusal) → Prints (accepted (account_bytes next)) (mid_of at (length both - at) both) w f
+      → put_mid at (length both - at) both f ≡ trial_bytes c ++ drop trial_width b
+  laid next is w second =
+      put-part (account_bytes next) both at (omega (arith, both-length, account-length next)) f w second
+      ∙ ap (λ (a : Account). sets both at (account_bytes a)) is
+      ∙ ap (λ (l : List ℕ). sets l at (account_bytes c.next)) (both_is ∙ ap (λ (l : List ℕ). sets l code_width (account_bytes c.tried)) code)
+      ∙ put-bytes c b room
 
 -- ---- stored and taken up
 

@@ -2,17 +2,15 @@
 // code 2 (field, row) | tried account 88 | account that would follow 88      178 bytes
 #![tactic(auto)]
 
-ghost use Rattle.std.specs.Prelude.{◌≡◌, not, [], ◌+◌, ◌≤◌, ◌<◌, length};
+ghost use Rattle.std.specs.Prelude.{◌≡◌, [], ◌≤◌, ◌<◌, length};
 ghost use Rattle.std.proofs.lemmas.List.Edits.{sets};
-ghost use Rattle.records.specs.Answers.{accepted, row, outcome_of};
+ghost use Rattle.records.specs.Answers.{accepted, outcome_of};
 ghost use Rattle.records.specs.Buffer.{Prints};
-ghost use Rattle.account_spec.specs.Rules.{left_by};
+ghost use Rattle.account_spec.specs.Rules.{fed_as, left_by};
 ghost use Rattle.account_spec.specs.Reading.{Reads};
 ghost use Rattle.stored.specs.Packing.{big_endian, big_endian_at};
-ghost use Rattle.stored.specs.Layout.{account_bytes};
-ghost use Rattle.stored.specs.RoundTrip.{TakenUp};
-ghost use Rattle.answers.specs.Code.{is_code};
-ghost use Rattle.stored_trial.specs.Layout.{contents_of, code_width, account_width, trial_width, trial_bytes, contents_in, Holds};
+ghost use Rattle.answers.specs.Code.{code_of, coded_as, coded_of};
+ghost use Rattle.stored_trial.specs.Layout.{contents_of, code_width, trial_width, trial_bytes, contents_in, Holds};
 ghost use Rattle.stored_trial.specs.RoundTrip.{TrialTakenUp, TrialStoredBack};
 
 use account_spec::{Account, Fed};
@@ -20,30 +18,22 @@ use frames::Refusal;
 use trial_spec::Trial;
 
 // The bytes of a trial.
-pub const SIZE: usize = 178;
+pub const SIZE: usize = NEXT + stored::SIZE;
 
 // Where the two accounts start.
 const TRIED: usize = 2;
 
-const NEXT: usize = 90;
+const NEXT: usize = TRIED + stored::SIZE;
 
 // ---- storing
 
-// An account into the bytes from a place on.
-fn put_account(account: Account, buffer: &mut [u8], at: usize)
-    requires { at + account_width ≤ length buffer.old }
-    ensures is { buffer.new ≡ sets buffer.old at (account_bytes account) }
-    ensures back { TakenUp account }
-{
-    let _ = stored::store(account, &mut buffer[at..]);
-}
-
-// A code into the first two bytes, the field first.
-fn put_code(code: u16, buffer: &mut [u8])
+// An answer's code into the first two bytes, the field first.
+fn put_code(answer: Fed, buffer: &mut [u8])
     requires { code_width ≤ length buffer.old }
-    ensures { buffer.new ≡ sets buffer.old 0 (big_endian code_width code []) }
+    ensures is { buffer.new ≡ sets buffer.old 0 (big_endian code_width (code_of (fed_as answer)) []) }
+    ensures small { code_of (fed_as answer) < 65536 }
 {
-    buffer[..TRIED].copy_from_slice(&code.to_be_bytes());
+    buffer[..TRIED].copy_from_slice(&answers::of_fed(answer).to_be_bytes());
 }
 
 // A trial into the first bytes of a lent buffer: row 12 where it is too short.
@@ -54,20 +44,33 @@ pub fn store(trial: Trial, buffer: &mut [u8]) -> Result<usize, Refusal>
     if buffer.len() < SIZE {
         return Err(Refusal::Buffer);
     }
-    put_code(answers::of_fed(trial.answer), buffer);
-    put_account(trial.tried, buffer, TRIED);
+    put_code(trial.answer, buffer);
+    let _ = stored::store(trial.tried, &mut buffer[TRIED..]);
     let next = trial::left_by(trial.answer);
-    put_account(next, buffer, NEXT);
+    let _ = stored::store(next, &mut buffer[NEXT..]);
     Ok(SIZE)
 }
 
 // ---- taking up
 
-fn code_in(bytes: &[u8]) -> u16
+// The answer that the code in the first two bytes names, where it is one.
+fn named_in(bytes: &[u8]) -> Option<Result<(), Refusal>>
     requires { code_width ≤ length bytes.now }
-    ensures { result ≡ big_endian_at code_width 0 bytes.now }
+    ensures { coded_as result ≡ coded_of (big_endian_at code_width 0 bytes.now) }
 {
-    u16::from_be_bytes([bytes[0], bytes[1]])
+    answers::answer_of(u16::from_be_bytes([bytes[0], bytes[1]]))
+}
+
+// The answer with this name, which leaves this account.
+// Kept: by map and map_err the check found no proof of either clause, and both cases would still be named.
+fn answer_with(named: Result<(), Refusal>, next: Account) -> Fed
+    ensures code { code_of (fed_as result) ≡ code_of (outcome_of named) }
+    ensures next { left_by result ≡ next }
+{
+    match named {
+        Ok(()) => Ok(next),
+        Err(refusal) => Err((refusal, next)),
+    }
 }
 
 // The trial of an account that got this answer.
@@ -84,17 +87,6 @@ fn with_reading(tried: Account, answer: Fed) -> Trial
     }
 }
 
-// The trial with these contents: row 13 where the number is no code.
-fn trial_with(code: u16, tried: Account, next: Account) -> Result<Trial, Refusal>
-    ensures { Holds (row 13 (not (is_code code)) (accepted (record { code = code; tried = tried; next = next }))) result }
-{
-    match answers::answer_of(code) {
-        Some(Ok(())) => Ok(with_reading(tried, Ok(next))),
-        Some(Err(refusal)) => Ok(with_reading(tried, Err((refusal, next)))),
-        None => Err(Refusal::Account),
-    }
-}
-
 // The trial in the first bytes of a slice: row 13 where there is none.
 pub fn take_up(bytes: &[u8]) -> Result<Trial, Refusal>
     ensures holds { Holds (contents_in bytes.now) result }
@@ -103,8 +95,8 @@ pub fn take_up(bytes: &[u8]) -> Result<Trial, Refusal>
     if bytes.len() < SIZE {
         return Err(Refusal::Account);
     }
-    let code = code_in(bytes);
+    let named = named_in(bytes).ok_or(Refusal::Account)?;
     let tried = stored::take_up(&bytes[TRIED..])?;
     let next = stored::take_up(&bytes[NEXT..])?;
-    trial_with(code, tried, next)
+    Ok(with_reading(tried, answer_with(named, next)))
 }

@@ -37,12 +37,14 @@ fn print_case(rt: &impl Print, text: &[u8], head: &[u8]) -> io::Result<()> {
     println!(rt; " {zeros} {}", run_of(&buf, zeros, mark))
 }
 
+// Kept: the heads and the numbers of texts differ in the three programs that read such cases, so each has this loop.
 pub(crate) fn print_cases(rt: &impl Print, input: &[u8]) -> io::Result<()> {
     let mut text: &[u8] = b"";
     let mut rest = input;
     while let Some((head, texts)) = rest.split_at_checked(19) {
         rest = texts;
         let said = u32_at(head, 0);
+        // Kept: the input's own form, eight digits in each case, so that each text starts at a fixed place.
         if said != u32::MAX {
             let Some((next, others)) = texts.split_at_checked(said as usize) else {
                 return Ok(());

@@ -12,7 +12,7 @@ fn excess(ozone: u16) -> u32
     ensures is { result ≡ ozone - 400 }
     ensures small { result < 65536 }
 {
-    if 400 < ozone { (ozone - 400) as u32 } else { 0 }
+    u32::from(ozone.saturating_sub(400))
 }
 
 // What a counted hour's ozone adds: to AOT40's two numbers, and to the hours without.

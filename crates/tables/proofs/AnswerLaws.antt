@@ -1,19 +1,15 @@
--- What `f_temp` answers up to 60.0 °C and above it.
-use Prim.Native.Nat.{ℕ, ◌<◌, ◌≤◌}
+-- What `f_temp` answers up to 60.0 °C.
+use Prim.Native.Nat.{ℕ, ◌≤◌}
 use mathlib.Core.Path.{◌≡◌, ap}
-use borrow.Author.Tests.{lt-ltb, le-ltb}
+use borrow.Author.Tests.{le-ltb}
 use Rattle.exact.specs.declared.Bounds.{Bounds}
 use Rattle.trees.specs.declared.Curve.{Curve}
 use Rattle.trees.specs.Figures.{owner_of}
 use Rattle.trees.specs.Temperature.{temperature_pair}
-use Rattle.records.specs.Answers.{accepted, refused}
+use Rattle.records.specs.Answers.{accepted}
 use Rattle.tables.specs.Answers.{temperature_of}
 
 module _ (curve : Curve) (x : ℕ) where
-  pub above-60 : 1100 < x → refused (10, 4) ≡ temperature_of curve x
-  unfolding temperature_of
-  above-60 h = rw (lt-ltb 1100 x h)
-
   pub up-to-60 : x ≤ 1100 → {r : Bounds} → r ≡ temperature_pair (owner_of curve) x → accepted r ≡ temperature_of curve x
   unfolding temperature_of
   up-to-60 h e = rw (le-ltb 1100 x h) (ap accepted e)

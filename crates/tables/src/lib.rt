@@ -19,6 +19,7 @@ use trees::Curve;
 const HIGHEST: u16 = 1100;
 
 // f_temp by a curve; row 10 with field 4 for a reading above 60.0 °C.
+#[tactic(auto, unfolding(crate::specs::Answers::temperature_of), using(trees::proofs::FactsLaws::facts, crate::proofs::TrimmedLaws::trimmed))]
 pub fn f_temp(curve: Curve, x: u16) -> Result<Bounds, Refusal>
     ensures result_value { outcome_of result ≡ temperature_of curve x }
     ensures facts { FactorFacts }

@@ -11,6 +11,7 @@ use power::floor_of;
 use trees::{Curve, Tree};
 
 // By a curve's f_min and its table, which begins at the reading `first`.
+// Kept: the contract alone uses `curve`; a ghost value in its place would be picked by hand for each of the six calls.
 fn pair_in(curve: Curve, fmin: u16, first: u16, table: &[u32], x: u16) -> Bounds
     requires table { IsTable (owner_of curve) fmin first table.now }
     requires highest { x ≤ 1100 }
@@ -25,6 +26,7 @@ fn pair_in(curve: Curve, fmin: u16, first: u16, table: &[u32], x: u16) -> Bounds
     table_entry(table, first, fmin, x)
 }
 
+// Kept: an arm for each curve, since the tables' lengths differ and a trait's constant has one type.
 pub(crate) fn pair_at(curve: Curve, x: u16) -> Bounds
     requires { x ≤ 1100 }
     ensures { result ≡ temperature_pair (owner_of curve) x }

@@ -1,5 +1,6 @@
 -- For any sound figures f_VPD lies between its limits, has its stated values at "max" and "min" and falls as the deficit grows, by no more than its slope; so
 -- the factors of two deficits enclose those of all between them.
+use Rattle.std.proofs.lemmas.Bool.Decides.{nat_tests}
 use Prim.Native.Nat.{ℕ, ◌+◌, ◌-◌, ◌*◌, ◌<◌, max}
 use mathlib.Core.Path.{◌≡◌, ap}
 use native.Mathlib.Nat.{mul-pos, mul_comm, mul-sub}
@@ -50,8 +51,7 @@ module _ (f : Figures) (sound : Sound f) where
 
   pub deficit-min : (vpd : Frac) → natural f.vpdmin ≼ vpd → deficit_of f vpd ≈ f.fmin over 100
   unfolding deficit_of
-  deficit-min vpd h =
-      falling-end f sound _ _ (omega (arith, past-scale f.vpdmin f.vpdmax vpd.den, h.cross))
+  deficit-min vpd h = grind (arith, nat_tests, falling-end, past-scale)
 
   -- ---- in p steps a Pa, c times as many as the deficit's own
 
@@ -97,8 +97,7 @@ module _ (f : Figures) (sound : Sound f) where
 
   module _ (vpd : Deficits) where
     pub deficit-encloses : (x : Frac) → Between (lower_deficit vpd) (upper_deficit vpd) x → Between (lower_factor f vpd) (upper_factor f vpd) (deficit_of f x)
-    deficit-encloses x b =
-        record { above = deficit-anti x (upper_deficit vpd) b.below; below = deficit-anti (lower_deficit vpd) x b.above }
+    deficit-encloses x b = grind (arith, nat_tests, deficit-anti)
 
     deficit-crossed : upper_deficit vpd ≺ lower_deficit vpd → upper_factor f vpd ≼ lower_factor f vpd
     deficit-crossed h = deficit-anti (upper_deficit vpd) (lower_deficit vpd) (omega (arith, h.cross))

@@ -1,8 +1,8 @@
 -- For any sound figures f_SW and f_phen lie between their limits; f_SW has its stated values at "max" and "min", falls with suction and rises with water.
-use Prim.Native.Nat.{ℕ, ◌-◌, ◌*◌, ◌≤◌, ◌<◌}
-use mathlib.Core.Path.{◌≡◌, refl}
+use Rattle.std.proofs.lemmas.Bool.Decides.{nat_tests}
+use Prim.Native.Nat.{ℕ, ◌≤◌, ◌<◌}
+use mathlib.Core.Path.{◌≡◌}
 use native.Mathlib.Omega.{arith}
-use lib.Dec.{ltb, leb}
 use Rattle.trees.specs.declared.Measure.{Measure}
 use Rattle.trees.specs.declared.Measure.TheVariants.{Suction, Water}
 use Rattle.trees.specs.declared.Phenology.{Phenology}
@@ -14,7 +14,6 @@ use Rattle.trees.specs.Deficit.{falling}
 use Rattle.trees.specs.SoilWater.{drier, soil_water_of}
 use Rattle.trees.specs.Phenology.{by_ramps, by_dip, by_temperature, phenology_of, by_warmth}
 use Rattle.trees.specs.Temperature.{inside}
-use Rattle.trees.proofs.PhenologyLaws.{phenology-ramps, phenology-dip, phenology-temperature}
 use Rattle.exact.specs.Frac.{◌over◌, natural, straight, ◌≼◌, ◌≈◌, Between}
 use Rattle.exact.proofs.GreaterLaws.{cond-le}
 use Rattle.exact.proofs.FracLaws.{≼_trans, straight-start, straight-end, straight-le, straight-ge, straight-anti}
@@ -28,12 +27,7 @@ line-le from to d s p q = ≼_trans (straight-le from to d s 100 p q) whole_le
 
 dip-le : (day : ℕ) → by_dip day ≼ natural 1
 unfolding by_dip
-dip-le day =
-    cond-le (leb day 80) (omega arith)
-    (cond-le (ltb day 210) (line-le 100 30 (day - 80) (210 - 80) (omega arith) (omega arith))
-    (cond-le (leb day 260) (omega arith)
-    (cond-le (ltb day 320) (line-le 30 100 (day - 260) (320 - 260) (omega arith) (omega arith))
-    (omega arith))))
+dip-le day = grind (arith, cond-le, line-le)
 
 temperature-le : (tmin tmax temperature : ℕ) → by_temperature tmin tmax temperature ≼ natural 1
 unfolding by_temperature
@@ -52,10 +46,7 @@ drier-pos Water wet dry s = omega arith
 module _ (f : Figures) (sound : Sound f) where
   pub falling-limits : (d s : ℕ) → Between (f.fmin over 100) (natural 1) (falling f.fmin d s)
   unfolding falling
-  falling-limits d s = record {
-    above = straight-ge _ _ d s f.fmin (omega (arith, sound.fmin)) (omega arith);
-    below = line-le _ _ d s (omega arith) (omega (arith, sound.fmin));
-  }
+  falling-limits d s = grind (arith, straight-ge, line-le)
 
   pub falling-anti : (d d' s : ℕ) → d ≤ d' → falling f.fmin d' s ≼ falling f.fmin d s
   unfolding falling
@@ -95,28 +86,20 @@ module _ (f : Figures) (sound : Sound f) where
 
   ramps-le : (first last day : ℕ) → by_ramps f first last day ≼ natural 1
   unfolding by_ramps
-  ramps-le first last day =
-      cond-le (ltb (last - day) f.f4)
-      (line-le f.e 100 (last - day) f.f4 sound.e (omega arith))
-      (line-le f.a 100 (day - first) f.f1 sound.a (omega arith))
+  ramps-le first last day = grind (arith, cond-le, line-le)
 
   by-kind-le : (kind : Phenology) → f.phenology ≡ kind → (first last day temperature : ℕ) → phenology_of f first last day temperature ≼ natural 1
-  by-kind-le Ramps e first last day temperature = rw (phenology-ramps f first last day temperature e) (ramps-le first last day)
-  by-kind-le Dip e first last day temperature = rw (phenology-dip f first last day temperature e) (dip-le day)
-  by-kind-le Temperature e first last day temperature =
-      rw (phenology-temperature f first last day temperature e) (temperature-le f.tmin f.tmax temperature)
+  unfolding phenology_of by_ramps
+  by-kind-le Ramps e first last day temperature = rw e (ramps-le first last day)
+  by-kind-le Dip e first last day temperature = rw e (dip-le day)
+  by-kind-le Temperature e first last day temperature = grind (arith, nat_tests, temperature-le)
 
   pub phenology-limits : (first last day temperature : ℕ) → Between (natural 0) (natural 1) (phenology_of f first last day temperature)
-  phenology-limits first last day temperature =
-      record { above = omega arith; below = by-kind-le f.phenology refl first last day temperature }
+  phenology-limits first last day temperature = grind (arith, nat_tests, by-kind-le)
 
   warmth-le : (w : Warmth) (sum : ℕ) → by_warmth f w sum ≼ natural 1
   unfolding by_warmth
-  warmth-le w sum =
-      cond-le (ltb (240 * w.end) sum) (omega arith)
-      (cond-le (ltb (240 * w.end - sum) (240 * w.fall))
-      (line-le f.e 100 (240 * w.end - sum) (240 * w.fall) sound.e (omega arith))
-      (line-le f.a 100 sum (240 * w.rise) sound.a (omega arith)))
+  warmth-le w sum = grind (arith, cond-le, line-le)
 
   pub warmth-limits : (w : Warmth) (sum : ℕ) → Between (natural 0) (natural 1) (by_warmth f w sum)
   warmth-limits w sum = record { above = omega arith; below = warmth-le w sum }

@@ -5,7 +5,6 @@ pub mod TemperatureLookup
 pub mod TemperatureTrim
 pub mod CurveLaws
 pub mod TemperatureLaws
-pub mod PhenologyLaws
 pub mod FactorLaws
 pub mod DeficitLaws
 pub mod FactsLaws

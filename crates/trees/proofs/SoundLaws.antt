@@ -4,7 +4,6 @@ use Prim.Native.Nat.{ℕ}
 use mathlib.Core.Path.{◌≡◌}
 use mathlib.Core.Bool.{Bool, true, false, cond}
 use native.Mathlib.Omega.{arith}
-use lib.Dec.{eqb}
 use Rattle.trees.specs.declared.Figures.{Figures}
 use Rattle.trees.specs.Figures.{boreal_spruce, birch, continental_spruce, beech, oak, evergreen, figures_of}
 use Rattle.trees.specs.Sound.{Sound}
@@ -42,15 +41,7 @@ module _ (P : Figures → Type 0) where
       P boreal_spruce → P birch → P continental_spruce → P beech → P oak → P evergreen →
       (t : ℕ) (f : Figures) → figures_of t ≡ Some f → P f
   unfolding figures_of
-  figures-all a b c d e g t f chosen =
-      let all : Chosen (figures_of t) =
-      either (eqb t 1) boreal_spruce _ a
-      (either (eqb t 2) birch _ b
-      (either (eqb t 3) continental_spruce _ c
-      (either (eqb t 4) beech _ d
-      (either (eqb t 5) oak _ e
-      (either (eqb t 6) evergreen None g tt))))) in
-      rw chosen at all
+  figures-all a b c d e g t f chosen = grind (arith, either)
 
 pub figures-sound : (t : ℕ) (f : Figures) → figures_of t ≡ Some f → Sound f
 figures-sound =

@@ -1,17 +1,17 @@
 -- f_temp, for any sound figures: at every k it lies between f_min and 1, it never falls as k grows, and the pair encloses it.
+use Rattle.std.proofs.lemmas.Bool.Decides.{nat_tests}
 use Prim.Native.Nat.{ℕ, ◌+◌, ◌-◌, ◌*◌, ◌^◌, ◌≤◌, ◌<◌, max}
 use mathlib.Core.Path.{◌≡◌, ap, subst}
 use mathlib.Core.Bool.{Bool, true, false, cond}
 use native.Mathlib.Nat.{add_comm, add-sub_of_le, mul-le-mul_right}
 use native.Mathlib.Omega.{arith}
-use lib.Dec.{T, ltb, ltb→lt}
+use lib.Dec.{T}
 use lib.Pow.{pow-add}
-use store.Enc.{and_l, and_r}
 use Rattle.trees.specs.declared.Figures.{Figures}
 use Rattle.trees.specs.Sound.{Sound}
 use Rattle.trees.specs.Temperature.{root_at, inside, temperature_at, temperature_pair}
 use Rattle.trees.proofs.TemperatureRoot.{root_at-greatest, root_at-grows, root_at-next, root_at-optimum, greatest-le-one}
-use Rattle.trees.proofs.TemperatureLookup.{inside-true, inside-false}
+use Rattle.trees.proofs.TemperatureLookup.{inside-true}
 use Rattle.exact.specs.declared.Bounds.{Bounds}
 use Rattle.exact.specs.Frac.{Frac, ◌over◌, natural, ◌≼◌, greater}
 use Rattle.exact.proofs.OrderLaws.{ten-pos}
@@ -45,9 +45,7 @@ module _ (f : Figures) (s : Sound f) (x : ℕ) where
 
   root-le : (k : ℕ) → T (inside f.tmin f.tmax x) → root k ≼ natural 1
   root-le k h =
-      let low = ltb→lt (10 * f.tmin) x (and_l (ltb (10 * f.tmin) x) (ltb x (10 * f.tmax)) h) in
-      let high = ltb→lt x (10 * f.tmax) (and_r (ltb (10 * f.tmin) x) (ltb x (10 * f.tmax)) h) in
-      record { cross = omega (arith, greatest-le-one f s x low high (root_at-greatest f x s.q.0 k)) }
+      record { cross = omega (arith, greatest-le-one f s x (grind (arith, nat_tests)) (grind (arith, nat_tests)) (root_at-greatest f x s.q.0 k)) }
 
   root-next : (k : ℕ) → root (k + 9) ≼ ((root_at 9 f x + 1) over 10 ^ 9)
   root-next k =
@@ -61,21 +59,18 @@ module _ (f : Figures) (s : Sound f) (x : ℕ) where
   -- f_min ≤ f_temp ≤ 1
   pub temperature_at-above : (k : ℕ) → fmin ≼ temperature_at k f x
   unfolding temperature_at
-  temperature_at-above k =
-      cases (λ v. fmin ≼ v) (inside f.tmin f.tmax x) (greater fmin (root k)) fmin (λ h. greater-left fmin (root k)) (≼_refl fmin)
+  temperature_at-above k = grind (arith, nat_tests, greater-left, ≼_refl)
 
   fmin-le : fmin ≼ natural 1
   fmin-le = record { cross = omega (arith, s.fmin) }
 
   pub temperature_at-le : (k : ℕ) → temperature_at k f x ≼ natural 1
   unfolding temperature_at
-  temperature_at-le k =
-      cases (λ v. v ≼ natural 1) (inside f.tmin f.tmax x) (greater fmin (root k)) fmin (λ h. greater-least fmin (root k) fmin-le (root-le k h))
-      fmin-le
+  temperature_at-le k = grind (arith, cases, greater-least, fmin-le, root-le)
 
   pub temperature_at-outside : (k : ℕ) → (10 * f.tmin < x → 10 * f.tmax ≤ x) → temperature_at k f x ≡ fmin
   unfolding temperature_at
-  temperature_at-outside k h = rw (inside-false f.tmin f.tmax x h)
+  temperature_at-outside k h = grind (arith, nat_tests)
 
   -- it never falls
   temperature_at-step : (k j : ℕ) → temperature_at k f x ≼ temperature_at (k + j) f x
@@ -88,8 +83,7 @@ module _ (f : Figures) (s : Sound f) (x : ℕ) where
       (≼_refl fmin)
 
   pub temperature_at-mono : {k l : ℕ} → k ≤ l → temperature_at k f x ≼ temperature_at l f x
-  temperature_at-mono {k} {l} h =
-      subst (λ (m : ℕ). temperature_at k f x ≼ temperature_at m f x) (add-sub_of_le h) (temperature_at-step k (l - k))
+  temperature_at-mono {k} {l} h = rw (add-sub_of_le h) at (temperature_at-step k (l - k))
 
   -- the pair, in units of 10⁻⁹
   abbrev floor : ℕ
@@ -106,12 +100,7 @@ module _ (f : Figures) (s : Sound f) (x : ℕ) where
 
   pub temperature_pair-low : ((temperature_pair f x).lower over 10 ^ 9) ≼ temperature_at 9 f x
   unfolding temperature_at temperature_pair
-  temperature_pair-low =
-      let top = greater fmin (root 9) in
-      cases₂ (λ (p : Bounds) v. (p.lower over 10 ^ 9) ≼ v) (inside f.tmin f.tmax x) found least top fmin
-      (λ h.
-      max-over-least floor (root_at 9 f x) (10 ^ 9) (≼_trans floor-is (greater-left fmin (root 9))) (greater-right fmin (root 9)))
-      floor-is
+  temperature_pair-low = grind (arith, cases₂, max-over-least, ≼_trans, floor-is, greater-left, greater-right)
 
   pub temperature_pair-high : (k : ℕ) → temperature_at k f x ≼ ((temperature_pair f x).upper over 10 ^ 9)
   unfolding temperature_at temperature_pair
@@ -124,20 +113,15 @@ module _ (f : Figures) (s : Sound f) (x : ℕ) where
 
   pub temperature_pair-gap : (temperature_pair f x).upper ≤ (temperature_pair f x).lower + 1
   unfolding temperature_pair
-  temperature_pair-gap = cases (λ p. p.upper ≤ p.lower + 1) (inside f.tmin f.tmax x) found least (λ h. omega arith) (omega arith)
+  temperature_pair-gap = grind (arith, nat_tests)
 
   pub temperature_pair-order : (temperature_pair f x).lower ≤ (temperature_pair f x).upper
   unfolding temperature_pair
-  temperature_pair-order = cases (λ p. p.lower ≤ p.upper) (inside f.tmin f.tmax x) found least (λ h. omega arith) (omega arith)
+  temperature_pair-order = grind (arith, nat_tests)
 
   pub temperature_pair-le : (temperature_pair f x).lower ≤ 10 ^ 9
   temperature_pair-le = let l = ≼_trans temperature_pair-low (temperature_at-le 9) in omega (arith, l.cross)
 
 pub temperature_at-optimum : (f : Figures) → Sound f → (k : ℕ) → natural 1 ≼ temperature_at k f (10 * f.topt)
 unfolding temperature_at
-temperature_at-optimum f s k =
-    let x : ℕ = 10 * f.topt in
-    let fmin : Frac = f.fmin over 100 in
-    let root : Frac = root_at k f x over 10 ^ k in
-    let one : natural 1 ≼ root = record { cross = omega (arith, root_at-optimum f s k, ten-pos k) } in
-    rw (inside-true f.tmin f.tmax x (omega (arith, s.topt)) (omega (arith, s.tmax))) (≼_trans one (greater-right fmin root))
+temperature_at-optimum f s k = grind (arith, root_at-optimum, ten-pos, inside-true, ≼_trans, greater-right)

@@ -3,11 +3,12 @@ use Prim.Native.Nat.{ℕ, zero, ◌+◌, ◌-◌, ◌*◌, ◌^◌, ◌≤◌, �
 use mathlib.Core.Path.{◌≡◌, ap, ap₂, ◌∙◌, subst⁻¹, sym}
 use native.Mathlib.Omega.{arith}
 use lib.Pow.{pow-add}
+use Rattle.std.proofs.lemmas.Nat.{mul-pow}
 use Rattle.trees.specs.declared.Figures.{Figures}
 use Rattle.trees.specs.Sound.{Sound}
 use Rattle.trees.specs.Temperature.{a, w, tried, allowed, IsGreatest, root_at}
 use Rattle.exact.proofs.MeanLaws.{mean-le}
-use Rattle.exact.proofs.PowerLaws.{mul-pow, pow-mul, pow-le-inv, zero-pow, le-pow}
+use Rattle.exact.proofs.PowerLaws.{pow-mul, pow-le-inv, zero-pow, le-pow}
 use Rattle.exact.proofs.RootLaws.{greatest-under, greatest-over}
 use native.Mathlib.Nat.{
   le_trans,
@@ -68,23 +69,16 @@ module _ (f : Figures) (x : ℕ) where
   }
 
   greatest-unique : {k t u : ℕ} → IsGreatest k f x t → IsGreatest k f x u → t ≡ u
-  greatest-unique {k} {t} {u} g h =
-      let l : t < u + 1 = tried-lt g.under h.above in
-      let m : u < t + 1 = tried-lt h.under g.above in
-      omega arith
+  greatest-unique {k} {t} {u} g h = grind (arith, tried-lt)
 
   -- j further decimals
   tried-scale : (j t : ℕ) → tried f x (10 ^ j * t) ≡ 10 ^ (j * f.q) * tried f x t
   unfolding tried
-  tried-scale j t =
-      ap (λ (m : ℕ). m * dens) (mul-pow (10 ^ j) t f.q) ∙ mul_assoc ((10 ^ j) ^ f.q) (t ^ f.q) dens
-      ∙ ap (λ (m : ℕ). m * (t ^ f.q * dens)) (sym (pow-mul 10 j f.q))
+  tried-scale j t = grind (arith, mul-pow, mul_assoc, pow-mul)
 
   allowed-scale : (k j : ℕ) → allowed (k + j) f x ≡ 10 ^ (j * f.q) * allowed k f x
   unfolding allowed
-  allowed-scale k j =
-      ap (λ (m : ℕ). 10 ^ m * nums) (add-mul k j f.q) ∙ ap (λ (m : ℕ). m * nums) (pow-add 10 (k * f.q) (j * f.q))
-      ∙ ap (λ (m : ℕ). m * nums) (mul_comm (10 ^ (k * f.q)) (10 ^ (j * f.q))) ∙ mul_assoc (10 ^ (j * f.q)) (10 ^ (k * f.q)) nums
+  allowed-scale k j = grind (arith, add-mul, pow-add, mul_comm, mul_assoc)
 
   -- t at k decimals and u at k + j: t's digits open u's
   module _ (k j : ℕ) {t u : ℕ} (g : IsGreatest k f x t) (h : IsGreatest (k + j) f x u) where
@@ -128,10 +122,7 @@ tenfold p q d e hd he h =
 
 module _ (f : Figures) (s : Sound f) (x : ℕ) (low : 10 * f.tmin < x) (high : x < 10 * f.tmax) where
   nums-le : nums f x ≤ dens f x
-  nums-le =
-      mean-le (a f x).den (w f x).den (a f x).num (w f x).num f.p f.q s.p.0 s.q.0 (a f x).positive (w f x).positive
-      (tenfold f.p f.q (f.topt - f.tmin) (f.tmax - f.topt) (omega (arith, s.topt)) (omega (arith, s.tmax)) s.ratio)
-      (omega (arith, s.topt, s.tmax))
+  nums-le = grind (arith, mean-le, tenfold)
 
   pub greatest-le-one : {k t : ℕ} → IsGreatest k f x t → t ≤ 10 ^ k
   unfolding tried allowed

@@ -1,12 +1,12 @@
 -- A table's rule at each of its entries, out of one test that is computed over the whole table.
+use Rattle.std.proofs.lemmas.Bool.Decides.{nat_tests}
 use Prim.Native.Nat.{ℕ, zero, suc, ◌+◌, ◌<◌}
-use mathlib.Core.Path.{◌∙◌, subst, sym}
 use mathlib.Core.Bool.{Bool, true, ◌&&◌}
 use mathlib.Core.List.{List, [], ◌∷◌}
 use native.Mathlib.Nat.{add-zero, add-suc, suc-add, le_of_suc-le-suc, not-suc-le-zero}
-use lib.Dec.{T, leb, ltb, leb→le, ltb→lt}
+use native.Mathlib.Omega.{arith}
+use lib.Dec.{T, leb, ltb}
 use lib.ListN.{length, get_or}
-use store.Enc.{and_l, and_r}
 use Rattle.trees.specs.declared.Figures.{Figures}
 use Rattle.trees.specs.Temperature.{tried, allowed, IsGreatest}
 use Rattle.trees.specs.TemperatureTable.{IsTemperatureTable}
@@ -17,12 +17,7 @@ greatest_test f x t = leb (tried f x t) (allowed 9 f x) && ltb (allowed 9 f x) (
 
 pub greatest-tested : (f : Figures) (x t : ℕ) → T (greatest_test f x t) → IsGreatest 9 f x t
 unfolding tried allowed
-greatest-tested f x t h = record {
-  under = leb→le (tried f x t) (allowed 9 f x) (and_l (leb (tried f x t) (allowed 9 f x)) (ltb (allowed 9 f x) (tried f x (t + 1))) h);
-  above =
-      ltb→lt (allowed 9 f x) (tried f x (t + 1))
-      (and_r (leb (tried f x t) (allowed 9 f x)) (ltb (allowed 9 f x) (tried f x (t + 1))) h);
-}
+greatest-tested f x t h = record { under = grind (arith, nat_tests); above = grind (arith, nat_tests) }
 
 -- each entry is the greatest, the first one at x
 abbrev every_test : Figures → ℕ → List ℕ → Bool
@@ -34,12 +29,9 @@ entry-tested :
     (f : Figures) (x : ℕ) (ts : List ℕ) → T (every_test f x ts) → (i : ℕ) → i < length ts → IsGreatest 9 f (x + i) (get_or ts i 0)
 unfolding tried allowed
 entry-tested f x [] h i l = absurd (not-suc-le-zero l)
-entry-tested f x (t ∷ ts) h zero l =
-    subst (λ (m : ℕ). IsGreatest 9 f m t) (sym (add-zero x))
-    (greatest-tested f x t (and_l (greatest_test f x t) (every_test f (suc x) ts) h))
+entry-tested f x (t ∷ ts) h zero l = rw add-zero (greatest-tested f x t (grind (arith, nat_tests)))
 entry-tested f x (t ∷ ts) h (suc i) l =
-    subst (λ (m : ℕ). IsGreatest 9 f m (get_or ts i 0)) (suc-add x i ∙ sym (add-suc x i))
-    (entry-tested f (suc x) ts (and_r (greatest_test f x t) (every_test f (suc x) ts) h) i (le_of_suc-le-suc l))
+    rw (add-suc, ← (suc-add x i)) (entry-tested f (suc x) ts (grind (arith, nat_tests)) i (le_of_suc-le-suc l))
 
 module _ (f : Figures) (from : ℕ) (ts : List ℕ) where
   abbrev pub table_test : Bool

@@ -1,9 +1,8 @@
 -- Where a trimmed table begins and ends, out of one test that is computed at its two ends and at each tenth that was cut.
+use Rattle.std.proofs.lemmas.Bool.Decides.{nat_tests}
 use Prim.Native.Nat.{ℕ, zero, suc, ◌+◌, ◌-◌, ◌*◌, ◌^◌, ◌≤◌, ◌<◌}
-use mathlib.Core.Path.{◌≡◌, ◌∙◌, subst, sym}
-use mathlib.Core.Bool.{Bool, true, ◌&&◌}
-use mathlib.Core.Logic.{⊎_elim}
-use native.Mathlib.Nat.{add-zero, add-suc, suc-add, le_of_suc-le-suc, not-suc-le-zero}
+use mathlib.Core.Path.{◌≡◌}
+use mathlib.Core.Bool.{Bool, ◌&&◌}
 use native.Mathlib.Omega.{arith}
 use lib.Dec.{T, leb, ltb, leb→le, ltb→lt}
 use store.Enc.{and_l, and_r}
@@ -14,7 +13,7 @@ use Rattle.trees.specs.TemperatureTable.{IsTrimmed}
 use Rattle.trees.proofs.TemperatureRoot.{root_at-above, root_at-below}
 use Rattle.trees.proofs.TemperatureLookup.{pair-floor}
 use Rattle.exact.specs.declared.Bounds.{Bounds}
-use Rattle.exact.proofs.OrderLaws.{le-or-lt}
+use Rattle.exact.proofs.TestedLaws.{all_from, all_from-each}
 
 -- f_min, in units of 10⁻⁹
 abbrev floor : Figures → ℕ
@@ -28,22 +27,15 @@ reaches-tested : (f : Figures) → zero < f.q → (x : ℕ) → T (reaches_test 
 unfolding tried allowed
 reaches-tested f root x h = root_at-above f x root 9 (leb→le (tried f x (floor f)) (allowed 9 f x) h)
 
--- t is under f_min at n readings, the first one x
-abbrev under_test : Figures → ℕ → ℕ → Bool
+-- t is under f_min
+abbrev under_test : Figures → ℕ → Bool
 unfolding tried allowed
-under_test f x zero = true
-under_test f x (suc n) = ltb (allowed 9 f x) (tried f x (floor f)) && under_test f (suc x) n
+under_test f x = ltb (allowed 9 f x) (tried f x (floor f))
 
-under-tested : (f : Figures) → zero < f.q → (x n : ℕ) → T (under_test f x n) → (i : ℕ) → i < n → root_at 9 f (x + i) < floor f
+under-tested :
+    (f : Figures) → zero < f.q → (first n : ℕ) → T (all_from (under_test f) first n) → (x : ℕ) → first ≤ x → x < first + n → root_at 9 f x < floor f
 unfolding tried allowed
-under-tested f root x zero h i l = absurd (not-suc-le-zero l)
-under-tested f root x (suc n) h zero l =
-    subst (λ (m : ℕ). root_at 9 f m < floor f) (sym (add-zero x))
-    (root_at-below f x root 9
-    (ltb→lt (allowed 9 f x) (tried f x (floor f)) (and_l (ltb (allowed 9 f x) (tried f x (floor f))) (under_test f (suc x) n) h)))
-under-tested f root x (suc n) h (suc i) l =
-    subst (λ (m : ℕ). root_at 9 f m < floor f) (suc-add x i ∙ sym (add-suc x i))
-    (under-tested f root (suc x) n (and_r (ltb (allowed 9 f x) (tried f x (floor f))) (under_test f (suc x) n) h) i (le_of_suc-le-suc l))
+under-tested f root first n h x p q = root_at-below f x root 9 (ltb→lt _ _ (all_from-each (under_test f) first n h x p q))
 
 module _ (f : Figures) (first last : ℕ) where
   abbrev cold : ℕ
@@ -56,7 +48,7 @@ module _ (f : Figures) (first last : ℕ) where
   -- past Tmax, too: there w is 0 on whole numbers
   abbrev cut_test : Bool
   unfolding tried allowed
-  cut_test = under_test f cold (first - cold) && under_test f (suc last) (1100 - last)
+  cut_test = all_from (under_test f) cold (first - cold) && all_from (under_test f) (suc last) (1100 - last)
 
   abbrev pub trimmed_test : Bool
   unfolding tried allowed
@@ -65,27 +57,19 @@ module _ (f : Figures) (first last : ℕ) where
   pub trimmed-tested : Sound f → T trimmed_test → IsTrimmed f first last
   unfolding tried allowed
   trimmed-tested s h =
-      let at = under-tested f s.q.0 in
       let ends = and_l ends_test cut_test h in
       let cut = and_r ends_test cut_test h in
       record {
         begins = reaches-tested f s.q.0 first (and_l (reaches_test f first) (reaches_test f last) ends);
         ends = reaches-tested f s.q.0 last (and_r (reaches_test f first) (reaches_test f last) ends);
-        colder = λ x low high.
-            let e : cold + (x - cold) ≡ x = omega arith in
-            subst (λ (m : ℕ). root_at 9 f m < floor f) e
-            (at cold (first - cold) (and_l (under_test f cold (first - cold)) (under_test f (suc last) (1100 - last)) cut) (x - cold) (omega arith));
-        warmer = λ x low high highest.
-            let e : suc last + (x - suc last) ≡ x = omega arith in
-            subst (λ (m : ℕ). root_at 9 f m < floor f) e
-            (at (suc last) (1100 - last) (and_r (under_test f cold (first - cold)) (under_test f (suc last) (1100 - last)) cut) (x - suc last) (omega arith));
+        colder = λ x low high. under-tested f s.q.0 cold (first - cold) (and_l _ (all_from (under_test f) (suc last) (1100 - last)) cut) x low (omega arith);
+        warmer = λ x low high highest. under-tested f s.q.0 (suc last) (1100 - last) (and_r (all_from (under_test f) cold (first - cold)) _ cut) x low (omega arith);
       }
 
   -- what the table does not hold is under f_min
   trimmed-under :
       IsTrimmed f first last → (x : ℕ) → x ≤ 1100 → (first ≤ x → last < x) → 10 * f.tmin < x → x < 10 * f.tmax → root_at 9 f x < floor f
-  trimmed-under h x highest outside low high =
-      ⊎_elim (λ l. h.warmer x (outside l) high highest) (h.colder x low) (le-or-lt first x)
+  trimmed-under h x highest outside low high = grind (arith, nat_tests)
 
 -- f_min at each reading that the table does not hold
 pub floor-pair :

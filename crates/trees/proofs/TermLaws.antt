@@ -3,7 +3,6 @@
 use Prim.Native.Nat.{ℕ, ◌-◌, ◌*◌, ◌^◌, ◌≤◌, ◌<◌}
 use mathlib.Core.Path.{◌≡◌, refl}
 use mathlib.Core.Bool.{Bool, true, false, cond}
-use mathlib.Core.Logic.{⊎_elim}
 use native.Mathlib.Nat.{mul-le-mul_right}
 use native.Mathlib.Omega.{arith}
 use lib.Dec.{ltb, leb}
@@ -12,6 +11,7 @@ use Rattle.trees.specs.declared.Measure.{Measure}
 use Rattle.trees.specs.declared.Measure.TheVariants.{Suction, Water}
 use Rattle.trees.specs.declared.Phenology.{Phenology}
 use Rattle.trees.specs.declared.Phenology.TheVariants.{Ramps, Dip, Temperature}
+use Rattle.std.proofs.lemmas.Bool.Decides.{nat_tests}
 use Rattle.trees.specs.declared.Figures.{Figures}
 use Rattle.trees.specs.declared.Warmth.{Warmth}
 use Rattle.trees.specs.Sound.{Sound, SoilSound}
@@ -19,16 +19,7 @@ use Rattle.trees.specs.Deficit.{falling, deficit_of}
 use Rattle.trees.specs.SoilWater.{drier, soil_water_of}
 use Rattle.trees.specs.Phenology.{by_ramps, by_dip, by_temperature, phenology_of, by_warmth}
 use Rattle.trees.specs.Temperature.{inside}
-use Rattle.exact.proofs.OrderLaws.{le-or-lt}
 use Rattle.exact.proofs.FracLaws.{straight-along, straight-end}
-use Rattle.trees.proofs.PhenologyLaws.{
-  phenology-ramps,
-  phenology-dip,
-  phenology-temperature,
-  warmth-past,
-  warmth-falling,
-  warmth-rising,
-}
 
 pub record Small (x : Frac) : Type 0 where
   pub den : x.den ≤ 10 ^ 6
@@ -38,8 +29,7 @@ cond_small true p q = p
 cond_small false p q = q
 
 straight-den : (from to d s top : ℕ) → 100 ≤ top → 100 * s ≤ top → (straight from to d s).den ≤ top
-straight-den from to d s top h k =
-    ⊎_elim (λ l. rw (straight-end from to d s l) h) (λ l. rw (straight-along from to d s l) (omega arith)) (le-or-lt s d)
+straight-den from to d s top h k = grind (arith, nat_tests, straight-end, straight-along)
 
 straight-small : (from to d s : ℕ) → s ≤ 10000 → Small (straight from to d s)
 straight-small from to d s h = record { den = straight-den from to d s (10 ^ 6) (omega arith) (omega arith) }
@@ -65,9 +55,7 @@ temperature-small tmin tmax temperature = cond_small (inside tmin tmax temperatu
 module _ (f : Figures) (sound : Sound f) where
   pub deficit-small : (vpd : Frac) → (deficit_of f vpd).den ≤ 10 ^ 6 * vpd.den
   unfolding deficit_of falling
-  deficit-small vpd =
-      straight-den 100 f.fmin _ ((f.vpdmin - f.vpdmax) * vpd.den) _ (omega (arith, vpd.positive))
-      (omega (arith, mul-le-mul_right {m = f.vpdmin - f.vpdmax} {n = 10000} vpd.den (omega (arith, sound.vpd))))
+  deficit-small vpd = grind (arith, straight-den, mul-le-mul_right)
 
   pub soil_water-small : (reading : ℕ) → Small (soil_water_of f reading)
   unfolding soil_water_of falling
@@ -75,26 +63,18 @@ module _ (f : Figures) (sound : Sound f) where
 
   ramps-small : (first last day : ℕ) → Small (by_ramps f first last day)
   unfolding by_ramps
-  ramps-small first last day =
-      cond_small (ltb (last - day) f.f4)
-      (straight-small f.e 100 (last - day) f.f4 (omega (arith, sound.f4)))
-      (straight-small f.a 100 (day - first) f.f1 (omega (arith, sound.f1)))
+  ramps-small first last day = grind (arith, cond_small, straight-small)
 
   by-kind-small : (kind : Phenology) → f.phenology ≡ kind → (first last day temperature : ℕ) → Small (phenology_of f first last day temperature)
-  by-kind-small Ramps e first last day temperature = rw (phenology-ramps f first last day temperature e) (ramps-small first last day)
-  by-kind-small Dip e first last day temperature = rw (phenology-dip f first last day temperature e) (dip-small day)
-  by-kind-small Temperature e first last day temperature =
-      rw (phenology-temperature f first last day temperature e) (temperature-small f.tmin f.tmax temperature)
+  unfolding phenology_of by_ramps
+  by-kind-small Ramps e first last day temperature = rw e (ramps-small first last day)
+  by-kind-small Dip e first last day temperature = rw e (dip-small day)
+  by-kind-small Temperature e first last day temperature = grind (arith, nat_tests, temperature-small)
 
   pub phenology-small : (first last day temperature : ℕ) → Small (phenology_of f first last day temperature)
   phenology-small first last day temperature = by-kind-small f.phenology refl first last day temperature
 
   -- 100 · 240 · 65535 is under 2·10⁹
   pub warmth-den : (w : Warmth) (sum : ℕ) → w.rise < 65536 → w.fall < 65536 → (by_warmth f w sum).den ≤ 2 * 10 ^ 9
-  warmth-den w sum p q =
-      ⊎_elim (λ h. ⊎_elim
-      (λ g. rw (warmth-rising f w sum h g) (straight-den f.a 100 sum (240 * w.rise) (2 * 10 ^ 9) (omega arith) (omega arith)))
-      (λ g. rw (warmth-falling f w sum h g) (straight-den f.e 100 (240 * w.end - sum) (240 * w.fall) (2 * 10 ^ 9) (omega arith) (omega arith)))
-      (le-or-lt (240 * w.fall) (240 * w.end - sum)))
-      (λ g. rw (warmth-past f w sum g) (omega arith))
-      (le-or-lt sum (240 * w.end))
+  unfolding by_warmth
+  warmth-den w sum p q = grind (arith, nat_tests, straight-den f.a 100 sum (240 * w.rise) (2 * 10 ^ 9), straight-den f.e 100 (240 * w.end - sum) (240 * w.fall) (2 * 10 ^ 9))

@@ -9,6 +9,7 @@ use crate::{Deficits, FactorPair, Figures, Measure};
 use exact::Fraction;
 
 // The straight line from one percentage to another, d of s steps along it; past its end, and where it has no step, its end.
+#[tactic(auto, unfolding(exact::specs::Frac::straight))]
 pub(crate) fn line(from: u16, to: u16, d: u64, s: u64) -> Fraction
     requires { s ≤ 65535 * 4294967295 }
     ensures { Is result (straight from to d s) }
@@ -72,6 +73,7 @@ pub fn f_vpd(f: Figures, vpd: Deficits) -> FactorPair
 }
 
 // f_SW of a soil reading in the unit of the tree's measure.
+#[tactic(auto, unfolding(crate::specs::SoilWater::soil_water_of), using(crate::proofs::FactsLaws::facts))]
 pub fn f_sw(f: Figures, reading: u16) -> Fraction
     ensures is { Is result (soil_water_of f reading) }
     ensures facts { FactorFacts }

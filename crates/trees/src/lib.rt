@@ -86,6 +86,7 @@ pub struct Warmth {
 }
 
 // A vapour pressure deficit lies from lower/den to upper/den, in Pa; a den of 0 is read as 1.
+// Kept: `Bounds` inside would be one more name at each use, and its two numbers say nothing without the den.
 #[derive(Clone, Copy)]
 pub struct Deficits {
     pub lower: u64,
@@ -94,6 +95,7 @@ pub struct Deficits {
 }
 
 // A factor lies from lower to upper.
+// Kept: `Bounds` is of whole numbers, and the definitions of several crates name it; with a type parameter each of them would name the number's type too.
 #[derive(Clone, Copy)]
 pub struct FactorPair {
     pub lower: Fraction,

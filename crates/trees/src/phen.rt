@@ -6,6 +6,7 @@ ghost use Rattle.trees.specs.Phenology.{by_ramps, by_dip, by_temperature, phenol
 use crate::{Figures, Phenology, Warmth, factors};
 use exact::Fraction;
 
+#[tactic(auto, unfolding(crate::specs::Phenology::by_ramps))]
 fn by_ramps(f: Figures, first: u16, last: u16, day: u16) -> Fraction
     ensures { Is result (by_ramps f first last day) }
 {
@@ -17,6 +18,7 @@ fn by_ramps(f: Figures, first: u16, last: u16, day: u16) -> Fraction
     }
 }
 
+#[tactic(auto, unfolding(crate::specs::Phenology::by_dip))]
 fn by_dip(day: u16) -> Fraction
     ensures { Is result (by_dip day) }
 {
@@ -29,6 +31,7 @@ fn by_dip(day: u16) -> Fraction
     }
 }
 
+#[tactic(auto, unfolding(crate::specs::Phenology::by_temperature))]
 fn by_temperature(tmin: u16, tmax: u16, temperature: u16) -> Fraction
     ensures { Is result (by_temperature tmin tmax temperature) }
 {
@@ -41,6 +44,7 @@ fn by_temperature(tmin: u16, tmax: u16, temperature: u16) -> Fraction
 }
 
 // f_phen on a day of a period, at a temperature in tenths of a degree above -50.0 °C.
+#[tactic(auto, unfolding(crate::specs::Phenology::phenology_of), using(crate::proofs::FactsLaws::facts))]
 pub fn f_phen(f: Figures, first: u16, last: u16, day: u16, temperature: u16) -> Fraction
     ensures is { Is result (phenology_of f first last day temperature) }
     ensures facts { FactorFacts }
@@ -57,6 +61,7 @@ pub fn f_phen(f: Figures, first: u16, last: u16, day: u16, temperature: u16) -> 
 const DEGREE_DAY: u64 = 240;
 
 // f_phen at a temperature sum, in tenths of a degree over hours (W-213).
+#[tactic(auto, unfolding(crate::specs::Phenology::by_warmth), using(crate::proofs::FactsLaws::facts))]
 pub fn f_phen_by_warmth(f: Figures, warmth: Warmth, sum: u32) -> Fraction
     ensures is { Is result (by_warmth f warmth sum) }
     ensures facts { FactorFacts }

@@ -36,7 +36,8 @@ pub fn trial(account: Account, line: &[u8]) -> Trial
     }
 }
 
-// Row 16: in every field, each nested one too. Kept, since the proof of `a == b` for whole accounts did not close; those of their parts do.
+// Row 16: in every field, each nested one too.
+// Kept: the proof of `a == b` for whole accounts did not close; those of their parts do.
 #[tactic(auto, unfolding(trial_spec::specs::Same::is_same))]
 fn same(a: Account, b: Account) -> bool
     ensures { result ≡ is_same a b }

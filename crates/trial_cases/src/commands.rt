@@ -1,6 +1,6 @@
 // Commands, one a line, over an account and a trial that are held. `H` sets a field of the account, `F` and a line feeds it; `T` and a
 // line tries it; `K` takes the trial. `P` sets a field of the account tried, `Q` makes the answer an acceptance and sets a field of its account, `R` makes it
-// a refusal, `V` spoils the reading. `T`, `F` and `K` print.
+// a refusal, `V` makes the reading row 13. `T`, `F` and `K` print.
 use crate::forged;
 use crate::printing::{Answered, print_trial};
 use account::{Account, Fed};
@@ -36,7 +36,7 @@ impl Held {
         let Some((letter, rest)) = command.split_first() else {
             return Ok(());
         };
-        // Kept: an enum of commands would name each letter a second time.
+        // Kept: an enum of commands would list them twice, by letter and by name.
         match *letter {
             b'H' => self.account = with_field(self.account, rest),
             b'F' => self.leave(rt, account::feed(self.account, rest))?,

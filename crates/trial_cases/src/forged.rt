@@ -5,6 +5,7 @@ use frames::Refusal;
 use trial::Trial;
 
 // Row 13 where no refusal has this row and field.
+// Kept: the row and the field stand as digits in the command, so they are numbers before they are a refusal.
 fn refusal_of(row: u8, field: u8) -> Refusal {
     match answers::answer_of((row as u16) + 256 * (field as u16)) {
         Some(Err(refusal)) => refusal,

@@ -1,7 +1,7 @@
 // Answers as words.
 use account::{Fed, Totals, Verdict};
 use cases::Refused;
-use cases_account::{Answer, Fields};
+use cases_account::{Answer, Fields, Seven};
 use frames::Refusal;
 use std::{fmt, io};
 use trial::Trial;
@@ -16,6 +16,7 @@ impl fmt::Display for Answered {
     }
 }
 
+// Kept: Verdict is of another crate, so no Display can stand here; a struct around it would hold this same match.
 fn word_of(verdict: Verdict) -> &'static str {
     match verdict {
         Verdict::None => "none",
@@ -31,15 +32,7 @@ struct Reading(Result<Totals, Refusal>);
 impl fmt::Display for Reading {
     fn fmt<W: fmt::Write>(&self, f: &mut fmt::Formatter<W>) -> fmt::Result {
         match self.0 {
-            Ok(Totals { sums, verdict }) => {
-                write!(f, "{} {} {} ", sums.hours, sums.counted, sums.missing)?;
-                write!(
-                    f,
-                    "{} {} {} {} ",
-                    sums.lower, sums.upper, sums.least, sums.most
-                )?;
-                f.write_str(word_of(verdict))
-            }
+            Ok(Totals { sums, verdict }) => { write!(f, "{} {}", Seven(sums), word_of(verdict)) }
             Err(refusal) => write!(f, "{}", Refused(refusal)),
         }
     }

@@ -1,14 +1,13 @@
 // Rows 4 to 11, 15, 17, 18, 24 and 25 for a state: phase, season, kind and number of hours accepted so far (document 01, "Turned-back lines").
 #![tactic(auto)]
 
-ghost use Rattle.records.specs.Answers.{outcome_of};
-ghost use Rattle.std.specs.Prelude.{◌≡◌};
+ghost use Rattle.records.specs.Answers.{accepted, row, outcome_of};
+ghost use Rattle.std.specs.Prelude.{◌≡◌, not};
 ghost use Rattle.account_spec.specs.declared.Phase.TheVariants.{Open};
 ghost use Rattle.account_spec.specs.Account.{phase_number, awaits};
 ghost use Rattle.account_spec.specs.HourKinds.{hour_kind, kind_number, is_mixed};
 ghost use Rattle.account_spec.specs.Rules.{ceiling_late, warmth_late, turn_in, out_of_turn, is_due, count_wrong, due_of, turn_of};
 ghost use Rattle.account_spec.specs.Timely.{timely_in};
-ghost use Rattle.account_spec.specs.Steps.{refusal_in};
 
 use account_spec::{HourKind, Phase, Season, State};
 use frames::{Air, Raw, RawHour, Record, Refusal};
@@ -69,13 +68,15 @@ pub fn out_of_turn(s: State, frame: Raw) -> bool
 }
 
 // The kind of the season's hour frames, 0 before the first.
-pub fn kind_number(kind: HourKind) -> u8
+// Kept: the byte that is stored and printed.
+pub fn kind_number(kind: Option<HourKind>) -> u8
     ensures { result ≡ kind_number kind }
 {
-    kind as u8
+    kind.map_or(0, |own| own as u8)
 }
 
 // The kind of season that an hour's frame makes.
+// Kept: `HourKind` stands above frames, whose `air_kind` gives the line's byte.
 pub fn kind_of(air: Air) -> HourKind
     ensures { result ≡ hour_kind air }
 {
@@ -86,7 +87,7 @@ pub fn kind_of(air: Air) -> HourKind
     }
 }
 
-// The number of a phase, by which two are compared.
+// The number of a phase, as it is stored and printed.
 pub fn phase_number(phase: Phase) -> u8
     ensures { result ≡ phase_number phase }
 {
@@ -94,10 +95,10 @@ pub fn phase_number(phase: Phase) -> u8
 }
 
 // Row 15: a kind other than the season's first.
-fn mixed(kind: HourKind, air: Air) -> bool
+fn mixed(kind: Option<HourKind>, air: Air) -> bool
     ensures { result ≡ is_mixed kind air }
 {
-    kind != HourKind::None && kind != kind_of(air)
+    kind.is_some_and(|own| own != kind_of(air))
 }
 
 // The next hour due.
@@ -110,14 +111,10 @@ fn due(s: State, raw: RawHour) -> bool
         && (raw.hour as u16) == s.hours % 24
 }
 
-// The rows of an hour that look at no reading: 4, 15 and 9.
-#[tactic(auto, unfolding(account_spec::specs::Timely::timely_in))]
-pub fn timely(s: State, raw: RawHour) -> Result<(), Refusal>
-    ensures { outcome_of result ≡ timely_in s raw }
+// Rows 15 and 9 of an hour.
+fn in_order(s: State, raw: RawHour) -> Result<(), Refusal>
+    ensures { outcome_of result ≡ row 15 (is_mixed s.kind raw.air) (row 9 (not (is_due s raw)) (accepted tt)) }
 {
-    if out_of_turn(s, Raw::Hour(raw)) {
-        return Err(Refusal::Turn);
-    }
     if mixed(s.kind, raw.air) {
         return Err(Refusal::Mixed);
     }
@@ -127,6 +124,17 @@ pub fn timely(s: State, raw: RawHour) -> Result<(), Refusal>
     Ok(())
 }
 
+// The rows of an hour that look at no reading: 4, 15 and 9.
+#[tactic(auto, unfolding(account_spec::specs::Timely::timely_in))]
+pub fn timely(s: State, raw: RawHour) -> Result<(), Refusal>
+    ensures { outcome_of result ≡ timely_in s raw }
+{
+    if out_of_turn(s, Raw::Hour(raw)) {
+        return Err(Refusal::Turn);
+    }
+    in_order(s, raw)
+}
+
 // Row 11: count not the hours accepted, or hours still due.
 fn count_wrong(s: State, count: u16) -> bool
     ensures { result ≡ count_wrong s count }
@@ -134,7 +142,7 @@ fn count_wrong(s: State, count: u16) -> bool
     count != s.hours || !records::all_given(s.season.header, s.hours)
 }
 
-// Rows 5 to 8 of a header, 15, 9, 18 and 10 of an hour, 11 of an end, 17 of a ceiling, 24 and 7 of parameters, 25 of warmth. `record_of` is called at one place, where the compiler then writes it out.
+// Rows 5 to 8 of a header, 15, 9, 18 and 10 of an hour, 11 of an end, 17 of a ceiling, 24 and 7 of parameters, 25 of warmth. `record_of` is called at one place, where it is inlined.
 #[tactic(auto, unfolding(account_spec::specs::Rules::due_of))]
 fn by_kind(s: State, frame: Raw) -> Result<Record, Refusal>
     ensures { outcome_of result ≡ due_of s frame }
@@ -142,12 +150,7 @@ fn by_kind(s: State, frame: Raw) -> Result<Record, Refusal>
     match frame {
         Raw::Header(_) => {},
         Raw::Hour(raw) => {
-            if mixed(s.kind, raw.air) {
-                return Err(Refusal::Mixed);
-            }
-            if !due(s, raw) {
-                return Err(Refusal::Due);
-            }
+            in_order(s, raw)?;
             if records::lacks_ceiling(s.season.ceiling, frames::ozone_of(raw.ozone)) {
                 return Err(Refusal::NoCeiling);
             }
@@ -180,11 +183,4 @@ pub fn decode(s: State, frame: Raw) -> Result<Record, Refusal>
         return Err(Refusal::Turn);
     }
     by_kind(s, frame)
-}
-
-// The refusal of a line that is refused; row 13 stands for none.
-pub fn refusal_in(d: Result<Record, Refusal>) -> Refusal
-    ensures { result ≡ refusal_in d }
-{
-    d.err().unwrap_or(Refusal::Account)
 }

@@ -6,6 +6,7 @@ use crate::input::{word_at, word_buffer};
 use std::env::Env;
 
 // What a word of decimal digits says.
+// Kept: the library's `parse` refuses a number that is too large, which says the greatest one here.
 pub fn number(word: &[u8]) -> Option<u16>
     ensures { result ≡ number_of word.now }
 {

@@ -10,11 +10,14 @@ use std::rt::Files;
 // More of a text than decides what is said of it: 360,328 bytes decide its ending (`ReportPromise.bounded`).
 const TEXT_BYTES: usize = 364544;
 
-// Room for any word of a command line: Linux takes none longer.
-pub fn word_buffer() -> [u8; 131072]
+// As much as any word of a command line: Linux takes none longer.
+const WORD_BYTES: usize = 131072;
+
+// Room for a word.
+pub fn word_buffer() -> [u8; WORD_BYTES]
     ensures { 131072 ≡ length result }
 {
-    [0; 131072]
+    [0; WORD_BYTES]
 }
 
 // Room for that much of a text.
@@ -38,7 +41,7 @@ pub fn word_count(rt: &impl Env) -> usize {
 }
 
 // The bytes of the program's word at a place, its own name being at place 0, at the buffer's start; none for a word that is missing or longer than the buffer.
-// Kept: `std::env::args` takes no word that is not UTF-8.
+// Kept: `std::env::args` takes no word that is not UTF-8. A word that is not there is refused as an empty one is, by the same row, so no `Option` tells them apart.
 pub fn word_at<'a>(rt: &impl Env, place: usize, buf: &'a mut [u8]) -> &'a [u8]
     ensures { length result.now ≤ length buf.old }
 {
@@ -48,22 +51,14 @@ pub fn word_at<'a>(rt: &impl Env, place: usize, buf: &'a mut [u8]) -> &'a [u8]
     }
 }
 
-// One read, to the buffer's place `from` on.
-fn read_at<R: Read>(input: &mut R, buf: &mut [u8], from: usize) -> Option<usize>
-    requires { from ≤ length buf.old }
-    ensures { from + bytes_in result ≤ length buf.old }
-{
-    input.read(&mut buf[from..]).ok()
-}
-
 // Until the buffer is full or the input ends.
-// Kept for speed: the report program, which is timed as a whole process, reads into one buffer on its stack.
+// Kept: `read_exact` refuses an input that ends before the buffer is full, and `read_to_end` puts the text on a heap, where the report program has one buffer on its stack.
 pub fn fill<R: Read>(input: &mut R, buf: &mut [u8]) -> Option<usize>
     ensures { bytes_in result ≤ length buf.new }
 {
     let mut n = 0;
     while n < buf.len() {
-        let more = read_at(input, buf, n)?;
+        let more = input.read(&mut buf[n..]).ok()?;
         if more == 0 {
             return Some(n);
         }
@@ -73,15 +68,16 @@ pub fn fill<R: Read>(input: &mut R, buf: &mut [u8]) -> Option<usize>
 }
 
 // As much of a text as decides what is said of it, from the file that the program's word at a place names, its own name being at place 0. A name that is missing,
-// too long or not UTF-8 names no file, and none is read for want of memory.
+// too long or not UTF-8 names no file, and nothing is read where memory does not suffice.
 pub fn read_named(rt: &(impl Env + Files + AllocGlobal), place: usize) -> Option<Vec<u8>>
     ensures { IfSome result (λ text. vec_len text ≤ 364544) }
 {
     let mut buf = word_buffer();
     let path = str::from_utf8(word_at(rt, place, &mut buf)).ok()?;
-    let mut file = File::open(rt, path).ok()?;
-    let mut text = vec![in rt.alloc(); 0; TEXT_BYTES].ok()?;
-    let n = fill(&mut file, text.as_mut_slice())?;
-    text.truncate(n);
+    let file = File::open(rt, path).ok()?;
+    let mut text = Vec::new(rt.alloc());
+    file.take(TEXT_BYTES as u64).read_to_end(&mut text).ok()?;
+    // What `read_to_end` leaves has no bound in its contract.
+    text.truncate(TEXT_BYTES);
     Some(text)
 }

@@ -7,4 +7,4 @@ mod output;
 
 pub use digits::{number, number_at};
 pub use input::{fill, read_named, text_buffer, word_at, word_buffer, word_count};
-pub use output::{front, print_written};
+pub use output::{front, print_line, print_written};

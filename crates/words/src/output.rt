@@ -16,3 +16,12 @@ pub fn print_written(rt: &impl Print, buf: &[u8], written: Result<usize, Refusal
         let _ = rt.write_all(front(buf, n));
     }
 }
+
+// A line of up to 160 bytes, as the closure writes it; nothing where the buffer is too short for it.
+pub fn print_line<F: FnOnce(&mut [u8]) -> Result<usize, Refusal>>(rt: &impl Print, write: F)
+    requires { F.IsAlwaysCallable write }
+{
+    let mut line = [0; 160];
+    let written = write(&mut line);
+    print_written(rt, &line, written);
+}

@@ -2,6 +2,7 @@
 use Prim.Native.Nat.{ℕ}
 use mathlib.Core.Path.{◌≡◌, refl, ap, ◌∙◌}
 use mathlib.Core.Bool.{true}
+use mathlib.Core.Logic.{◌⊎◌, inl, inr}
 use mathlib.Core.List.{List, [], ◌∷◌, ◌++◌}
 use native.Mathlib.Omega.{arith}
 use borrow.Author.Tests.{eq-eqb}
@@ -25,17 +26,14 @@ use Rattle.writer.proofs.WidthLaws.{FitsLine}
 -- ---- the line of a record
 
 module _ (h : Hour) where
-  pub deficit-line : {n : ℕ} → h.air ≡ Deficit n → frame_line (Record.Hour h) ≡ digits_of (one ∷ widths_of 2) (2 ∷ hour_numbers h)
+  pub plain-line : ((n : ℕ) × (h.air ≡ Deficit n)) ⊎ ((n : ℕ) × (h.air ≡ Humidity n)) → frame_line (Record.Hour h) ≡ digits_of (one ∷ widths_of 2) (air_kind h.air ∷ hour_numbers h)
   unfolding frame_line
-  deficit-line e = rw e
+  plain-line (inl w) = rw w.1
+  plain-line (inr w) = rw w.1
 
-  pub pressure-line : {n p : ℕ} → h.air ≡ Pressure n p → frame_line (Record.Hour h) ≡ digits_of (one ∷ widths_of 2) (4 ∷ hour_numbers h) ++ number p []
+  pub pressure-line : {n p : ℕ} → h.air ≡ Pressure n p → frame_line (Record.Hour h) ≡ digits_of (one ∷ widths_of 2) (air_kind h.air ∷ hour_numbers h) ++ number p []
   unfolding frame_line
   pressure-line e = rw e
-
-  pub humidity-line : {n : ℕ} → h.air ≡ Humidity n → frame_line (Record.Hour h) ≡ digits_of (one ∷ widths_of 2) (5 ∷ hour_numbers h)
-  unfolding frame_line
-  humidity-line e = rw e
 
   hour-length : (a : Air) → h.air ≡ a → (is_length (length (frame_line (Record.Hour h))) ≡ true) × (length_of (air_kind h.air) ≡ length (frame_line (Record.Hour h)))
   unfolding frame_line among length_of

@@ -1,5 +1,5 @@
-// The digits of a byte and of two-byte numbers, high byte first, at a place of a lent buffer.
-ghost use Rattle.std.specs.Prelude.{◌≡◌, ◌+◌, ◌≤◌, ◌<◌, [], ◌∷◌, length};
+// The digits of a byte and of two-byte numbers, high byte first, at the front of a lent buffer.
+ghost use Rattle.std.specs.Prelude.{◌≡◌, ◌≤◌, ◌<◌, [], ◌∷◌, length};
 ghost use Rattle.std.proofs.lemmas.List.Edits.{sets};
 ghost use Rattle.frames.specs.Digits.{digit_of, byte, number};
 ghost use Rattle.frames.specs.Kinds.{one, two, size_of, span};
@@ -14,38 +14,39 @@ fn digit(n: u8) -> u8
     if n < 10 { n + 48 } else { n + 55 }
 }
 
-pub(crate) fn put_byte(buf: &mut [u8], at: usize, n: u8)
-    requires { at + size_of one ≤ length buf.old }
-    ensures { buf.new ≡ sets buf.old at (byte n []) }
+pub(crate) fn put_byte(buf: &mut [u8], n: u8)
+    requires { size_of one ≤ length buf.old }
+    ensures { buf.new ≡ sets buf.old 0 (byte n []) }
 {
-    buf[at] = digit(n / 16);
-    buf[at + 1] = digit(n % 16);
+    buf[0] = digit(n / 16);
+    buf[1] = digit(n % 16);
 }
 
-pub(crate) fn put_number(buf: &mut [u8], at: usize, n: u16)
-    requires { at + size_of two ≤ length buf.old }
-    ensures { buf.new ≡ sets buf.old at (number n []) }
+// Kept: `to_be_bytes` would make an array, and its two bytes would be taken out again.
+pub(crate) fn put_number(buf: &mut [u8], n: u16)
+    requires { size_of two ≤ length buf.old }
+    ensures { buf.new ≡ sets buf.old 0 (number n []) }
 {
-    put_byte(buf, at, (n / 256) as u8);
-    put_byte(buf, at + BYTE, (n % 256) as u8);
+    put_byte(buf, (n / 256) as u8);
+    put_byte(&mut buf[BYTE..], (n % 256) as u8);
 }
 
 // Two numbers in a row.
-pub(crate) fn put_two(buf: &mut [u8], at: usize, a: u16, b: u16)
-    requires { at + span (two ∷ two ∷ []) ≤ length buf.old }
-    ensures { buf.new ≡ sets buf.old at (number a (number b [])) }
+pub(crate) fn put_two(buf: &mut [u8], a: u16, b: u16)
+    requires { span (two ∷ two ∷ []) ≤ length buf.old }
+    ensures { buf.new ≡ sets buf.old 0 (number a (number b [])) }
 {
-    put_number(buf, at, a);
-    put_number(buf, at + NUMBER, b);
+    put_number(buf, a);
+    put_number(&mut buf[NUMBER..], b);
 }
 
 const TWO: usize = NUMBER + NUMBER;
 
 // Four numbers in a row.
-pub(crate) fn put_four(buf: &mut [u8], at: usize, a: u16, b: u16, c: u16, d: u16)
-    requires { at + span (two ∷ two ∷ two ∷ two ∷ []) ≤ length buf.old }
-    ensures { buf.new ≡ sets buf.old at (number a (number b (number c (number d [])))) }
+pub(crate) fn put_four(buf: &mut [u8], a: u16, b: u16, c: u16, d: u16)
+    requires { span (two ∷ two ∷ two ∷ two ∷ []) ≤ length buf.old }
+    ensures { buf.new ≡ sets buf.old 0 (number a (number b (number c (number d [])))) }
 {
-    put_two(buf, at, a, b);
-    put_two(buf, at + TWO, c, d);
+    put_two(buf, a, b);
+    put_two(&mut buf[TWO..], c, d);
 }

@@ -1,26 +1,19 @@
 -- `frames::parse` meets its contract: rows 1 to 3 in order, then the frame.
 use mathlib.Core.Path.{◌≡◌, sym, ap, ◌∙◌}
 use mathlib.Core.Bool.{true}
-use borrow.Author.Tests.{eq-eqb, ne_eqb, not-true, not-false}
+use borrow.Author.Tests.{eq-eqb, ne_eqb, not-false}
 use lib.ListN.{length}
 use Rattle.records.specs.Answers.{accepted}
 use Rattle.frames.specs.Digits.{all_digits, byte_at}
 use Rattle.frames.specs.Kinds.{is_length, length_of}
 use Rattle.frames.specs.Steps.{Says}
 use Rattle.frames.proofs.KindLaws.{length-ge, length-le}
-use Rattle.frames.proofs.FrameLaws.{length-out, digits-out, kind-out, kind-in}
+use Rattle.frames.proofs.FrameLaws.{kind-out, kind-in}
 use Rattle.frames.proofs.parse.Goals as goal
-
-pub returns-then-not-is_length : goal.returns-then-not-is_length
-returns-then-not-is_length c = length-out _ (sym c.is_length.ensures ∙ not-true _ c.if-not-is_length.true-raw)
 
 pub line_of-read-requires : goal.line_of-read-requires
 line_of-read-requires c = let sized : is_length (length c.args.line.now) ≡ true = sym c.is_length.ensures ∙ not-false _ c.if-not-is_length.false-raw in
     length-le (length (c.args.line.now)) (sized)
-
-pub returns-then-not-read : goal.returns-then-not-read
-returns-then-not-read c = let sized : is_length (length c.args.line.now) ≡ true = sym c.is_length.ensures ∙ not-false _ c.if-not-is_length.false-raw in
-    digits-out _ (sized) (sym c.line_of-read.ensures.digits ∙ c.if-not-read.true)
 
 pub returns-then-length_of-line : goal.returns-then-length_of-line
 returns-then-length_of-line c = let sized : is_length (length c.args.line.now) ≡ true = sym c.is_length.ensures ∙ not-false _ c.if-not-is_length.false-raw in

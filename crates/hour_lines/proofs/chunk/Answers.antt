@@ -1,6 +1,6 @@
 -- `hour_lines::chunk` meets its contract: so many of its characters are read.
 use Prim.Native.Nat.{ℕ, ◌+◌, ◌*◌}
-use mathlib.Core.Path.{◌≡◌, ap₂}
+use mathlib.Core.Path.{ap₂}
 use native.Mathlib.Omega.{arith}
 use Rattle.hour_lines.proofs.ChunkLaws.{read_none, read_more}
 use Rattle.hour_lines.proofs.chunk.Goals as goal
@@ -12,6 +12,3 @@ pub loop-i-preserved : goal.loop-i-preserved
 loop-i-preserved c = let a = c.args in
     let said = ap₂ (λ (x y : ℕ). x * 16 + y) c.digit_value-high.ensures.0 c.digit_value-low.ensures.0 in
     rw c.is_digit-digits.ensures (read_more a.line.now a.from c.loop-i.i c.loop-i.digits c.loop-i.bytes (omega arith) c.loop-i.invariant _ said)
-
-pub returns : goal.returns
-returns c = let end : c.loop-i.i ≡ 16 = omega arith in rw end at c.loop-i.invariant

@@ -1,15 +1,11 @@
 -- `hour_lines::hour_at` meets its contract: each number of a chunk stands in the line where the chunk begins and so much further.
-use Prim.Native.Nat.{ℕ}
 use mathlib.Core.Path.{◌≡◌, ap, ap₂, ◌∙◌}
-use mathlib.Core.List.{List}
 use native.Mathlib.Omega.{arith}
-use lib.ListN.{get_or}
 use Rattle.records.specs.declared.Air.TheVariants.{Deficit, Pressure, Humidity}
 use Rattle.frames.specs.Digits.{number_at}
 use Rattle.frames.specs.Fields.{fields_at}
 use Rattle.frames.specs.Layout.{air_of}
 use Rattle.frames.proofs.KindLaws.{deficit-left}
-use Rattle.hour_lines.specs.Steps.{HourIn, hour_in}
 use Rattle.hour_lines.proofs.ChunkLaws.{number-says}
 use Rattle.hour_lines.proofs.HourLaws.{hour-is, pressure-says, soil-before, soil-last, air-pressure, air-humidity, air-deficit}
 use Rattle.hour_lines.proofs.hour_at.Goals as goal

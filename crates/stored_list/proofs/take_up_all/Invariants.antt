@@ -4,12 +4,12 @@ use Prim.Native.Nat.{◌-◌, ◌*◌}
 use lib.ListN.{length, take, drop}
 use Rattle.stored.specs.Packing.{total_width}
 use Rattle.stored.specs.Layout.{widths}
-use Rattle.stored_list.specs.InBytes.{accounts_in}
+use Rattle.stored_list.specs.InBytes.{accounts_in, count_in, list_in}
 use Rattle.stored_list.proofs.TakingLaws.{joined_to}
 use Rattle.stored_list.proofs.take_up_all.Given as goal
 
 abbrev pub invariant-loop-i : goal.invariant-loop-i
 invariant-loop-i l = record {
-  long : length l.accounts ≡ 6;
-  taken : accounts_in l.count l.bytes ≡ joined_to (take l.i l.accounts) (accounts_in (l.count - l.i) (drop (total_width widths * l.i) l.bytes));
+  long : length l.accounts ≡ count_in l.bytes;
+  taken : list_in l.bytes ≡ joined_to (take l.i l.accounts) (accounts_in (count_in l.bytes - l.i) (drop (total_width widths * l.i) l.bytes));
 }

@@ -1,11 +1,15 @@
 -- `stored_trial::put_code` meets its contract.
+use Prim.Native.Nat.{ℕ}
+use mathlib.Core.Path.{sym, ap, ◌∙◌}
 use mathlib.Core.List.{[]}
 use native.Mathlib.Omega.{arith}
-use lib.Seq.{sets-eq}
+use lib.Seq.{sets, sets-eq}
 use Rattle.stored.specs.Packing.{big_endian}
 use Rattle.stored_trial.specs.Layout.{code_width}
 use Rattle.stored_trial.proofs.put_code.Goals as goal
 
-pub returns : goal.returns
+pub returns-clause-is : goal.returns-clause-is
 unfolding big_endian
-returns c = rw (c.copy_from_slice.ensures.after, c.to_be_bytes.ensures, sets-eq (big_endian code_width c.args.code []) c.args.buffer.now 0 (omega arith))
+returns-clause-is c =
+    let b = c.args.buffer.now in
+    rw (c.copy_from_slice.ensures.after, c.to_be_bytes.ensures) (sym (sets-eq (big_endian code_width c.of_fed.result []) b 0 (omega arith)) ∙ ap (λ (n : ℕ). sets b 0 (big_endian code_width n [])) c.of_fed.ensures)

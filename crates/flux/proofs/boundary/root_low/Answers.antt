@@ -6,9 +6,6 @@ use Rattle.flux.proofs.boundary.root_low.Goals as goal
 tenth-lt : (n d : ℕ) → n ≤ 2000000000000000 → 10 ≤ d → n / d < 1125899906842624
 tenth-lt n d h k = omega (arith, div-mul-le_self n d, mul-le-mul_left (n / d) k)
 
-pub root-requires : goal.root-requires
-root-requires c = tenth-lt _ _ (omega arith) (omega arith)
-
 pub returns : goal.returns
 unfolding root_low
 returns c = rw c.max.ensures at c.root.ensures

@@ -10,24 +10,29 @@ use Rattle.flux.proofs.NumberLaws.{lower-factor, upper-factor, soil_water-factor
 use Rattle.exact.specs.Frac.{Is}
 use Rattle.flux.proofs.hour.opening.Goals as goal
 
-pub opening_low-requires : goal.opening_low-requires
-opening_low-requires c = let pair : let a = c.args in IsDeficitPair a.f (air_deficits a.h.air (above_of a.h.temperature)) c.f_vpd-dry.result = rw c.requires.deficits at c.f_vpd-dry.ensures.deficit_pair in
-    let f = c.args.f in
-    let h = c.args.h in
-    let x = above_of h.temperature in
-    record { number = rw c.requires.temperature (omega (arith, temperature_pair-le f c.requires.sound x)); vpd = lower-factor f c.requires.sound h.air x (pair).lower; sw = soil_water-factor f c.requires.sound _ c.f_sw-sw.ensures.is }
+pub invariant_of-sw : goal.invariant_of-sw
+invariant_of-sw c = record { factor = soil_water-factor c.args.dosing.stand.figures c.args.dosing.sound _ c.f_sw.ensures.is }
 
-pub opening_up-requires : goal.opening_up-requires
-opening_up-requires c = let pair : let a = c.args in IsDeficitPair a.f (air_deficits a.h.air (above_of a.h.temperature)) c.f_vpd-dry.result = rw c.requires.deficits at c.f_vpd-dry.ensures.deficit_pair in
-    let f = c.args.f in
-    let h = c.args.h in
-    let x = above_of h.temperature in
-    record { number = rw c.requires.temperature (omega (arith, temperature_pair-le f c.requires.sound x, temperature_pair-gap f c.requires.sound x)); vpd = upper-factor f c.requires.sound h.air x (pair).upper; sw = soil_water-factor f c.requires.sound _ c.f_sw-sw.ensures.is }
+pub invariant_of-opening_low : goal.invariant_of-opening_low
+invariant_of-opening_low c = let f = c.args.dosing.stand.figures in
+    record { small = rw c.requires.temperature (omega (arith, temperature_pair-le f c.args.dosing.sound (above_of c.args.h.temperature))) }
+
+pub invariant_of-opening_low-2 : goal.invariant_of-opening_low-2
+invariant_of-opening_low-2 c = let pair : let a = c.args in IsDeficitPair a.dosing.stand.figures (air_deficits a.h.air (above_of a.h.temperature)) c.f_vpd-dry.result = rw c.requires.deficits at c.f_vpd-dry.ensures.deficit_pair in
+    record { factor = lower-factor c.args.dosing.stand.figures c.args.dosing.sound c.args.h.air (above_of c.args.h.temperature) pair.lower }
+
+pub invariant_of-opening_up : goal.invariant_of-opening_up
+invariant_of-opening_up c = let f = c.args.dosing.stand.figures in
+    let x = above_of c.args.h.temperature in
+    record { small = rw c.requires.temperature (omega (arith, temperature_pair-le f c.args.dosing.sound x, temperature_pair-gap f c.args.dosing.sound x)) }
+
+pub invariant_of-opening_up-2 : goal.invariant_of-opening_up-2
+invariant_of-opening_up-2 c = let pair : let a = c.args in IsDeficitPair a.dosing.stand.figures (air_deficits a.h.air (above_of a.h.temperature)) c.f_vpd-dry.result = rw c.requires.deficits at c.f_vpd-dry.ensures.deficit_pair in
+    record { factor = upper-factor c.args.dosing.stand.figures c.args.dosing.sound c.args.h.air (above_of c.args.h.temperature) pair.upper }
 
 pub returns : goal.returns
-returns c = let pair : let a = c.args in IsDeficitPair a.f (air_deficits a.h.air (above_of a.h.temperature)) c.f_vpd-dry.result = rw c.requires.deficits at c.f_vpd-dry.ensures.deficit_pair in
-    let f = c.args.f in
+returns c = let pair : let a = c.args in IsDeficitPair a.dosing.stand.figures (air_deficits a.h.air (above_of a.h.temperature)) c.f_vpd-dry.result = rw c.requires.deficits at c.f_vpd-dry.ensures.deficit_pair in
+    let f = c.args.dosing.stand.figures in
     let h = c.args.h in
-    let vpd = pair in
-    let sw : Is c.f_sw-sw.result (soil_water_of f (soil_number h.soil)) = rw c.soil_number.ensures at c.f_sw-sw.ensures.is in
-    record { lower = c.opening_low.ensures ∙ opening_low-is f h sw vpd.lower (ap (λ b. b.lower) c.requires.temperature); upper = c.opening_up.ensures ∙ opening_up-is f h sw vpd.upper (ap (λ b. b.upper) c.requires.temperature) }
+    let sw : Is c.f_sw.result (soil_water_of f (soil_number h.soil)) = rw c.soil_number.ensures at c.f_sw.ensures.is in
+    record { lower = c.opening_low.ensures ∙ opening_low-is f h sw pair.lower (ap (λ b. b.lower) c.requires.temperature); upper = c.opening_up.ensures ∙ opening_up-is f h sw pair.upper (ap (λ b. b.upper) c.requires.temperature) }

@@ -1,6 +1,5 @@
 -- `flux::hour::pair` meets its contract.
-use Rattle.std.proofs.Common.{◌+◌, ◌-◌, ◌*◌, ap, ◌∙◌, arith}
-use Rattle.flux_spec.specs.Pair.{quotient}
+use Rattle.std.proofs.Common.{arith}
 use Rattle.flux_spec.proofs.BoundaryLaws.{root_low-200}
 use Rattle.flux_spec.proofs.QuotientSizes.{quotient-most}
 use Rattle.flux.proofs.hour.pair.Goals as goal
@@ -17,12 +16,3 @@ quotient-requires-2 c = (omega arith, c.requires.concentration.1, c.requires.sha
 pub overflow_add-quotient : goal.overflow_add-quotient
 overflow_add-quotient c = let a = c.args in
     omega (arith, c.quotient-2.ensures, quotient-most 533592000 2603 a.gmax a.c.upper a.s.upper c.root_low-r.result 0 (omega arith) c.requires.concentration.1 c.requires.share.1)
-
-pub returns : goal.returns
-returns c = let a = c.args in
-    record {
-      lower = c.saturating_sub.ensures
-          ∙ ap (λ q. q - 3600 * a.y) (c.quotient.ensures ∙ ap (λ r. quotient a.gmax a.c.lower a.s.lower (r + 1) 1) c.root_low-r.ensures);
-      upper = c.saturating_sub-2.ensures
-          ∙ ap (λ q. (q + 1) - 3600 * a.y) (c.quotient-2.ensures ∙ ap (λ r. quotient a.gmax a.c.upper a.s.upper r 0) c.root_low-r.ensures);
-    }

@@ -1,5 +1,7 @@
 -- `flux::hour::phenology` meets its contract: by warmth where its frame stands, else by the day.
-use Rattle.std.proofs.Common.{◌≡◌, true, false}
+use Rattle.std.proofs.Common.{◌≡◌, true, false, rules}
+use Rattle.records.proofs.SignedLaws.{at_plain}
+use Rattle.flux_spec.specs.Conductance.{above_of}
 use Rattle.measured.specs.Warmth.{has_warmth}
 use Rattle.flux_spec.proofs.PhenologyLaws.{by-warmth-is, by-day-is}
 use Rattle.flux.proofs.hour.phenology.Goals as goal
@@ -12,4 +14,4 @@ returns-then-has_warmth c = let a = c.args in
 pub returns : goal.returns
 returns c = let a = c.args in
     let none : has_warmth a.stand.age.warmth ≡ false = rw c.has_warmth.ensures at c.if-has_warmth.false in
-    rw (by-day-is a.stand a.h none) (rw c.requires at c.f_phen.ensures.is)
+    rw (by-day-is a.stand a.h none) (rw (at_plain c.args.h.temperature (search rules) above_of c.above-t.ensures) at c.f_phen.ensures.is)

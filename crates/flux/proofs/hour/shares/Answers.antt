@@ -1,24 +1,29 @@
 -- `flux::hour::shares` meets its contract.
-use Rattle.std.proofs.Common.{◌*◌, ◌^◌, ◌∙◌, arith}
+use Rattle.std.proofs.Common.{◌∙◌, arith}
 use Rattle.flux_spec.proofs.LightLaws.{light-order, light_up-le}
 use Rattle.flux_spec.proofs.OpeningLaws.{opening_low-le, opening_up-le}
-use Rattle.flux.specs.Steps.{Factor}
 use Rattle.flux.proofs.NumberLaws.{phenology-factor, share_low-is, share_up-is}
 use Rattle.flux.proofs.hour.shares.Goals as goal
 
-pub share_low-requires : goal.share_low-requires
-share_low-requires c = let phenology : Factor (2 * 10 ^ 9) c.phenology-phen.result = phenology-factor c.args.stand c.requires.sound c.args.h (omega (arith, c.well_formed.0.1.1.1.0)) (omega (arith, c.well_formed.0.1.1.1.0)) c.phenology-phen.ensures in
-    let f = c.args.stand.figures in
-    let h = c.args.h in
-    record { light = omega (arith, c.requires.light_low, light-order f h.ppfd, light_up-le f h.ppfd); phen = phenology; opening = omega (arith, c.requires.lower, opening_low-le f c.requires.sound h) }
+pub invariant_of-phen : goal.invariant_of-phen
+invariant_of-phen c = record { factor = phenology-factor c.args.dosing.stand c.args.dosing.sound c.args.h (omega arith) (omega arith) c.phenology.ensures }
 
-pub share_up-requires : goal.share_up-requires
-share_up-requires c = let phenology : Factor (2 * 10 ^ 9) c.phenology-phen.result = phenology-factor c.args.stand c.requires.sound c.args.h (omega (arith, c.well_formed.0.1.1.1.0)) (omega (arith, c.well_formed.0.1.1.1.0)) c.phenology-phen.ensures in
-    let f = c.args.stand.figures in
-    let h = c.args.h in
-    record { light = omega (arith, c.requires.light_up, light_up-le f h.ppfd); phen = phenology; opening = omega (arith, c.requires.upper, opening_up-le f c.requires.sound h) }
+pub invariant_of-share_low : goal.invariant_of-share_low
+invariant_of-share_low c = let f = c.args.dosing.stand.figures in
+    record { small = omega (arith, c.requires.light_low, light-order f c.args.h.ppfd, light_up-le f c.args.h.ppfd) }
+
+pub invariant_of-share_low-2 : goal.invariant_of-share_low-2
+invariant_of-share_low-2 c = let d = c.args.dosing in
+    record { small = omega (arith, c.requires.lower, opening_low-le d.stand.figures d.sound c.args.h) }
+
+pub invariant_of-share_up : goal.invariant_of-share_up
+invariant_of-share_up c = record { small = omega (arith, c.requires.light_up, light_up-le c.args.dosing.stand.figures c.args.h.ppfd) }
+
+pub invariant_of-share_up-2 : goal.invariant_of-share_up-2
+invariant_of-share_up-2 c = let d = c.args.dosing in
+    record { small = omega (arith, c.requires.upper, opening_up-le d.stand.figures d.sound c.args.h) }
 
 pub returns : goal.returns
-returns c = let stand = c.args.stand in
+returns c = let stand = c.args.dosing.stand in
     let h = c.args.h in
-    record { lower = c.share_low.ensures ∙ share_low-is stand h c.phenology-phen.ensures c.requires.light_low c.requires.lower; upper = c.share_up.ensures ∙ share_up-is stand h c.phenology-phen.ensures c.requires.light_up c.requires.upper }
+    record { lower = c.share_low.ensures ∙ share_low-is stand h c.phenology.ensures c.requires.light_low c.requires.lower; upper = c.share_up.ensures ∙ share_up-is stand h c.phenology.ensures c.requires.light_up c.requires.upper }

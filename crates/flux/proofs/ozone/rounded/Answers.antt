@@ -1,18 +1,17 @@
 -- `flux::ozone::rounded` meets its contract.
-use Rattle.std.proofs.Common.{◌/◌, sym, mul-le-mul_left, div-mul-le_self, arith}
+use Rattle.std.specs.Prelude.{min}
+use Rattle.std.proofs.Common.{◌≡◌, ℕ, zero, suc, ◌+◌, ◌/◌, ◌%◌, ◌<◌, sym, refl, ◌∙◌, arith, div-add-mod'}
+use Rattle.exact.specs.Frac.{◌over◌}
+use Rattle.exact.specs.Rounding.{round_up}
 use Rattle.flux.proofs.NumberLaws.{over-down, over-rest, over-whole}
 use Rattle.flux.proofs.ozone.rounded.Goals as goal
 
-pub overflow_mul-lower : goal.overflow_mul-lower
-overflow_mul-lower c = record { fits = omega (arith, div-mul-le_self c.args.n c.args.d) }
+up-is : (n d r : ℕ) → 0 < d → n % d ≡ r → n / d + min 1 r ≡ round_up (n over d)
+up-is n d zero h e = omega (arith, over-whole n d h (omega (arith, e, div-add-mod' n d)))
+up-is n d (suc r) h e = omega (arith, over-rest n d h (omega (arith, e, div-add-mod' n d)))
 
-pub overflow_add-upper : goal.overflow_add-upper
-overflow_add-upper c = let a = c.args in record { fits = omega (arith, mul-le-mul_left (a.n / a.d) c.requires) }
+pub returns-clause-lower : goal.returns-clause-lower
+returns-clause-lower c = sym (over-down c.args.n c.args.d c.requires)
 
-pub returns-then-lower-d : goal.returns-then-lower-d
-returns-then-lower-d c = let a = c.args in
-    record { lower = sym (over-down a.n a.d c.requires); upper = sym (over-rest a.n a.d c.requires (omega arith)) }
-
-pub returns-else-lower-d : goal.returns-else-lower-d
-returns-else-lower-d c = let a = c.args in
-    record { lower = sym (over-down a.n a.d c.requires); upper = sym (over-whole a.n a.d c.requires (omega arith)) }
+pub returns-clause-upper : goal.returns-clause-upper
+returns-clause-upper c = c.div_ceil.ensures ∙ up-is c.args.n c.args.d _ c.requires refl

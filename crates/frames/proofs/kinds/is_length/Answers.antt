@@ -2,7 +2,6 @@
 use mathlib.Core.Path.{sym, ◌∙◌}
 use mathlib.Core.List.{◌∷◌}
 use native.Mathlib.Omega.{arith}
-use borrow.Author.Rules.{rules}
 use lib.ListN.{drop_of_length-le}
 use Rattle.frames.specs.Kinds.{lengths, length_of}
 use Rattle.frames.proofs.KindLaws.{among-found, among-passed, among_none}

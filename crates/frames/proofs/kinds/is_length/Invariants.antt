@@ -1,8 +1,7 @@
 -- `frames::kinds::is_length` meets its contract: the kinds that are left have the answer of all.
-use Prim.Native.Nat.{◌≤◌, ◌-◌}
 use mathlib.Core.Path.{◌≡◌}
 use mathlib.Core.List.{◌∷◌}
-use lib.ListN.{length, drop}
+use lib.ListN.{drop}
 use Rattle.frames.specs.Kinds.{lengths, among, is_length}
 use Rattle.frames.proofs.kinds.is_length.Given as goal
 

@@ -1,7 +1,9 @@
 -- `frames::layout::frame_at` meets its contract: a line's kind tells the length that its fields need.
+use Prim.Native.Nat.{ℕ}
 use mathlib.Core.Path.{refl, sym, ap, ◌∙◌}
 use native.Mathlib.Omega.{arith}
 use Rattle.frames.specs.Digits.{byte_at}
+use Rattle.frames.specs.Kinds.{length_of}
 use Rattle.frames.specs.Layout.{frame_of}
 use Rattle.records.specs.declared.Raw.{Raw}
 use Rattle.frames.proofs.KindLaws.{kind-cases, hour-left}
@@ -15,16 +17,16 @@ returns-in-1 c = λ l says sized.
     ap Raw.Header (c.header_at.ensures l says (sized-le l sized kind)) ∙ sym (frame_is l kind)
 
 pub returns-in-3 : goal.returns-in-3
-unfolding frame_of
+unfolding frame_of length_of
 returns-in-3 c = λ l says sized.
     let kind = sym (c.byte_at-kind.ensures l says (sized-ge l sized)) ∙ c.in-3.is in
-    ap Raw.End (c.end_at.ensures l says (sized-le l sized kind)) ∙ sym (frame_is l kind)
+    ap (λ (n : ℕ). Raw.End (record { hours = n })) (c.number_at-hours.ensures l says (sized-le l sized kind)) ∙ sym (frame_is l kind)
 
 pub returns-in-6 : goal.returns-in-6
-unfolding frame_of
+unfolding frame_of length_of
 returns-in-6 c = λ l says sized.
     let kind = sym (c.byte_at-kind.ensures l says (sized-ge l sized)) ∙ c.in-6.is in
-    ap Raw.Ceiling (c.ceiling_at.ensures l says (sized-le l sized kind)) ∙ sym (frame_is l kind)
+    ap (λ (n : ℕ). Raw.Ceiling (record { ozone = n })) (c.number_at-ozone.ensures l says (sized-le l sized kind)) ∙ sym (frame_is l kind)
 
 pub returns-in-7 : goal.returns-in-7
 unfolding frame_of

@@ -1,7 +1,7 @@
 -- `power::words::times` meets its contract.
 use Rattle.std.proofs.Common.{ℕ, ◌+◌, ◌*◌, refl, ◌∙◌, arith, get_or, get_or-set_other}
 use Rattle.power.specs.Steps.{worth}
-use Rattle.power.proofs.WordLaws.{product-fits, times-step, times-ends, times-carries}
+use Rattle.power.proofs.WordLaws.{product-fits, times-step, times-holds}
 use Rattle.power.proofs.words.times.Goals as goal
 
 pub loop-i-init : goal.loop-i-init
@@ -23,8 +23,5 @@ loop-i-preserved c = let a = c.args in
       λ j h. get_or-set_other c.loop-i.a i j _ 0 (λ e. omega (arith, e, h)) ∙ c.loop-i.invariant.2 j (omega (arith, h)),
     )
 
-pub returns-then-carry-eq0 : goal.returns-then-carry-eq0
-returns-then-carry-eq0 c = (times-ends _ _ c.loop-i.a c.loop-i.i c.args.n c.loop-i.carry (omega arith) (omega arith) c.loop-i.invariant.0, omega arith)
-
 pub returns : goal.returns
-returns c = (times-carries _ _ c.loop-i.a c.loop-i.i c.args.n c.loop-i.carry (omega arith) (omega arith) c.loop-i.invariant.0, omega arith)
+returns c = times-holds _ _ c.loop-i.a c.loop-i.i c.loop-i.carry (omega arith) (omega arith) c.loop-i.invariant.0

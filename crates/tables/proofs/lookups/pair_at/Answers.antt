@@ -1,5 +1,5 @@
 -- `tables::lookups::pair_at` meets its contract: each tree's table passes two computed tests.
-use mathlib.Core.Path.{refl, sym}
+use mathlib.Core.Path.{refl}
 use native.Mathlib.Omega.{arith}
 use Rattle.trees.specs.Temperature.{tried, allowed}
 use Rattle.trees.proofs.SoundLaws.{boreal_spruce-sound, birch-sound, continental_spruce-sound, beech-sound, oak-sound, evergreen-sound}

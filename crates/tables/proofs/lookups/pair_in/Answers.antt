@@ -1,5 +1,4 @@
 -- `tables::lookups::pair_in` meets its contract.
-use mathlib.Core.Path.{sym}
 use native.Mathlib.Omega.{arith}
 use Rattle.trees.proofs.TemperatureTrim.{floor-pair}
 use Rattle.tables.proofs.lookups.pair_in.Goals as goal

@@ -1,7 +1,0 @@
--- `stored::storing::put_counts` meets its contract.
-use Rattle.stored.specs.Packing.{big_endian}
-use Rattle.stored.proofs.storing.put_counts.Goals as goal
-
-pub returns : goal.returns
-unfolding big_endian
-returns c = rw (c.put-3.ensures, c.put-2.ensures, c.put.ensures)
