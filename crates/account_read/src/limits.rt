@@ -46,7 +46,7 @@ pub(crate) fn gap_each(season: Season) -> u64
 }
 
 // tenths of ppb h
-// Kept: with its season, as the definition has it.
+// Kept: the definition takes the season, as those of `most_hour` and `gap_each` do, and the clause is that definition.
 pub(crate) fn most_aot40(season: Season) -> u64
     ensures { result ≡ most_aot40 season }
 {

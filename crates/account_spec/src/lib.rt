@@ -1,4 +1,4 @@
-// The season account, the book of demand 3 and the rules of both (document 01, "Account" and "The book of demand 3"): definitions and laws only.
+// The season account, the book of demand 3 and the rules of both (document 01, "Account" and "The book of demand 3"): definitions and laws; and a state of an account, a phase and a kind of their numbers.
 #![tactic(auto)]
 
 ghost use Rattle.std.specs.Prelude.{◌≡◌, ok_or};

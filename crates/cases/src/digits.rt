@@ -4,7 +4,7 @@ ghost use Rattle.frames.specs.Digits.{value_of};
 ghost use Rattle.records.specs.Temperature.{signed_of};
 ghost use Rattle.cases.specs.Digits.{hex_at};
 
-// Kept: `frames::digit_value` says a value for every byte, so with it stand `is_digit` and the 0 as well.
+// Kept: `frames::digit_value` has a value for a byte that is no digit too, so `is_digit` and the 0 would still stand here.
 fn value(c: u8) -> u8
     ensures { result ≡ value_of c }
 {

@@ -13,7 +13,7 @@ const ONE: u64 = 1000000000;
 const SLACK: u64 = 7;
 
 // exp(-n/10000) for n = d times a place of base 100.
-// Kept: `place` serves the contract alone, which says by it whose place's table is read.
+// Kept: `place` is read by the contract alone; a struct of the table with the place as a ghost would be made at each of the three calls.
 fn decay_entry(table: &[u32], place: usize, d: usize) -> u64
     requires table { IsDecayTable place table.now }
     requires digit { d < 100 }

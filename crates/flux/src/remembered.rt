@@ -2,7 +2,7 @@
 // t is the temperature in tenths of a degree above -50.0 °C.
 // Kept: no heap, so 8 bytes of the stack for each temperature; a struct of two `u32` would take as many, and still hold f_temp's numbers added up and say none
 // by 0.
-// Kept for speed: trees 1 to 6 too; with their tables read at each hour it took 2 to 3 percent longer.
+// Kept for speed: trees 1 to 6 are remembered too; a year took 2 to 3 percent longer where their tables were read at each hour.
 ghost use Rattle.std.specs.Prelude.{◌≡◌, ◌-◌, ◌/◌, ◌%◌, ◌<◌, ◌≤◌};
 ghost use Rattle.flux.specs.Remembered.{remembered_of, Remembers};
 
@@ -29,7 +29,7 @@ fn worked(dosing: Dosing, t: u16) -> u64
 
 // Out of the memory where it has the temperature; a memory that is too short remembers nothing.
 // Kept: a struct of the dosing and the memory would be lent for writing, so each contract would say besides that a call leaves the dosing as it was.
-// Kept for speed: `worked` is called at two places, so that the compiler leaves it out of the loop over the lines.
+// Kept for speed: `worked` is called at two places, so that the compiler leaves it out of the loop over the lines (docs/DECISIONS.md, 148).
 pub(crate) fn remembered(dosing: Dosing, memory: &mut [u64], t: u16) -> u64
     requires highest { t ≤ 1100 }
     requires memory { Remembers dosing.stand.figures memory.old }

@@ -14,7 +14,7 @@ pub(crate) fn measured_out(tree: u8, parameters: Parameters) -> bool
 }
 
 // Row 7 where the year is not known: no year has more than 366 days.
-// Kept: `period_out` of records goes by a header, whose year is known.
+// Kept: `period_out` of records takes a header; here one would have to be made, with a year of 366 days.
 pub(crate) fn days_out(f: Figures, first: u16, last: u16) -> bool
     ensures { result ≡ days_out f first last }
 {

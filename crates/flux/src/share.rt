@@ -31,7 +31,7 @@ const SHORT: u64 = 2000000000;
 const BASE: u64 = 32768;
 
 // A number times a factor, rounded down.
-// Kept: each rounding has an equation of its own, here and in the three pairs below; one function of both would state the two and be told at each call which.
+// Kept: each rounding has an equation of its own, here and in the pairs below; with `more`, as `by_digits` has it, each call would have to give the denominator less 1.
 fn times_down(part: Part, by: Short) -> Part
     ensures { result.n ≡ part.n * by.x.num / by.x.den }
 {

@@ -7,7 +7,7 @@ ghost use Rattle.frames.specs.Steps.{bits_of, Values, Says, Finds};
 use crate::widths::{BYTE, HourLine, LONGEST};
 
 // A capital hexadecimal digit.
-// Kept for speed: `&` and `|`, not `&&` and `||`, so there is no branch.
+// Kept for speed: `&` and `|`, not `&&` and `||`, so there is no branch (docs/DECISIONS.md, 40).
 #[tactic(auto, unfolding(crate::specs::Digits::is_digit))]
 pub fn is_digit(c: u8) -> bool
     ensures { result ≡ is_digit c }
@@ -24,7 +24,7 @@ pub fn digit_value(c: u8) -> u8
 }
 
 // The values of a line's characters, and whether all are digits.
-// Kept for speed: an Option would be made behind a branch on `digits`, its values copied, and `parse` would test it again.
+// Kept: an Option would be made by a test of `digits` and taken apart by `parse` at once, by the same test.
 #[derive(Clone, Copy)]
 pub(crate) struct Line {
     pub digits: bool,
@@ -43,7 +43,7 @@ impl Line {
         high * 16 + low
     }
 
-    // Kept: `from_be_bytes` would take an array made of the two bytes, for this sum.
+    // Kept: the clause is high · 256 + low, which this sum is.
     #[tactic(auto, unfolding(crate::specs::Digits::number_at))]
     pub(crate) fn number_at(&self, at: usize) -> u16
         requires { at + size_of two ≤ longest }
@@ -56,7 +56,7 @@ impl Line {
 }
 
 // A line of n characters. A byte that is no digit does not end the loop: with no branch the bytes are read many at a time.
-// Kept for speed: the length is an argument, so that an hour line's is a constant number of turns.
+// Kept for speed: the length is an argument, so that an hour line's is a constant number of turns (docs/DECISIONS.md, 174).
 fn line_of_length(s: &[u8], n: usize) -> Line
     requires { (n ≡ length s.now) × (n ≤ longest) }
     ensures digits { result.digits ≡ all_digits s.now }

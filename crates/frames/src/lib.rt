@@ -51,7 +51,7 @@ fn hour_record(tree: u8, raw: RawHour) -> Result<Record, Refusal>
 }
 
 // A frame to a record; the given tree matters for an hour only.
-// Kept for speed: the rows are asked for by kind, since the compiler does not inline `check` of a record.
+// Kept: the rows are asked for by kind, where the frame is taken apart already; `check` of a record would take it apart again.
 #[tactic(auto, unfolding(crate::specs::Frames::record_of, crate::specs::Frames::sound_of, records::specs::Ranges::checked))]
 pub fn record_of(tree: u8, frame: Raw) -> Result<Record, Refusal>
     ensures { outcome_of result ≡ record_of tree frame }

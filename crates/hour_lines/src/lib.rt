@@ -11,7 +11,7 @@ use frames::widths::{HourLine, PressureLine};
 use frames::{Air, Raw, RawHour, Refusal};
 
 // Of the 16 characters from a place on: whether all are digits, and the byte that each says with the character after it.
-// Kept for speed: no branch in the loop, and one test of the three flags in `read`.
+// Kept for speed: no branch in the loop, and one test of the three flags in `read` (docs/DECISIONS.md, 151).
 fn chunk(line: &[u8], from: usize, bytes: &mut [u8; 16]) -> bool
     requires { from + 17 ≤ length line.now }
     ensures { ReadTo line.now from 16 result bytes.new }
@@ -27,7 +27,7 @@ fn chunk(line: &[u8], from: usize, bytes: &mut [u8; 16]) -> bool
 }
 
 // The two-byte number whose digits begin at a place of a chunk.
-// Kept: `from_be_bytes` would take an array made of the two bytes, for this sum.
+// Kept: the clause is high · 256 + low, which this sum is.
 fn number(bytes: &[u8; 16], at: usize) -> u16
     requires { at + 2 < 16 }
     ensures { result ≡ get_or bytes.now at 0 * 256 + get_or bytes.now (at + 2) 0 }
@@ -78,7 +78,7 @@ fn hour_at(kind: u8, a: &[u8; 16], b: &[u8; 16], c: &[u8; 16]) -> RawHour
 }
 
 // The digits of a line of an hour's kind, 0 for any other kind.
-// Kept for speed: an Option would be one more branch in `read`, on whether the kind is an hour's, before the lengths are compared.
+// Kept: `read` compares a line's length with it, and no line of an hour has none; an Option would be one test more.
 #[tactic(auto, unfolding(frames::specs::Kinds::length_of))]
 fn length_of(kind: u8) -> usize
     ensures { 0 < result → LengthOf kind result }

@@ -50,7 +50,7 @@ pub fn is_fed(p: Parameters) -> bool
 }
 
 // Leaf age of a season whose frame of kind 08 was not fed.
-// Kept: a caller that asks for one hour's dose gives it (README).
+// Kept: a public function; a caller of `flux::hour_dose` gives what it answers (README).
 pub fn no_warmth() -> Warmth
     ensures { result ≡ no_warmth }
 {
@@ -121,7 +121,7 @@ pub fn figures(p: Parameters) -> Figures
 }
 
 // The figures of the tree with a number, 1 to 7; those of tree 7 before its parameters are fed.
-// Kept for speed: apart from `figures_in`, since no powers are worked out here and the compiler inlines it.
+// Kept: apart from `figures_in`, which works out the powers of the parameters; here there are none.
 #[tactic(auto, unfolding(crate::specs::Figures::figures_in, power::specs::Powers::powers_of))]
 pub fn figures_before(tree: u8) -> Option<Figures>
     ensures { result ≡ figures_in no_parameters tree }

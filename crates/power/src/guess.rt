@@ -52,7 +52,7 @@ fn value(s: Terms) -> f64 {
 }
 
 // From 1 to 10⁹.
-// Kept: `search` and `is_certain` ask for these limits as well, each of a bare number; a struct around it would be opened at once in both.
+// Kept: `search` and `is_certain` ask for these limits as well, each of a bare number; both would take the number out of a struct at once.
 pub(crate) fn guess(s: Terms) -> u32
     ensures { (0 < result) × (result ≤ 1000000000) }
 {

@@ -98,7 +98,7 @@ pub fn floor_of(fmin: u16) -> Bounds
     }
 }
 
-// Kept: `terms_at`, `root_at` and this, each called by the next, ask `Fits`; a struct around the figures would be made once, in `f_temp`, and opened at each figure.
+// Kept: `terms_at`, `root_at` and this, each called by the next, ask `Fits`; a struct around the figures would be made once, in `f_temp`, and its field named at each figure.
 #[tactic(auto, unfolding(trees::specs::Temperature::temperature_pair))]
 fn pair_at(f: Figures, x: u16) -> Bounds
     requires { Fits f }

@@ -98,7 +98,7 @@ pub struct RawHour {
 }
 
 // A frame that rows 1 to 3 let pass.
-// Kept: it differs from `Record` in its hour alone; the arms of every definition over records name one of the two, and with one type they would name neither.
+// Kept: it differs from `Record` in its hour alone; one type with the hour as a parameter would put that parameter into every definition over either.
 #[derive(Clone, Copy)]
 pub enum Raw {
     Header(Header),

@@ -1,6 +1,5 @@
 // A number of a width at a place of an account's bytes, high byte first.
-// Kept: the buffer is an array of fixed size, and a place and a width are those of specs/Layout, where `widths` has them once; a cursor would say at each call
-// where it stands.
+// Kept: each field has a fixed place in a fixed array; a cursor would be handed from call to call.
 ghost use Rattle.std.specs.Prelude.{◌≡◌, [], ◌∷◌, ◌+◌, ◌^◌, ◌≤◌, ◌<◌};
 ghost use Rattle.std.proofs.lemmas.List.Edits.{sets};
 ghost use Rattle.stored.specs.Packing.{big_endian, big_endian_at, packed, unpacked, slice};

@@ -76,7 +76,7 @@ pub fn kind_number(kind: Option<HourKind>) -> u8
 }
 
 // The kind of season that an hour's frame makes.
-// Kept: `HourKind` stands above frames, whose `air_kind` gives the line's byte.
+// Kept: a From in account_spec would be this match, and this public function stays.
 pub fn kind_of(air: Air) -> HourKind
     ensures { result ≡ hour_kind air }
 {

@@ -22,7 +22,7 @@ pub(crate) fn put_byte(buf: &mut [u8], n: u8)
     buf[1] = digit(n % 16);
 }
 
-// Kept: `to_be_bytes` would make an array, and its two bytes would be taken out again.
+// Kept: each byte is written as two digits, so an array of the two bytes would be taken apart at once.
 pub(crate) fn put_number(buf: &mut [u8], n: u16)
     requires { size_of two ≤ length buf.old }
     ensures { buf.new ≡ sets buf.old 0 (number n []) }
