@@ -41,7 +41,9 @@ def functions(path):
     for found in FN.finditer(text):
         end = re.compile(rf"^{found.group(1)}\}}$", re.M).search(text, found.start())
         whole = text[found.start() : end.end() if end else len(text)]
-        opening = re.search(r"^ *\{$|\{$", whole, re.M)
+        opening = re.search(r"\{$|;$", whole, re.M)  # a trait's function may have no body
+        if opening and opening.group() == ";":
+            whole = whole[: opening.start()]
         head = whole[: opening.start()] if opening else whole
         yield Function(path, text.count("\n", 0, found.start()) + 1, found.group(3), head, whole[len(head) :])
 

@@ -70,12 +70,14 @@ def values() -> list[str]:
     lines = [
         "// f_temp's tables, made by tools/temperature_tables.py: a·w^(p/q) rounded down to nine decimals, for each tenth of a degree above Tmin, below",
         "// Tmax and up to 60.0 °C, from the first to the last that is not under f_min. FIRST is the first entry's reading, tenths of a degree above -50.0 °C.",
+        "use crate::lookups::Table;",
+        f"use trees::{{{', '.join(sorted(TREES))}}};",
     ]
     for tree in TREES:
         entries = table(tree)
-        lines += ["", "#[derive(Clone, Copy)]", f"pub(crate) struct {tree};", "", f"impl {tree} {{", f"    pub const FIRST: u16 = {min(entries)};", ""]
-        lines += array(f"pub const TEMPERATURE: [u32; {len(entries)}]", list(entries.values()), "    ")
-        lines += ["}"]
+        lines += ["", f"impl Table for {tree} {{", f"    ghost FIRST = {{ {min(entries)} }};", "", f"    const FIRST: u16 = {min(entries)};", ""]
+        lines += ["    fn entries() -> &'static [u32] {", f"        &{snake(tree).upper()}", "    }", "}", ""]
+        lines += array(f"const {snake(tree).upper()}: [u32; {len(entries)}]", list(entries.values()))
     return lines
 
 
@@ -106,7 +108,7 @@ def trimmed_laws() -> list[str]:
     ]
     for tree in TREES:
         name, ends = snake(tree), f"{min(table(tree))} {max(table(tree))}"
-        lines += ["", f"pub {name}-trimmed : IsTrimmed {name} {ends}", "unfolding tried allowed", f"{name}-trimmed = trimmed-tested {name} {ends} {name}-sound tt"]
+        lines += ["", f"{name}-trimmed : IsTrimmed {name} {ends}", "unfolding tried allowed", f"{name}-trimmed = trimmed-tested {name} {ends} {name}-sound tt"]
     lines += ["", "pub trimmed : Trimmed", "trimmed = record {"]
     return lines + [f"  {snake(tree)}_table = {snake(tree)}-trimmed;" for tree in TREES] + ["}"]
 

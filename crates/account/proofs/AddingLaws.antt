@@ -1,6 +1,6 @@
 -- The pair of an hour by what `hour_dose` says, and the account with an hour added by whether it is counted.
 use Rattle.std.specs.Prelude.{Some, Result, Ok, Err}
-use Rattle.std.specs.Result.{result_unwrap_or}
+use Rattle.std.specs.Result.{ResultUnwrapsOrElse}
 use Prim.Native.Nat.{ℕ, ◌+◌, ◌≤◌}
 use mathlib.Core.Path.{◌≡◌, refl, sym, ap, subst, ◌∙◌}
 use mathlib.Core.Bool.{Bool, true, false, cond}
@@ -93,15 +93,15 @@ module _ (season : Season) (c : Carried) (h : Hour) where
 
   -- 0 and 0 where it refuses the hour
   module _ (counted : is_counted h ≡ true) where
-    pub pair-or : (d : Result Bounds Refusal) → outcome_of d ≡ dose → result_unwrap_or d (record { lower = 0; upper = 0 }) ≡ pair_by season c.sum h
-    pair-or (Ok pair) e = pair-given counted (Ok pair) e pair refl
-    pair-or (Err r) e = pair-none counted (Err r) e r refl
+    pub pair-or : (d : Result Bounds Refusal) (P : Bounds → Type 0) → ((y : Bounds) → P y → y ≡ record { lower = 0; upper = 0 }) → (x : Bounds) → outcome_of d ≡ dose → ResultUnwrapsOrElse d P x → x ≡ pair_by season c.sum h
+    pair-or (Ok pair) P none x e is = is ∙ pair-given counted (Ok pair) e pair refl
+    pair-or (Err r) P none x e is = none x is ∙ pair-none counted (Err r) e r refl
 
     pub pair-or-small :
-        (d : Result Bounds Refusal) → outcome_of d ≡ dose →
-        ((result_unwrap_or d (record { lower = 0; upper = 0 })).lower ≤ most_hour season) × ((result_unwrap_or d (record { lower = 0; upper = 0 })).upper ≤ most_hour season)
-    pair-or-small (Ok pair) e = pair_small counted (Ok pair) e pair refl
-    pair-or-small (Err r) e = (omega arith, omega arith)
+        (d : Result Bounds Refusal) (P : Bounds → Type 0) → ((y : Bounds) → P y → y ≡ record { lower = 0; upper = 0 }) → (x : Bounds) → outcome_of d ≡ dose → ResultUnwrapsOrElse d P x →
+        (x.lower ≤ most_hour season) × (x.upper ≤ most_hour season)
+    pair-or-small (Ok pair) P none x e is = rw is (pair_small counted (Ok pair) e pair refl)
+    pair-or-small (Err r) P none x e is = rw (none x is) (omega arith, omega arith)
 
 -- ---- an hour added
 

@@ -5,14 +5,14 @@ ghost use Rattle.flux_spec.specs.Dose.{is_counted};
 ghost use Rattle.account_spec.specs.Limits.{most_hour};
 ghost use Rattle.account_spec.specs.Hours.{not_negative};
 ghost use Rattle.account_spec.specs.Account.{total_out};
-ghost use Rattle.account_spec.specs.Rules.{opened, with_ceiling, with_parameters, with_warmth, with_season, ended};
+ghost use Rattle.account_spec.specs.Rules.{opened, with_season, ended};
 ghost use Rattle.account.specs.Entering.{pair_by, carried_by, hour_added, entered_by, sums_room, has_room, is_temperate};
 ghost use Rattle.account.specs.Steps.{Roomy};
 
 use crate::{Account, Carried, HourKind, Phase, Season, Sums};
 use exact::Bounds;
 use flux::Age;
-use frames::{Ceiling, Header, Hour, Parameters, Record, Warmth};
+use frames::{Header, Hour, Record, Warmth};
 
 // The pair of a counted hour as `hour_dose` answers it, 0 and 0 where it refuses; it refuses none that the rows let in.
 fn pair_of(season: Season, sum: u32, h: Hour) -> Bounds
@@ -33,7 +33,7 @@ fn pair_of(season: Season, sum: u32, h: Hour) -> Bounds
         season.ceiling,
         h,
     );
-    dose.unwrap_or(Bounds { lower: 0, upper: 0 })
+    dose.unwrap_or_default()
 }
 
 fn open(header: Header) -> Account
@@ -74,12 +74,8 @@ pub(crate) fn temperate(record: Record) -> bool
     ensures { result ≡ is_temperate «record» }
 {
     match record {
-        Record::Header(_) => true,
         Record::Hour(h) => !records::temperature_out(h.temperature),
-        Record::End(_) => true,
-        Record::Ceiling(_) => true,
-        Record::Parameters(_) => true,
-        Record::Warmth(_) => true,
+        _ => true,
     }
 }
 
@@ -148,37 +144,10 @@ fn end(a: Account) -> Account
     }
 }
 
-fn set_ceiling(a: Account, c: Ceiling) -> Account
-    ensures { result ≡ with_season a (with_ceiling a.season c) }
+fn with_season(a: Account, season: Season) -> Account
+    ensures { result ≡ with_season a season }
 {
-    Account {
-        season: Season {
-            ceiling: c.ozone,
-            ..a.season
-        },
-        ..a
-    }
-}
-
-fn set_parameters(a: Account, parameters: Parameters) -> Account
-    ensures { result ≡ with_season a (with_parameters a.season parameters) }
-{
-    Account {
-        season: Season {
-            parameters,
-            ..a.season
-        },
-        ..a
-    }
-}
-
-fn set_warmth(a: Account, warmth: Warmth) -> Account
-    ensures { result ≡ with_season a (with_warmth a.season warmth) }
-{
-    Account {
-        season: Season { warmth, ..a.season },
-        ..a
-    }
+    Account { season, ..a }
 }
 
 #[tactic(auto, unfolding(crate::specs::Entering::entered_by, account_spec::specs::Rules::entered))]
@@ -191,8 +160,20 @@ pub(crate) fn enter(a: Account, record: Record) -> Account
         Record::Header(h) => open(h),
         Record::Hour(h) => add_hour(a, h),
         Record::End(_) => end(a),
-        Record::Ceiling(c) => set_ceiling(a, c),
-        Record::Parameters(p) => set_parameters(a, p),
-        Record::Warmth(w) => set_warmth(a, w),
+        Record::Ceiling(c) => with_season(
+            a,
+            Season {
+                ceiling: c.ozone,
+                ..a.season
+            },
+        ),
+        Record::Parameters(parameters) => with_season(
+            a,
+            Season {
+                parameters,
+                ..a.season
+            },
+        ),
+        Record::Warmth(warmth) => with_season(a, Season { warmth, ..a.season }),
     }
 }

@@ -31,10 +31,7 @@ pub fn fresh() -> Account
 pub fn feed_untested(account: Account, frame: Raw) -> Fed
     ensures { Answers account (untested_of account frame) result }
 {
-    let record = match turns::decode(State::from(account), frame) {
-        Ok(record) => record,
-        Err(refusal) => return Err((refusal, account)),
-    };
+    let record = turns::decode(State::from(account), frame).map_err(|refusal| (refusal, account))?;
     if !(adding::has_room(account) & adding::temperate(record)) {
         return Err((Refusal::Account, account));
     }
@@ -101,6 +98,7 @@ pub fn refused_by(account: Account, refusal: Refusal) -> Refusal
 pub fn feed(account: Account, line: &[u8]) -> Fed
     ensures { Feeds account line.now result }
 {
+    // Kept: tried as `map_err` with `?`: that the row is the one of `refused_by` did not reach the proof out of the closure that calls it.
     match frames::parse(line) {
         Ok(frame) => feed_frame(account, frame),
         Err(refusal) => Err((refused_by(account, refusal), account)),

@@ -19,7 +19,7 @@ const MOST_AOT40: u64 = 4600;
 pub(crate) fn is_measured(season: Season) -> bool
     ensures { result ≡ is_measured season }
 {
-    season.header.tree == 7
+    season.header.tree == measured::MEASURED
 }
 
 // A measured tree's number, or another's.

@@ -1,5 +1,5 @@
 // Row 13: an account that no season can give (document 01, "Turned-back lines").
-ghost use Rattle.std.specs.Prelude.{◌≤◌, ◌≡◌, ◌&&◌, ◌||◌, not, ltb};
+ghost use Rattle.std.specs.Prelude.{◌≤◌, ◌≡◌, ◌-◌, ◌&&◌, ◌||◌, not, ltb};
 ghost use Rattle.measured.specs.Parameters.{all_zero};
 ghost use Rattle.account_spec.specs.HourKinds.{kind_out};
 ghost use Rattle.records.specs.Period.{period_hours, all_given};
@@ -73,6 +73,7 @@ fn blank(a: Account) -> bool
     a.season == Season::default() && a.sums == Sums::default()
 }
 
+// Kept: season and sums go side by side through the four functions of the sums, as through their definitions; an account would bring a phase, a kind and what it carries, which none of them reads.
 // More counted hours than hours, or more without ozone than counted; any without ozone where there is no ceiling.
 fn counts_out(season: Season, s: Sums) -> bool
     ensures { result ≡ any_of (counts_out season s) }
@@ -80,31 +81,36 @@ fn counts_out(season: Season, s: Sums) -> bool
     (s.hours < s.counted) | (s.counted < s.missing) | ((season.ceiling == 0) & (0 < s.missing))
 }
 
-// Dose numbers in the wrong order, too great or too far apart.
+// A pair in the wrong order, too great or too far apart.
+fn pair_out(lower: u64, upper: u64, most: u64, widest: u64) -> bool
+    ensures { result ≡ (ltb upper lower || ltb most upper || ltb widest (upper - lower)) }
+{
+    upper < lower || most < upper || widest < upper - lower
+}
+
+// The two dose numbers.
 fn doses_out(season: Season, s: Sums) -> bool
     requires { s.missing ≤ s.counted }
     ensures { result ≡ any_of (doses_out season s) }
 {
-    if s.upper < s.lower {
-        return true;
-    }
     let counted = s.counted as u64;
     let missing = s.missing as u64;
     let most = limits::most_hour(season);
     let widest = limits::gap_each(season) * (counted - missing) + most * missing;
-    (most * counted < s.upper) | (widest < s.upper - s.lower)
+    pair_out(s.lower, s.upper, most * counted, widest)
 }
 
-// AOT40's two numbers, likewise.
+// AOT40's two numbers.
 fn aot40_out(season: Season, s: Sums) -> bool
     ensures { result ≡ any_of (aot40_out season s) }
 {
-    if s.most < s.least {
-        return true;
-    }
     let most = limits::most_aot40(season);
-    (most * (s.counted as u64) < (s.most as u64))
-        | (most * (s.missing as u64) < ((s.most - s.least) as u64))
+    pair_out(
+        s.least as u64,
+        s.most as u64,
+        most * (s.counted as u64),
+        most * (s.missing as u64),
+    )
 }
 
 // Sums that no hours give.

@@ -29,9 +29,6 @@ total-step hours z t p q = grind (arith, nat_tests)
 not_negative-le : (hours : ℕ) (z : ℤ) → total_out hours z ≡ false → not_negative z ≤ 600 * hours
 not_negative-le hours z p = grind (arith, nat_tests)
 
-total-wider : (m n : ℕ) (z : ℤ) → m ≤ n → total_out m z ≡ false → total_out n z ≡ false
-total-wider m n z h p = grind (arith, nat_tests)
-
 -- ---- what row 13 lets pass
 
 -- where a frame of warmth stands
@@ -89,6 +86,9 @@ abbrev pub carried_on : ℕ → List Hour → Carried
 carried_on first hs = record { sum = days_sum first (length hs / 24) hs; total = day_total (first + length hs / 24) hs }
 
 module _ (h : Hour) (n : ℕ) (number : h.hour ≡ n % 24) (c : Carried) where
+  warmer-last : n % 24 ≡ 23 → warmer c h ≡ record { sum = c.sum + not_negative (c.total +ℤ h.temperature); total = pos 0 }
+  warmer-last e = grind (arith, nat_tests)
+
   -- within the limits
   pub warmer-in : temperature_out h.temperature ≡ false → WarmIn n c → WarmIn (suc n) (warmer c h)
   warmer-in hot p =

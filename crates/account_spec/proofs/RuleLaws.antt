@@ -23,15 +23,13 @@ use Rattle.account_spec.specs.declared.Phase.{Phase}
 use Rattle.account_spec.specs.declared.Phase.TheVariants.{Fresh}
 use Rattle.account_spec.specs.declared.Account.{Account}
 use Rattle.account_spec.specs.declared.State.{State}
-use Rattle.account_spec.specs.declared.Totals.{Totals}
 use Rattle.account_spec.specs.HourKinds.{is_mixed}
 use Rattle.account_spec.specs.Account.{is_fresh, impossible}
-use Rattle.account_spec.specs.Rules.{is_due, count_wrong, due_of, turn_of, answer_of, state_of, entered, feed_of, unread_row, feed_frame_of, Answers, Feeds, Fed}
-use Rattle.account_spec.specs.Reading.{totals_of, read_of, Reads}
+use Rattle.account_spec.specs.Rules.{is_due, count_wrong, due_of, answer_of, feed_of, unread_row, feed_frame_of, Answers, Feeds, Fed}
 
--- the `else` of a `let` that asks for a fresh phase
+-- the arm of a `match` on the phase that is left
 pub fresh-false : (p : Phase) → (p ≡ Fresh → ⊥) → is_fresh p ≡ false
-fresh-false p k = grind arith
+fresh-false p k = grind (arith, k)
 
 -- ---- a header's rows; row 15, then 9 and 18, before row 10; row 11; row 17; row 25; row 24, then 7
 
@@ -72,10 +70,6 @@ module _ (s : State) where
     hour-passed r e = grind arith
 
   module _ (x : End) where
-    pub count-out : count_wrong s x.hours ≡ true → refused (11, 0) ≡ due_of s (Raw.End x)
-    unfolding due_of
-    count-out e = rw e
-
     pub count-in : count_wrong s x.hours ≡ false → record_of s.season.header.tree (Raw.End x) ≡ due_of s (Raw.End x)
     unfolding due_of record_of sound_of checked
     count-in e = rw e
@@ -119,15 +113,6 @@ module _ (a : Account) (frame : Raw) where
   unfolding feed_frame_of
   answers-impossible e = record { answers = rw e; leaves = rw e }
 
-  module _ (possible : impossible a ≡ false) (d : Result Record Refusal) (decoded : outcome_of d ≡ turn_of (state_of a) frame) where
-    pub answers-refused : (r : Refusal) → d ≡ Err r → Answers a (feed_frame_of a frame) (Err (r, a))
-    unfolding feed_frame_of
-    answers-refused r e = grind arith
-
-    pub answers-accepted : (r : Record) (b : Account) → d ≡ Ok r → b ≡ entered a r → Answers a (feed_frame_of a frame) (Ok b)
-    unfolding feed_frame_of
-    answers-accepted r b e i = grind arith
-
 -- a line is its frame, or refused by rows 1 to 3
 module _ (a : Account) (l : List ℕ) (p : Result Raw Refusal) (parsed : outcome_of p ≡ parsed_of l) where
   pub frame-feeds : (frame : Raw) (r : Fed) → p ≡ Ok frame → Answers a (feed_frame_of a frame) r → Feeds a l r
@@ -141,14 +126,3 @@ module _ (a : Account) (l : List ℕ) (p : Result Raw Refusal) (parsed : outcome
 
   pub unread-feeds : (s r : Refusal) → p ≡ Err s → row_of r ≡ unread_row a (row_of s) → Feeds a l (Err (r, a))
   unread-feeds s r e k = unread-by (impossible a) s r refl e k
-
--- ---- reading
-
-module _ (a : Account) where
-  pub reads-impossible : impossible a ≡ true → Reads a (Err Refusal.Account)
-  unfolding read_of
-  reads-impossible e = record { answers = rw e }
-
-  pub reads-given : (t : Totals) → impossible a ≡ false → t ≡ totals_of a → Reads a (Ok t)
-  unfolding read_of
-  reads-given t e i = record { answers = rw (e, i) }

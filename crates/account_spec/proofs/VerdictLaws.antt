@@ -41,10 +41,6 @@ module _ (phase : Phase) (season : Season) (sums : Sums) where
   unfolding verdict_word
   below-is e = grind (arith, nat_tests)
 
-  pub below-begun : verdict_word phase season sums ≡ below_word → is_fresh phase ≡ false
-  unfolding verdict_word
-  below-begun e = grind (arith, nat_tests)
-
   pub is_below_lem : is_fresh phase ≡ false → sums.lower ≤ level → sums.upper ≤ level → verdict_word phase season sums ≡ below_word
   unfolding verdict_word
   is_below_lem begun lower upper = grind (arith, nat_tests)

@@ -5,6 +5,7 @@ ghost use Rattle.std.specs.Prelude.{◌≡◌, ok_or};
 ghost use Rattle.records.specs.declared.Refusal.TheVariants.{Account};
 ghost use Rattle.account_spec.specs.HourKinds.{numbered_kind};
 ghost use Rattle.account_spec.specs.Account.{numbered_phase};
+ghost use Rattle.account_spec.specs.Reading.{word_of};
 ghost use Rattle.account_spec.specs.Rules.{state_of};
 
 use frames::{Header, Parameters, Refusal, Warmth};
@@ -122,7 +123,7 @@ impl From<Account> for State {
     }
 }
 
-// Whether POD1 is above the critical level; `word_of` (specs/Reading.antt) gives each case's word.
+// Whether POD1 is above the critical level.
 // Kept: "none" is one of the four words of a verdict, as a fresh account has it.
 #[derive(Clone, Copy)]
 pub enum Verdict {
@@ -130,6 +131,18 @@ pub enum Verdict {
     Undecided,
     Exceeded,
     Below,
+}
+
+// The verdict's word.
+pub fn word_of(verdict: Verdict) -> &'static str
+    ensures { result.now ≡ word_of verdict }
+{
+    match verdict {
+        Verdict::None => "none",
+        Verdict::Undecided => "undecided",
+        Verdict::Exceeded => "exceeded",
+        Verdict::Below => "below",
+    }
 }
 
 // What reading an account gives.

@@ -44,11 +44,12 @@ fn not_compared(row: u8, text: u8, line: u64) -> ComparisonNumbers
     }
 }
 
+// Kept: a From of the whole Result would be this match under another name; a refusal has a row and a text of its own.
 pub fn comparison_of(comparison: Result<Differences, NotCompared>) -> ComparisonNumbers
     ensures { result ≡ compared_of (comparison_as comparison) }
 {
     match comparison {
-        Ok(found) => differing(found, found.first.unwrap_or(LinePlace { start: 0, end: 0 })),
+        Ok(found) => differing(found, found.first.unwrap_or_default()),
         Err(NotCompared::First(stop)) => not_compared(frames::row_of(stop.refusal), 1, stop.line),
         Err(NotCompared::Second(stop)) => not_compared(frames::row_of(stop.refusal), 2, stop.line),
         Err(NotCompared::Unlike) => not_compared(frames::row_of(Refusal::Unlike), 0, 0),

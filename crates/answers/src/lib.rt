@@ -55,6 +55,7 @@ pub struct Tried {
 }
 
 // The field that rows 10 and 26 name, else 0.
+// Kept for the C interface: 0 for no field, as part of a code.
 fn field_of(refusal: Refusal) -> u8
     ensures { result ≡ (row_of «refusal»).1 }
 {
@@ -77,14 +78,28 @@ pub fn code_of(refusal: Refusal) -> u32
     short_code(refusal) as u32
 }
 
+// The code of an answer in 16 bits, whatever it gives.
+fn short_of<T: Copy>(answer: Result<T, Refusal>) -> u16
+    ensures { result ≡ code_of (outcome_of answer) }
+{
+    match answer {
+        Ok(_) => 0,
+        Err(refusal) => short_code(refusal),
+    }
+}
+
 // The code of the answer to a line, in 16 bits.
 pub fn of_fed(answer: Fed) -> u16
     ensures { result ≡ code_of (fed_as answer) }
 {
-    match answer {
-        Ok(_) => 0,
-        Err((refusal, _)) => short_code(refusal),
-    }
+    short_of(answer.map_err(|(refusal, _)| refusal))
+}
+
+// The code of an answer, whatever it gives.
+pub fn of_answer<T: Copy>(answer: Result<T, Refusal>) -> u32
+    ensures { result ≡ code_of (outcome_of answer) }
+{
+    u32::from(short_of(answer))
 }
 
 // Whether a refusal has this row and field.
@@ -147,16 +162,7 @@ pub fn answer_of(code: u16) -> Option<Result<(), Refusal>>
     None
 }
 
-// The code of an answer, whatever it gives.
-pub fn of_answer<T: Copy>(answer: Result<T, Refusal>) -> u32
-    ensures { result ≡ code_of (outcome_of answer) }
-{
-    match answer {
-        Ok(_) => 0,
-        Err(refusal) => code_of(refusal),
-    }
-}
-
+// Kept: a Result is the library's type and `Printed` C's struct; a From of the whole Result would be this match under another name.
 pub fn printed_of(written: Result<usize, Refusal>) -> Printed
     ensures { result ≡ printed_of (outcome_of «written») }
 {

@@ -28,6 +28,7 @@ fn no_stretch(code: u32, line: u64) -> StretchNumbers
     }
 }
 
+// Kept: a From of the whole Result would be this match under another name.
 pub fn stretch_of(stretch: Result<Option<WorstDays>, NoStretch>) -> StretchNumbers
     ensures { result ≡ stretch_of (stretch_as stretch) }
 {

@@ -4,14 +4,13 @@ ghost use Rattle.frames.specs.Digits.{value_of};
 ghost use Rattle.records.specs.Temperature.{signed_of};
 ghost use Rattle.cases.specs.Digits.{hex_at};
 
-// Kept: `frames::digit_value` has a value for a byte that is no digit too, so `is_digit` and the 0 would still stand here.
 fn value(c: u8) -> u8
     ensures { result ≡ value_of c }
 {
-    match c {
-        b'0'..=b'9' => c - b'0',
-        b'A'..=b'F' => c - b'A' + 10,
-        _ => 0,
+    if frames::is_digit(c) {
+        frames::digit_value(c)
+    } else {
+        0
     }
 }
 
@@ -19,10 +18,7 @@ fn value(c: u8) -> u8
 fn digit(line: &[u8], at: usize, i: usize) -> u8
     ensures { result ≡ value_of (get_or line.now (at + i) 0) }
 {
-    match line.get(at.saturating_add(i)) {
-        Some(c) => value(*c),
-        None => 0,
-    }
+    value(line.get(at.saturating_add(i)).copied().unwrap_or(0))
 }
 
 // What n digits from a place on say.

@@ -30,7 +30,7 @@ pub(crate) struct Ageing(pub(crate) Warmth, pub(crate) Carried);
 impl fmt::Display for Ageing {
     fn fmt<W: fmt::Write>(&self, f: &mut fmt::Formatter<W>) -> fmt::Result {
         let Ageing(w, c) = *self;
-        if !measured::has_warmth(w) && c.sum == 0 && c.total == 0 {
+        if !measured::has_warmth(w) && c == Carried::default() {
             return f.write_str("-");
         }
         write!(f, "{} {} {} {} {}", w.rise, w.fall, w.end, c.sum, c.total)

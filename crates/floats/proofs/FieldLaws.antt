@@ -1,6 +1,10 @@
 -- A field's bytes by the cut number, and the seven fields together: the frame of the numbers, or row 26.
-use Rattle.std.specs.Prelude.{Option, Some, None}
-use Rattle.std.proofs.Common.{◌≡◌, ℕ, ◌-◌, ◌≤◌, min, Bool, true, false, cond, ltb, pos, negsuc, sym, refl, ap, ◌∙◌, arith, ltb-false, ltb-true, le-ltb}
+use Rattle.std.specs.Prelude.{Option, Some, None, Result, Ok, Err, FitsSigned, unsigned_abs}
+use Rattle.std.specs.Int.{FitsUnsignedBits, w16}
+use Rattle.std.specs.Result.{OkIff, MatchResult, result_unwrap_or}
+use Rattle.records.specs.Temperature.{complement_of}
+use Rattle.std.proofs.Common.{◌≡◌, ℕ, ◌-◌, ◌<◌, ◌≤◌, min, Bool, true, false, cond, ltb, ℤ, pos, negsuc, sym, refl, ap, ◌∙◌, arith, ltb-false, ltb-true, le-ltb, lt-ltb, w32, to_z, of_z, subst}
+use Rattle.std.proofs.Math.Facts.{to_z-of_z}
 use lib.Ieee.{Float}
 use Rattle.records.specs.declared.RawHour.{RawHour}
 use Rattle.records.specs.declared.Air.{Air}
@@ -9,7 +13,6 @@ use Rattle.floats_spec.specs.declared.FloatReadings.{FloatReadings}
 use Rattle.floats_spec.specs.Whole.{Wholeness, whole, broken, whole_of}
 use Rattle.floats_spec.specs.Numbers.{natural_bytes, complement_bytes, raw_of}
 use Rattle.floats_spec.specs.Feeding.{in_field, wholes_of}
-use Rattle.floats.specs.declared.whole.Number.{Number}
 use Rattle.floats.specs.Steps.{cut}
 
 -- ---- one field
@@ -26,9 +29,8 @@ cut-held {A} limit most n h f other = go (ltb n limit) refl
 abbrev pub natural_at : ℕ → Wholeness → Outcome ℕ
 natural_at f w = in_field f w (λ z. accepted (natural_bytes z))
 
-abbrev natural_in : ℕ → Option Number → Outcome ℕ
-natural_in f (Some (Number.Plus n)) = accepted (cond (ltb n 65536) n 65534)
-natural_in f (Some (Number.Minus n)) = accepted 65534
+abbrev natural_in : ℕ → Option ℤ → Outcome ℕ
+natural_in f (Some z) = accepted (natural_bytes z)
 natural_in f None = refused (26, f)
 
 natural-cut : (f : ℕ) (w : Wholeness) → natural_in f (cut w) ≡ natural_at f w
@@ -37,15 +39,29 @@ natural-cut f (whole (pos n)) = ap (λ (b : ℕ). accepted b) (cut-held 65536 16
 natural-cut f (whole (negsuc n)) = refl
 natural-cut f broken = refl
 
-pub natural-says : (f : ℕ) (x : Float) (n : Option Number) → n ≡ cut (whole_of x) → natural_in f n ≡ natural_at f (whole_of x)
+pub natural-says : (f : ℕ) (x : Float) (n : Option ℤ) → n ≡ cut (whole_of x) → natural_in f n ≡ natural_at f (whole_of x)
 natural-says f x n e = ap (natural_in f) e ∙ natural-cut f (whole_of x)
+
+test-false : (n limit : ℕ) → (n < limit → ⊥) → ltb n limit ≡ false
+test-false n limit h = go (ltb n limit) refl
+  where
+    go : (b : Bool) → ltb n limit ≡ b → b ≡ false
+    go true e = absurd (h (ltb-true n limit e))
+    go false e = refl
+
+-- the library's conversion into two bytes, 65534 where they do not hold z
+pub natural-held : {E : Type 0} (z : ℤ) (r : Result ℕ E) → OkIff r (FitsUnsignedBits 16 z) (unsigned_abs z) → result_unwrap_or r 65534 ≡ natural_bytes z
+unfolding natural_bytes
+natural-held (pos n) (Ok x) h = rw (h.1, lt-ltb n 65536 (omega (arith, h.0))) refl
+natural-held (pos n) (Err e) h = rw (test-false n 65536 h) refl
+natural-held (negsuc n) (Ok x) h = absurd h.0
+natural-held (negsuc n) (Err e) h = refl
 
 abbrev pub complement_at : ℕ → Wholeness → Outcome ℕ
 complement_at f w = in_field f w (λ z. accepted (complement_bytes z))
 
-abbrev complement_in : ℕ → Option Number → Outcome ℕ
-complement_in f (Some (Number.Plus n)) = accepted (cond (ltb n 32768) n 32767)
-complement_in f (Some (Number.Minus n)) = accepted (cond (ltb n 32768) (65535 - n) 32767)
+abbrev complement_in : ℕ → Option ℤ → Outcome ℕ
+complement_in f (Some z) = accepted (complement_bytes z)
 complement_in f None = refused (26, f)
 
 complement-cut : (f : ℕ) (w : Wholeness) → complement_in f (cut w) ≡ complement_at f w
@@ -54,8 +70,34 @@ complement-cut f (whole (pos n)) = ap (λ (b : ℕ). accepted b) (cut-held 32768
 complement-cut f (whole (negsuc n)) = ap (λ (b : ℕ). accepted b) (cut-held 32768 16777215 n (omega arith) (λ k. 65535 - k) 32767)
 complement-cut f broken = refl
 
-pub complement-says : (f : ℕ) (x : Float) (n : Option Number) → n ≡ cut (whole_of x) → complement_in f n ≡ complement_at f (whole_of x)
+pub complement-says : (f : ℕ) (x : Float) (n : Option ℤ) → n ≡ cut (whole_of x) → complement_in f n ≡ complement_at f (whole_of x)
 complement-says f x n e = ap (complement_in f) e ∙ complement-cut f (whole_of x)
+
+-- the library's conversion into a temperature, then its two bytes, 32767 where they do not hold z
+pub complement-held : {E : Type 0} (z : ℤ) (r : Result ℤ E) (m : ℕ) (Gives : ℤ → Type 0) → ((t : ℤ) → Gives t → m ≡ complement_of t) → OkIff r (FitsSigned w16 z) z
+    → MatchResult r Gives (λ _. m ≡ 32767) → m ≡ complement_bytes z
+unfolding complement_bytes complement_of
+complement-held (pos n) (Ok t) m G g h e = rw (lt-ltb n 32768 (omega (arith, h.0.sfits))) (g t e ∙ ap complement_of h.1)
+complement-held (negsuc n) (Ok t) m G g h e = rw (lt-ltb n 32768 (omega (arith, h.0.sfits))) (g t e ∙ ap complement_of h.1)
+complement-held (pos n) (Err x) m G g h e = rw (test-false n 32768 (λ l. h (record { sfits = l }))) e
+complement-held (negsuc n) (Err x) m G g h e = rw (test-false n 32768 (λ l. h (record { sfits = l }))) e
+
+-- ---- the cut number in 32 bits with a sign
+
+some-same : {y z : ℤ} → ◌≡◌ {A = Option ℤ} (Some y) (Some z) → y ≡ z
+some-same e = cc
+
+abbrev IsNumber : Option ℤ → Type 0
+IsNumber (Some z) = Unit
+IsNumber None = ⊥
+
+cut-fits : (w : Wholeness) (z : ℤ) → Some z ≡ cut w → FitsSigned w32 z
+cut-fits (whole (pos n)) z e = subst (λ (y : ℤ). FitsSigned w32 y) (sym (some-same e)) (record { sfits = omega arith })
+cut-fits (whole (negsuc n)) z e = subst (λ (y : ℤ). FitsSigned w32 y) (sym (some-same e)) (record { sfits = omega arith })
+cut-fits broken z e = absurd (subst IsNumber e tt)
+
+pub bits-back : (x : Float) (z : ℤ) → Some z ≡ cut (whole_of x) → to_z w32 (of_z w32 z) ≡ z
+bits-back x z e = to_z-of_z {w = w32} {z = z} (cut-fits (whole_of x) z e)
 
 -- ---- all seven
 

@@ -1,11 +1,10 @@
 -- The whole number of a float by its sign and the size of it or of its negative.
-use Rattle.std.specs.Prelude.{Option, Some, None}
-use Rattle.std.proofs.Common.{◌≡◌, ℕ, zero, suc, ◌+◌, ◌-◌, ◌*◌, ◌/◌, ◌%◌, ◌<◌, ◌≤◌, min, Bool, true, false, cond, not, ◌&&◌, ◌||◌, T, eqb, ltb, ℤ, pos, sym, refl, ap, ◌∙◌, subst, true≢false, lt_irrefl, zero-mul, arith, eqb→eq, ltb→lt, nltb→le, T_not}
+use Rattle.std.specs.Prelude.{Option, Some, None, neg_ℤ}
+use Rattle.std.proofs.Common.{◌≡◌, ℕ, zero, suc, ◌+◌, ◌-◌, ◌*◌, ◌/◌, ◌%◌, ◌<◌, ◌≤◌, min, Bool, true, false, cond, not, ◌&&◌, ◌||◌, T, eqb, ltb, ℤ, pos, sym, refl, ap, ◌∙◌, subst, true≢false, zero-mul, arith, ltb→lt, nltb→le, T_not, w32, to_z, of_z, ◌-ℤ◌, FitsSigned, lt-ltb}
+use Rattle.std.proofs.Math.Facts.{to_z_pos, to_z-of_z}
 use lib.Ieee.{Float, nan, inf, fin, up, down, lt, le, neg}
 use lib.Ieee.Fits.{and_i, eq→eqb}
 use Rattle.floats_spec.specs.Whole.{signed, whole, broken, whole_of}
-use Rattle.floats_spec.proofs.WholeLaws.{divided-back}
-use Rattle.floats.specs.declared.whole.Number.{Number}
 use Rattle.floats.specs.Steps.{cut_size, cut}
 use Rattle.floats.proofs.OrderLaws.{is_T, is-not, minus-size-zero}
 use Rattle.floats.proofs.SizeLaws.{size-whole}
@@ -14,10 +13,8 @@ abbrev unsigned : Option ℕ → ℕ
 unsigned (Some n) = n
 unsigned None = 0
 
-abbrev signs : Bool → Option ℕ → Option Number
-signs false (Some n) = Some (Number.Plus n)
-signs true (Some zero) = Some (Number.Plus 0)
-signs true (Some (suc n)) = Some (Number.Minus n)
+abbrev signs : Bool → Option ℕ → Option ℤ
+signs s (Some n) = Some (signed s n)
 signs s None = None
 
 cut-suc : (k : ℕ) → min (suc k) 16777216 ≡ suc (min k 16777215)
@@ -49,14 +46,14 @@ IsOf None = ⊥
 size-not-broken : (n : ℕ) → Some n ≡ None → ⊥
 size-not-broken n h = subst IsOf h tt
 
-pub plus-number : (x : Float) (n : ℕ) → le (fin false 0 (pos 0)) x ≡ true → Some n ≡ cut_size x → Some (Number.Plus n) ≡ cut (whole_of x)
+pub plus-number : (x : Float) (n : ℕ) → le (fin false 0 (pos 0)) x ≡ true → Some n ≡ cut_size x → Some (pos n) ≡ cut (whole_of x)
 unfolding cut_size
 plus-number nan n z h = absurd (size-not-broken n h)
 plus-number (inf s) n z h = absurd (size-not-broken n h)
 plus-number (fin false m e) n z h = ap (signs false) h ∙ signs-whole false m e
 plus-number (fin true m e) n z h =
     let k : n ≡ 0 = ap unsigned (h ∙ size-whole true m e 0 (minus-size-zero m e (is_T z) ∙ sym (zero-mul (down e)))) in
-    ap (λ (n : ℕ). Some (Number.Plus n)) k ∙ ap (signs true) (ap (λ (n : ℕ). Some n) (sym k) ∙ h) ∙ signs-whole true m e
+    ap (λ (n : ℕ). Some (pos n)) k ∙ ap (signs true) (ap (λ (n : ℕ). Some n) (sym k) ∙ h) ∙ signs-whole true m e
 
 pub minus-broken : (x : Float) → None ≡ cut_size (neg x) → None ≡ cut (whole_of x)
 unfolding whole_of neg cut_size
@@ -64,21 +61,16 @@ minus-broken nan h = refl
 minus-broken (inf s) h = refl
 minus-broken (fin s m e) h = ap (signs s) h ∙ signs-whole s m e
 
--- a size above 0 that is whole is not 0
-quotient-pos : (v d n : ℕ) → 0 < v → Some n ≡ cond (eqb (v % d) 0) (Some (min (v / d) 16777216)) None → 0 < n
-quotient-pos v d n p h = go (eqb (v % d) 0) (eqb→eq (v % d) 0) h
+-- a size is cut at 2 ^ 24
+pub size-most : (x : Float) (n : ℕ) → Some n ≡ cut_size x → n ≤ 16777216
+unfolding cut_size
+size-most nan n h = absurd (size-not-broken n h)
+size-most (inf s) n h = absurd (size-not-broken n h)
+size-most (fin s m e) n h = go (eqb (m * up e % down e) 0) h
   where
-    kept : (q v : ℕ) → 0 < v → v ≡ q * d → 0 < min q 16777216
-    kept zero v p k = absurd (lt_irrefl 0 (subst (λ (t : ℕ). 0 < t) (k ∙ zero-mul d) p))
-    kept (suc q) v p k = omega arith
-
-    go : (b : Bool) → (T b → v % d ≡ 0) → Some n ≡ cond b (Some (min (v / d) 16777216)) None → 0 < n
-    go true r h = subst (λ (t : ℕ). 0 < t) (sym (ap unsigned h)) (kept (v / d) v p (divided-back v d (r tt)))
-    go false r h = absurd (size-not-broken n h)
-
-minus_is : (n : ℕ) → 0 < n → Some (Number.Minus (n - 1)) ≡ signs true (Some n)
-minus_is zero h = absurd (lt_irrefl 0 h)
-minus_is (suc n) h = let less : suc n - 1 ≡ n = omega arith in ap (λ (n : ℕ). Some (Number.Minus n)) less
+    go : (b : Bool) → Some n ≡ cond b (Some (min (m * up e / down e) 16777216)) None → n ≤ 16777216
+    go true h = omega (arith, ap unsigned h)
+    go false h = absurd (size-not-broken n h)
 
 below-absurd : (a b : ℕ) → a < 0 * 1 * b → ⊥
 below-absurd a b h = omega arith
@@ -94,21 +86,12 @@ plus-ge m e = go (ltb (0 * 1 * down e) (m * up e * 1)) (nltb→le (0 * 1 * down 
     go true h = tt
     go false h = and_i (eqb (0 * 1 * down e) (m * up e * 1)) true (eq→eqb (flat (down e) (m * up e * 1) (h tt))) tt
 
-pub size-pos : (x : Float) (n : ℕ) → lt x (fin false 0 (pos 0)) ≡ true → Some n ≡ cut_size (neg x) → 0 < n
-unfolding cut_size neg lt
-size-pos nan n z h = absurd (size-not-broken n h)
-size-pos (inf s) n z h = absurd (size-not-broken n h)
-size-pos (fin false m e) n z h = absurd (below-absurd (m * up e * 1) (down e) (ltb→lt (m * up e * 1) (0 * 1 * down e) (is_T z)))
-size-pos (fin true m e) n z h =
-    let p : 0 < m * up e = omega (arith, ltb→lt 0 (m * up e * 1 + 0 * 1 * down e) (is_T z)) in
-    quotient-pos (m * up e) (down e) n p h
-
-pub minus_number : (x : Float) (n : ℕ) → lt x (fin false 0 (pos 0)) ≡ true → Some n ≡ cut_size (neg x) → Some (Number.Minus (n - 1)) ≡ cut (whole_of x)
+pub minus_number : (x : Float) (n : ℕ) → lt x (fin false 0 (pos 0)) ≡ true → Some n ≡ cut_size (neg x) → Some (neg_ℤ (pos n)) ≡ cut (whole_of x)
 unfolding cut_size neg lt
 minus_number nan n z h = absurd (size-not-broken n h)
 minus_number (inf s) n z h = absurd (size-not-broken n h)
 minus_number (fin false m e) n z h = absurd (below-absurd (m * up e * 1) (down e) (ltb→lt (m * up e * 1) (0 * 1 * down e) (is_T z)))
-minus_number (fin true m e) n z h = minus_is n (size-pos (fin true m e) n z h) ∙ ap (signs true) h ∙ signs-whole true m e
+minus_number (fin true m e) n z h = ap (signs true) h ∙ signs-whole true m e
 
 pub negated-ge : (x : Float) → lt x (fin false 0 (pos 0)) ≡ true → T (le (fin false 0 (pos 0)) (neg x))
 unfolding neg lt le
@@ -137,3 +120,25 @@ neither-broken (fin true m e) h k =
 
     nought : (a : ℕ) → 0 * 1 * a ≡ 0
     nought a = omega arith
+
+-- ---- a size, and its negative, in 32 bits with a sign
+
+pub plus-bits : (n : ℕ) → n ≤ 16777216 → to_z w32 n ≡ pos n
+plus-bits n h = to_z_pos w32 (omega (arith, h))
+
+neg-fits : (n : ℕ) → n ≤ 16777216 → FitsSigned w32 (neg_ℤ (pos n))
+neg-fits zero h = record { sfits = omega arith }
+neg-fits (suc n) h = record { sfits = omega (arith, h) }
+
+zero-minus : (n : ℕ) → n ≤ 16777216 → pos 0 -ℤ to_z w32 n ≡ neg_ℤ (pos n)
+zero-minus n h = ap (λ (z : ℤ). pos 0 -ℤ z) (plus-bits n h) ∙ go n
+  where
+    go : (n : ℕ) → pos 0 -ℤ pos n ≡ neg_ℤ (pos n)
+    go zero = refl
+    go (suc n) = let less : suc n - 1 ≡ n = omega arith in rw (lt-ltb 0 (suc n) (omega arith), less) refl
+
+pub minus-fits : (n : ℕ) → n ≤ 16777216 → FitsSigned w32 (pos 0 -ℤ to_z w32 n)
+minus-fits n h = subst (λ (z : ℤ). FitsSigned w32 z) (sym (zero-minus n h)) (neg-fits n h)
+
+pub minus-bits : (n : ℕ) → n ≤ 16777216 → to_z w32 (of_z w32 (pos 0 -ℤ to_z w32 n)) ≡ neg_ℤ (pos n)
+minus-bits n h = ap (λ (z : ℤ). to_z w32 (of_z w32 z)) (zero-minus n h) ∙ to_z-of_z {w = w32} {z = neg_ℤ (pos n)} (neg-fits n h)

@@ -1,10 +1,9 @@
 -- Serves the code's own steps; no reader need believe it.
 -- A float's size, cut at 2 ^ 24, from where on every f32 is whole.
-use Rattle.std.specs.Prelude.{ℕ, ◌*◌, ◌/◌, ◌%◌, min, cond, pos, negsuc, ◌==◌, Float, Option, Some, None}
+use Rattle.std.specs.Prelude.{ℕ, ℤ, ◌*◌, ◌/◌, ◌%◌, min, cond, pos, negsuc, ◌==◌, Float, Option, Some, None}
 use Rattle.std.specs.Float.{nan, inf, fin}
 use Rattle.std.specs.Float.Ieee.{up, down}
 use Rattle.floats_spec.specs.Whole.{Wholeness, whole, broken}
-use Rattle.floats.specs.declared.whole.Number.{Number}
 
 -- of a float that is not below 0
 unfoldable pub cut_size : Float → Option ℕ
@@ -12,7 +11,7 @@ cut_size nan = None
 cut_size (inf s) = None
 cut_size (fin s m e) = cond (m * up e % down e == 0) (Some (min (m * up e / down e) 16777216)) None
 
-abbrev pub cut : Wholeness → Option Number
-cut (whole (pos n)) = Some (Number.Plus (min n 16777216))
-cut (whole (negsuc n)) = Some (Number.Minus (min n 16777215))
+abbrev pub cut : Wholeness → Option ℤ
+cut (whole (pos n)) = Some (pos (min n 16777216))
+cut (whole (negsuc n)) = Some (negsuc (min n 16777215))
 cut broken = None

@@ -5,7 +5,7 @@ ghost use Rattle.floats_spec.specs.Whole.{whole_of};
 ghost use Rattle.floats_spec.specs.Numbers.{natural_bytes, complement_bytes, raw_of};
 ghost use Rattle.floats_spec.specs.Feeding.{in_field, wholes_of};
 
-use crate::whole::{Number, whole_number};
+use crate::whole::whole_number;
 use floats_spec::FloatReadings;
 use frames::{Air, RawHour, Refusal};
 
@@ -13,22 +13,16 @@ use frames::{Air, RawHour, Refusal};
 fn natural_field(field: u8, x: f32) -> Result<u16, Refusal>
     ensures { outcome_of result ≡ in_field field (whole_of x) (λ z. accepted (natural_bytes z)) }
 {
-    match whole_number(x) {
-        Some(Number::Plus(n)) => Ok(if n < 65536 { n as u16 } else { 65534 }),
-        Some(Number::Minus(_)) => Ok(65534),
-        None => Err(Refusal::Float(field)),
-    }
+    let z = whole_number(x).ok_or(Refusal::Float(field))?;
+    Ok(u16::try_from(z).unwrap_or(65534))
 }
 
 // A temperature, likewise: 32767, which row 10 refuses, where two bytes do not hold it.
 fn complement_field(field: u8, x: f32) -> Result<u16, Refusal>
     ensures { outcome_of result ≡ in_field field (whole_of x) (λ z. accepted (complement_bytes z)) }
 {
-    match whole_number(x) {
-        Some(Number::Plus(n)) => Ok(if n < 32768 { n as u16 } else { 32767 }),
-        Some(Number::Minus(n)) => Ok(if n < 32768 { (65535 - n) as u16 } else { 32767 }),
-        None => Err(Refusal::Float(field)),
-    }
+    let z = whole_number(x).ok_or(Refusal::Float(field))?;
+    Ok(i16::try_from(z).map_or(32767, |t| frames::complement(t)))
 }
 
 // The frame of seven whole numbers, or row 26 with the first field, from 1 on, whose float is none.

@@ -39,6 +39,7 @@ pub fn feed_floats(account: Account, day: u16, hour: u8, readings: FloatReadings
 {
     match fields::frame_of(day, hour, readings) {
         Ok(frame) => account::feed_frame(account, Raw::Hour(frame)),
+        // Kept: tried as one Err with `err().unwrap_or(broken)`: each case has a law of its own, and the proof did not close without a match on them.
         Err(broken) => match account::timely(account, hour_at(day, hour)) {
             Ok(()) => Err((broken, account)),
             Err(refusal) => Err((refusal, account)),

@@ -5,14 +5,6 @@ ghost use Rattle.std.specs.Float.{fin};
 ghost use Rattle.floats_spec.specs.Whole.{whole_of};
 ghost use Rattle.floats.specs.Steps.{cut_size, cut};
 
-// The number n, or -(n + 1).
-// Kept: `cut` equates these cases with pos n and negsuc n; an i32 would be split into them again in both fields.
-#[derive(Clone, Copy)]
-pub(crate) enum Number {
-    Plus(u32),
-    Minus(u32),
-}
-
 // The size of an x that is not below 0, 16777216 where it is larger; none where x is not finite or not whole. From 2^24 on every f32 but the infinity is a
 // whole number.
 fn size_of(x: f32) -> Option<u32>
@@ -30,16 +22,16 @@ fn size_of(x: f32) -> Option<u32>
     if back == x { Some(n) } else { None }
 }
 
-pub(crate) fn whole_number(x: f32) -> Option<Number>
+pub(crate) fn whole_number(x: f32) -> Option<i32>
     ensures { result ≡ cut (whole_of x) }
 {
     if x >= 0.0 {
         let n = size_of(x)?;
-        return Some(Number::Plus(n));
+        return Some(n as i32);
     }
     if x < 0.0 {
         let n = size_of(-x)?;
-        return Some(Number::Minus(n - 1));
+        return Some(-(n as i32));
     }
     None
 }

@@ -14,6 +14,7 @@ const RESISTANCE: u64 = 39;
 
 const RESISTANCE_UNIT: u64 = 400000;
 
+// Kept: `more` is added as it stands; a bool would be turned into this number at once.
 // 3600·F, rounded down, at a concentration c/18000, a share p/10⁷ and a root s/10⁷; `more` is 1 where the divisor is rounded up. No
 // hour in range has a concentration above 29644 nmol m⁻³, which is 533592000/18000.
 pub(crate) fn quotient(gmax: u64, c: u64, p: u64, s: u64, more: u64) -> u64

@@ -8,6 +8,7 @@ mod feed;
 mod given;
 mod hour;
 mod light;
+mod line;
 mod next;
 mod ozone;
 mod remembered;

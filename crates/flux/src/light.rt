@@ -19,10 +19,7 @@ fn decay_entry(table: &[u32], place: usize, d: usize) -> u64
     requires digit { d < 100 }
     ensures { result ≡ decay_entry (place * d) }
 {
-    if table.len() <= d {
-        return 0;
-    }
-    table[d] as u64
+    u64::from(table.get(d).copied().unwrap_or(0))
 }
 
 // exp(-n/10000), rounded down at each digit.

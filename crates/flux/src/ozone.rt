@@ -47,12 +47,11 @@ fn at(ozone: u16, h: Hour) -> Bounds
     ensures upper { result.upper ≡ concentration_up (with_ozone ozone h) }
 {
     match h.air {
-        Air::Deficit(_) => plain(ozone),
+        Air::Deficit(_) | Air::Humidity(_) => plain(ozone),
         Air::Pressure { pressure: p, .. } => rounded(
             PRESSURE * (ozone as u64) * (p as u64),
             GAS * (2 * (scale::above(h.temperature) as u64) + COLDEST),
         ),
-        Air::Humidity(_) => plain(ozone),
     }
 }
 

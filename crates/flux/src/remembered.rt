@@ -19,10 +19,9 @@ fn worked(dosing: Dosing, t: u16) -> u64
     ensures { result ≡ remembered_of dosing.stand.figures t }
 {
     let f = dosing.stand.figures;
-    let none = Bounds { lower: 0, upper: 0 };
     let pair = match f.source {
-        Source::Tabled(curve) => tables::f_temp(curve, t).unwrap_or(none),
-        Source::Worked => power::f_temp(f, t).unwrap_or(none),
+        Source::Tabled(curve) => tables::f_temp(curve, t).unwrap_or_default(),
+        Source::Worked => power::f_temp(f, t).unwrap_or_default(),
     };
     (humidity::saturation(t) as u64) * WORD + (pair.lower + pair.upper)
 }

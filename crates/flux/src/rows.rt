@@ -10,11 +10,11 @@ use trees::{Figures, Measure};
 pub(crate) fn measured_out(tree: u8, parameters: Parameters) -> bool
     ensures { result ≡ (tree == 7 && parameter_out parameters) }
 {
-    tree == 7 && records::parameters_out(parameters)
+    tree == measured::MEASURED && records::parameters_out(parameters)
 }
 
 // Row 7 where the year is not known: no year has more than 366 days.
-// Kept: `period_out` of records takes a header; here one would have to be made, with a year of 366 days.
+// Kept: `period_out` of records takes a header; here one would have to be made, with a year of 366 days. First and last come side by side, as in the public `hour_dose`.
 pub(crate) fn days_out(f: Figures, first: u16, last: u16) -> bool
     ensures { result ≡ days_out f first last }
 {

@@ -18,20 +18,21 @@ pub(crate) struct Limited<const MOST: u64> {
     pub ghost factor: { Factor MOST x },
 }
 
+// The greatest denominator of a short factor.
+const SHORT: u64 = 2000000000;
+
 // One whose product with a number of 10⁻⁹ is taken at once.
-pub(crate) type Short = Limited<2000000000>;
+pub(crate) type Short = Limited<SHORT>;
 
 // f_VPD.
 pub(crate) type Long = Limited<200000000000000>;
-
-// The greatest denominator of a short factor.
-const SHORT: u64 = 2000000000;
 
 // The base of a number's two digits.
 const BASE: u64 = 32768;
 
 // A number times a factor, rounded down.
-// Kept: each rounding has an equation of its own, here and in the pairs below; with `more`, as `by_digits` has it, each call would have to give the denominator less 1.
+// Kept: each rounding has an equation of its own, here and in the pairs below; with `more`, as `by_digits` has it, each call would have to give 0 or the denominator less 1. A trait of the two roundings
+// would hold that number as a ghost, and each promise, here and in what calls it, would name the ghost where it now shows the number.
 fn times_down(part: Part, by: Short) -> Part
     ensures { result.n ≡ part.n * by.x.num / by.x.den }
 {

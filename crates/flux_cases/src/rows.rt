@@ -3,6 +3,7 @@
 // line of its sums, a space and the temperature sum (eight digits). The answer for each row on a line of its own.
 use cases::{Row, i16_at, parameters_of, u8_at, u16_at, u32_at};
 use flux::Age;
+use frames::widths::{HUMIDITY_KIND, PRESSURE_KIND};
 use frames::{Air, Hour, Soil, Warmth};
 use std::io;
 
@@ -19,11 +20,11 @@ fn soil_of(measure: u8, n: u16) -> Soil {
 fn air_of(row: &[u8]) -> Air {
     let vapour = u16_at(row, 44);
     match u8_at(row, 20) {
-        4 => Air::Pressure {
+        PRESSURE_KIND => Air::Pressure {
             deficit: vapour,
             pressure: u16_at(row, 56),
         },
-        5 => Air::Humidity(vapour),
+        HUMIDITY_KIND => Air::Humidity(vapour),
         _ => Air::Deficit(vapour),
     }
 }

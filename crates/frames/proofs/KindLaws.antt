@@ -1,36 +1,17 @@
--- The table of kinds: a walk of its lengths finds one or has passed it, every length is within the longest, and a number with a length is a kind's.
-use Prim.Native.Nat.{ℕ, zero, suc, ◌+◌, max, ◌≤◌, ◌<◌}
+-- The table of kinds: every length is within the longest, and a number with a length is a kind's.
+use Prim.Native.Nat.{ℕ, zero, suc, max, ◌≤◌, ◌<◌}
 use mathlib.Core.Path.{◌≡◌, refl, sym, subst}
-use mathlib.Core.Bool.{Bool, true, false, false≢true, ◌&&◌, ◌||◌}
+use mathlib.Core.Bool.{Bool, true, false, false≢true, ◌&&◌}
 use mathlib.Core.Logic.{⊎_elim}
 use mathlib.Core.List.{List, [], ◌∷◌, map, foldr}
-use native.Mathlib.Numerals.{add-one}
 use native.Mathlib.Omega.{arith}
-use borrow.Author.Tests.{eq-eqb, ne_eqb, eqb-true}
+use borrow.Author.Tests.{eqb-true}
 use lib.Dec.{eqb}
-use lib.ListN.{length, get_or, drop, get_or-eq_default}
-use lib.Seq.{drop-cons}
+use lib.ListN.{length, get_or, get_or-eq_default}
 use Rattle.frames.specs.Kinds.{Width, one, kinds, widths_of, size_of, digits_in, lengths, longest, among, is_length, length_of}
 use Rattle.frames.specs.Steps.{IsHour, with_deficit, with_pressure, with_humidity}
 use Rattle.exact.proofs.OrderLaws.{le-or-lt}
 use Rattle.records.proofs.AnswerLaws.{and_both, or-either}
-
--- ---- a walk of a list
-
-module _ (ms : List ℕ) (i n : ℕ) (h : i < length ms) where
-  among-step : among (drop i ms) n ≡ (eqb (get_or ms i 0) n || among (drop (i + 1) ms) n)
-  unfolding among
-  among-step = rw (add-one, drop-cons ms i 0)
-
-  pub among-found : get_or ms i 0 ≡ n → among (drop i ms) n ≡ true
-  among-found e = rw (eq-eqb (get_or ms i 0) n e) at among-step
-
-  pub among-passed : (get_or ms i 0 ≡ n → ⊥) → among (drop i ms) n ≡ among (drop (i + 1) ms) n
-  among-passed e = rw (ne_eqb (get_or ms i 0) n e) at among-step
-
-pub among_none : (n : ℕ) → among [] n ≡ false
-unfolding among
-among_none n = refl
 
 -- a test that every number of a list passes is passed by each that is among them
 abbrev pub all_pass : (ℕ → Bool) → List ℕ → Bool
@@ -131,3 +112,10 @@ pub deficit-left : (b : ℕ) → IsHour b → (b ≡ 4 → ⊥) → (b ≡ 5 →
 deficit-left b (with_deficit e) p q = e
 deficit-left b (with_pressure e) p q = absurd (p e)
 deficit-left b (with_humidity e) p q = absurd (q e)
+
+-- a line of any kind of hour has the places of kind 02's fields
+pub hour-ge : (b n : ℕ) → IsHour b → length_of b ≤ n → length_of 2 ≤ n
+unfolding length_of
+hour-ge b n (with_deficit e) h = omega (arith, rw e at h)
+hour-ge b n (with_pressure e) h = omega (arith, rw e at h)
+hour-ge b n (with_humidity e) h = omega (arith, rw e at h)

@@ -43,15 +43,12 @@ impl Line {
         high * 16 + low
     }
 
-    // Kept: the clause is high · 256 + low, which this sum is.
     #[tactic(auto, unfolding(crate::specs::Digits::number_at))]
     pub(crate) fn number_at(&self, at: usize) -> u16
         requires { at + size_of two ≤ longest }
         ensures { Finds self.now.values (at + size_of two) result (number_at at) }
     {
-        let high = self.byte_at(at) as u16;
-        let low = self.byte_at(at + BYTE) as u16;
-        high * 256 + low
+        u16::from_be_bytes([self.byte_at(at), self.byte_at(at + BYTE)])
     }
 }
 

@@ -7,7 +7,9 @@ ghost use Rattle.frames.specs.Layout.{ozone_number, ozone_of, vapour_number, soi
 
 use crate::digits::Line;
 use crate::widths::{
-    CeilingLine, EndLine, HeaderLine, HourLine, KIND, ParameterLine, PressureLine, WarmthLine,
+    CEILING_KIND, CeilingLine, DEFICIT_KIND, END_KIND, EndLine, HEADER_KIND, HUMIDITY_KIND,
+    HeaderLine, HourLine, KIND, PARAMETER_KIND, PRESSURE_KIND, ParameterLine, PressureLine,
+    WARMTH_KIND, WarmthLine,
 };
 use crate::{Air, Ceiling, End, Header, Hour, Parameters, Raw, RawHour, Soil, Warmth, temperature};
 use trees::Measure;
@@ -34,11 +36,11 @@ fn air_at(kind: u8, line: &Line) -> Air
     let vapour = line.number_at(HourLine::VAPOUR);
     let pressure = line.number_at(PressureLine::PRESSURE);
     match kind {
-        4 => Air::Pressure {
+        PRESSURE_KIND => Air::Pressure {
             deficit: vapour,
             pressure,
         },
-        5 => Air::Humidity(vapour),
+        HUMIDITY_KIND => Air::Humidity(vapour),
         _ => Air::Deficit(vapour),
     }
 }
@@ -102,17 +104,17 @@ pub(crate) fn frame_at(line: &Line) -> Raw
 {
     let kind = line.byte_at(KIND);
     match kind {
-        1 => Raw::Header(header_at(line)),
-        3 => {
+        HEADER_KIND => Raw::Header(header_at(line)),
+        END_KIND => {
             let hours = line.number_at(EndLine::HOURS);
             Raw::End(End { hours })
         },
-        6 => {
+        CEILING_KIND => {
             let ozone = line.number_at(CeilingLine::OZONE);
             Raw::Ceiling(Ceiling { ozone })
         },
-        7 => Raw::Parameters(parameters_at(line)),
-        8 => Raw::Warmth(warmth_at(line)),
+        PARAMETER_KIND => Raw::Parameters(parameters_at(line)),
+        WARMTH_KIND => Raw::Warmth(warmth_at(line)),
         _ => Raw::Hour(hour_at(kind, line)),
     }
 }
@@ -156,9 +158,9 @@ pub fn air_kind(air: Air) -> u8
     ensures { result ≡ air_kind air }
 {
     match air {
-        Air::Deficit(_) => 2,
-        Air::Pressure { .. } => 4,
-        Air::Humidity(_) => 5,
+        Air::Deficit(_) => DEFICIT_KIND,
+        Air::Pressure { .. } => PRESSURE_KIND,
+        Air::Humidity(_) => HUMIDITY_KIND,
     }
 }
 

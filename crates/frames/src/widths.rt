@@ -6,7 +6,27 @@ pub const BYTE: usize = 2;
 
 pub const NUMBER: usize = 4;
 
-// The kind of every line, and the first of its fields.
+// The kinds: the byte that a line begins with.
+pub const HEADER_KIND: u8 = 1;
+
+pub const DEFICIT_KIND: u8 = 2;
+
+pub const END_KIND: u8 = 3;
+
+pub const PRESSURE_KIND: u8 = 4;
+
+pub const HUMIDITY_KIND: u8 = 5;
+
+pub const CEILING_KIND: u8 = 6;
+
+pub const PARAMETER_KIND: u8 = 7;
+
+pub const WARMTH_KIND: u8 = 8;
+
+// The number of kinds.
+pub const KINDS: u8 = WARMTH_KIND;
+
+// The place of a line's kind, and of the first of its fields.
 pub const KIND: usize = 0;
 
 pub const FIELDS: usize = KIND + BYTE;
@@ -140,7 +160,5 @@ impl WarmthLine {
     pub const DIGITS: usize = WarmthLine::END + NUMBER;
 }
 
-// The number of kinds, and the digits of the longest lines.
-pub const KINDS: u8 = 8;
-
+// The digits of the longest lines.
 pub const LONGEST: usize = ParameterLine::DIGITS;

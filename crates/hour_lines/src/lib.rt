@@ -7,7 +7,7 @@ ghost use Rattle.frames.specs.Frames.{parsed_of};
 ghost use Rattle.hour_lines.specs.Read.{read_of};
 ghost use Rattle.hour_lines.specs.Steps.{ReadTo, HourIn, LengthOf, hour_in};
 
-use frames::widths::{HourLine, PressureLine};
+use frames::widths::{DEFICIT_KIND, HUMIDITY_KIND, HourLine, PRESSURE_KIND, PressureLine};
 use frames::{Air, Raw, RawHour, Refusal};
 
 // Of the 16 characters from a place on: whether all are digits, and the byte that each says with the character after it.
@@ -27,12 +27,11 @@ fn chunk(line: &[u8], from: usize, bytes: &mut [u8; 16]) -> bool
 }
 
 // The two-byte number whose digits begin at a place of a chunk.
-// Kept: the clause is high · 256 + low, which this sum is.
 fn number(bytes: &[u8; 16], at: usize) -> u16
     requires { at + 2 < 16 }
     ensures { result ≡ get_or bytes.now at 0 * 256 + get_or bytes.now (at + 2) 0 }
 {
-    (bytes[at] as u16) * 256 + bytes[at + 2] as u16
+    u16::from_be_bytes([bytes[at], bytes[at + 2]])
 }
 
 // By `frames::parse`, which reads every line.
@@ -56,14 +55,18 @@ fn hour_at(kind: u8, a: &[u8; 16], b: &[u8; 16], c: &[u8; 16]) -> RawHour
     let last = number(c, 13);
     let vapour = number(b, 8);
     let air = match kind {
-        4 => Air::Pressure {
+        PRESSURE_KIND => Air::Pressure {
             deficit: vapour,
             pressure: last,
         },
-        5 => Air::Humidity(vapour),
+        HUMIDITY_KIND => Air::Humidity(vapour),
         _ => Air::Deficit(vapour),
     };
-    let soil = if kind == 4 { number(c, 9) } else { last };
+    let soil = if kind == PRESSURE_KIND {
+        number(c, 9)
+    } else {
+        last
+    };
     RawHour {
         day: number(a, 2),
         hour: a[6],
@@ -84,8 +87,8 @@ fn length_of(kind: u8) -> usize
     ensures { 0 < result → LengthOf kind result }
 {
     match kind {
-        2 | 5 => HourLine::DIGITS,
-        4 => PressureLine::DIGITS,
+        DEFICIT_KIND | HUMIDITY_KIND => HourLine::DIGITS,
+        PRESSURE_KIND => PressureLine::DIGITS,
         _ => 0,
     }
 }

@@ -6,16 +6,13 @@ mod values;
 ghost use Rattle.std.specs.Prelude.{◌≡◌, ◌<◌, ◌≤◌, length};
 ghost use Rattle.records.specs.Answers.{outcome_of};
 ghost use Rattle.humidity_spec.specs.Facts.{HumidityFacts};
-ghost use Rattle.humidity_spec.specs.Pair.{deficits_of, entry_of};
+ghost use Rattle.humidity_spec.specs.Pair.{deficits_by, deficits_of, entry_of};
 ghost use Rattle.humidity.specs.Saturation.{saturation_of};
 ghost use Rattle.humidity.specs.Steps.{EntryRead};
 
-use records::Refusal;
+use records::{HIGHEST_READING, Refusal};
 use trees::Deficits;
 use values::SATURATION;
-
-// 60.0 °C, the highest temperature.
-const HIGHEST: u16 = 1100;
 
 // 100.0 percent, the highest humidity.
 const WETTEST: u16 = 1000;
@@ -44,10 +41,23 @@ fn entry_at(x: u16) -> u32
 pub fn saturation(x: u16) -> u32
     ensures { result ≡ saturation_of x }
 {
-    if HIGHEST < x {
+    if HIGHEST_READING < x {
         return 0;
     }
     entry_at(x)
+}
+
+// The deficit at a humidity in tenths of a percent, by the table's entry s at the temperature; 0 for a humidity above 100.0 percent.
+pub fn deficit_by(h: u16, s: u32) -> Deficits
+    ensures { result ≡ deficits_by h s }
+{
+    let dry = u64::from(WETTEST.saturating_sub(h));
+    let s = u64::from(s);
+    Deficits {
+        lower: dry * s,
+        upper: dry * (s + 1),
+        den: UNITS,
+    }
 }
 
 // The deficit at a humidity in tenths of a percent and a temperature in tenths of a degree above -50.0 °C; row 10 with field 4 for a temperature above
@@ -57,17 +67,11 @@ pub fn deficit(h: u16, x: u16) -> Result<Deficits, Refusal>
     ensures result_value { outcome_of result ≡ deficits_of h x }
     ensures facts { HumidityFacts }
 {
-    if HIGHEST < x {
+    if HIGHEST_READING < x {
         return Err(Refusal::Range(4));
     }
     if WETTEST < h {
         return Err(Refusal::Range(5));
     }
-    let dry = (WETTEST - h) as u64;
-    let s = entry_at(x) as u64;
-    Ok(Deficits {
-        lower: dry * s,
-        upper: dry * (s + 1),
-        den: UNITS,
-    })
+    Ok(deficit_by(h, entry_at(x)))
 }

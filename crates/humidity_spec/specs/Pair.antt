@@ -17,9 +17,13 @@ units_per_kpa = 2 * 10 ^ 8
 unfoldable pub entry_of : ℕ → ℕ
 entry_of x = times_down units_per_kpa (saturation_at entry_k x)
 
--- (1 - h) times the entry and times the next number: 1000 tenths of a percent, and 1000 Pa a kPa
+-- (1 - h) times an entry and times the next number: 1000 tenths of a percent, and 1000 Pa a kPa
+abbrev pub deficits_by : ℕ → ℕ → Deficits
+deficits_by h s = record { lower = (1000 - h) * s; upper = (1000 - h) * (s + 1); den = units_per_kpa }
+
+-- by the entry at x
 abbrev pub deficit_pair : ℕ → ℕ → Deficits
-deficit_pair h x = record { lower = (1000 - h) * entry_of x; upper = (1000 - h) * (entry_of x + 1); den = units_per_kpa }
+deficit_pair h x = deficits_by h (entry_of x)
 
 -- no temperature is above 60.0 °C and no humidity above 100.0 percent; the first field out of range is named
 unfoldable pub deficits_of : ℕ → ℕ → Outcome Deficits

@@ -2,7 +2,6 @@
 ghost use Rattle.std.specs.Prelude.{◌≡◌, ◌+◌, ◌≤◌, [], ◌∷◌, ◌++◌, length};
 ghost use Rattle.walk_spec.specs.Lines.{line_feed};
 ghost use Rattle.report_spec.specs.Text.{decimal, space};
-ghost use Rattle.account_spec.specs.Reading.{word_of};
 ghost use Rattle.report_spec.specs.Line.{totals_line};
 ghost use Rattle.report_spec.specs.Months.{month_line};
 ghost use Rattle.report_spec.specs.Season.{refusal_line};
@@ -10,7 +9,7 @@ ghost use Rattle.report_spec.specs.Steps.{text_in, figures_before};
 ghost use Rattle.lines.specs.Calls.{phrase, word_refused};
 
 use crate::text::{LINE_END, byte_before, number_before};
-use account_spec::{Sums, Totals, Verdict};
+use account_spec::{Sums, Totals};
 use report_spec::Text;
 
 // A word before the text.
@@ -33,20 +32,6 @@ pub(crate) fn phrase_before(t: Text, word: &[u8], n: u64) -> Text
     ensures room { t.at ≤ result.at + 20 + length word.now }
 {
     word_before(number_before(t, n), word)
-}
-
-// The verdict's word.
-// Kept: the bytes of a text that is proved; `trial_cases` prints a str.
-fn word_of(verdict: Verdict) -> &'static [u8]
-    ensures word { result.now ≡ word_of verdict }
-    ensures short { length result.now ≤ 9 }
-{
-    match verdict {
-        Verdict::None => b"none",
-        Verdict::Undecided => b"undecided",
-        Verdict::Exceeded => b"exceeded",
-        Verdict::Below => b"below",
-    }
 }
 
 // A number and a space before the text.
@@ -75,9 +60,9 @@ fn figures_before(t: Text, sums: Sums) -> Text
 pub(crate) fn of_totals(t: Totals) -> Text
     ensures text { text_in result ≡ totals_line t }
 {
-    let verdict = t.verdict;
+    let word = account_spec::word_of(t.verdict).as_bytes();
     let sums = t.sums;
-    let end = word_before(LINE_END, word_of(verdict));
+    let end = word_before(LINE_END, word);
     let most = column_before(end, u64::from(sums.most));
     column_before(figures_before(most, sums), u64::from(sums.hours))
 }

@@ -27,20 +27,16 @@ pub(crate) fn byte_before(t: Text, c: u8) -> Text
     Text { bytes, at }
 }
 
-// A number's digits before the text, the last digit first.
-// Kept: the contract of the library's printing says nothing of the bytes that are written, and the clause here states them.
+// A number's digits before the text.
+#[tactic(auto, using(crate::proofs::DigitLaws::decimal_before, crate::proofs::DigitLaws::at_most_twenty))]
 pub(crate) fn number_before(t: Text, n: u64) -> Text
     requires room { 20 ≤ t.at }
     ensures text { text_in result ≡ decimal n (text_in t) }
     ensures room { t.at ≤ result.at + 20 }
 {
-    let mut made = t;
-    let mut left = n;
-    while 10 <= left {
-        made = byte_before(made, 48 + ((left % 10) as u8));
-        left = left / 10;
-    }
-    byte_before(made, 48 + (left as u8))
+    let mut bytes = t.bytes;
+    let at = itoa::write_digits(n, &mut bytes, t.at);
+    Text { bytes, at }
 }
 
 // The text's bytes.

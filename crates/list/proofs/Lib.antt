@@ -2,3 +2,4 @@ pub mod StepLaws
 pub mod ListLaws
 pub mod LineLaws
 pub mod TallyLaws
+pub mod FirstLaws

@@ -25,7 +25,7 @@ pub(crate) fn common_of(a: Account) -> Common
     ensures { common_as result ≡ common_numbers a }
 {
     let header = a.season.header;
-    let figures = measured::figures_in(measured::no_parameters(), header.tree);
+    let figures = measured::figures_before(header.tree);
     Common {
         days: header.days,
         first: header.first,

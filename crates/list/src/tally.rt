@@ -11,6 +11,7 @@ use frames::{Raw, Record, Refusal};
 // Rows 22, 13 and 23, what the first account is compared by where one was seen, and the record that all seen so far take, or the first refusal.
 // Kept: a flag for each row: an impossible account comes before an unlike one, in whichever order they are seen; row 22, by the length alone, stands with them so
 // that one function says the order of all. Before the first account is seen, `line` is not read: an empty list is row 22.
+// `first` and `line` stand apart: one Option of both would be taken apart in `kept`, `line_after` and `answer`.
 #[derive(Clone, Copy)]
 pub(crate) struct Tally {
     outside: bool,

@@ -3,7 +3,6 @@
 use account::Account;
 use cases::{Refused, u8_at};
 use cases_account::{Answer, Fields, left_by, with_field};
-use frames::Refusal;
 use list::MOST;
 use std::io;
 
@@ -56,13 +55,8 @@ impl Held {
         println!(rt; "{}: {}", Answer(answer), Fields(left))
     }
 
-    // More than the six are refused as a list of seven is.
     fn feed_list(&mut self, rt: &impl Print, line: &[u8]) -> io::Result<()> {
-        let listed = self.accounts.get_mut(..self.count);
-        let answer = listed
-            .ok_or(Refusal::ListSize)
-            .and_then(|accounts| list::feed_all(accounts, line));
-        match answer {
+        match list::feed_first(&mut self.accounts, self.count, line) {
             Ok(()) => println!(rt; "accepted"),
             Err(refusal) => println!(rt; "{}", Refused(refusal)),
         }

@@ -33,7 +33,7 @@ pub struct Parameters {
 }
 
 // The number of a measured tree.
-const MEASURED: u8 = 7;
+pub const MEASURED: u8 = 7;
 
 // Those of a season whose frame of kind 07 was not fed.
 pub fn no_parameters() -> Parameters
@@ -86,7 +86,7 @@ fn figures_by(p: Parameters, found: Option<Ratio>) -> Figures
     ensures { result ≡ measured_figures p }
 {
     // Kept: p and q are numbers for every tree; 0 is no power, and `power::f_temp` answers None for it.
-    let ratio = found.unwrap_or(Ratio { p: 0, q: 0 });
+    let ratio = found.unwrap_or(Ratio::default());
     Figures {
         gmax: p.gmax,
         fmin: p.fmin,
@@ -121,7 +121,7 @@ pub fn figures(p: Parameters) -> Figures
 }
 
 // The figures of the tree with a number, 1 to 7; those of tree 7 before its parameters are fed.
-// Kept: apart from `figures_in`, which works out the powers of the parameters; here there are none.
+// Kept for speed: this is `figures_in` of no parameters; with no powers to work out the compiler writes it into its callers (12.07 to 11.46 million instructions a year, docs/landings/W-212.md).
 #[tactic(auto, unfolding(crate::specs::Figures::figures_in, power::specs::Powers::powers_of))]
 pub fn figures_before(tree: u8) -> Option<Figures>
     ensures { result ≡ figures_in no_parameters tree }

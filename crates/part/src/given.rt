@@ -1,11 +1,11 @@
-// The records that a maker's numbers say.
+// The hour that a maker's numbers say.
 ghost use Rattle.std.specs.Prelude.{◌≡◌};
-ghost use Rattle.part_spec.specs.Frames.{soil_from, hour_from, parameters_from};
+ghost use Rattle.part_spec.specs.Frames.{soil_from, hour_from};
 
-use frames::{Air, Hour, Parameters, Soil};
-use part_spec::{HourReadings, TreeParameters};
+use frames::{Air, Hour, Soil};
+use part_spec::HourReadings;
 
-// Kept for the C interface: soil's kind is a number beside its value, so no From takes it.
+// Kept for the C interface: soil's kind is a number beside its value; a From would take the two as a pair that names neither.
 fn soil_from(water: u8, n: u16) -> Soil
     ensures { result ≡ soil_from water n }
 {
@@ -16,7 +16,7 @@ fn soil_from(water: u8, n: u16) -> Soil
     }
 }
 
-// Kept: the air is a second argument, which the call gives by its kind, so no From takes it.
+// Kept: the air is the call's, by its kind; a From would take readings and air as a pair, which is no plainer than two arguments.
 pub(crate) fn hour_from(readings: HourReadings, air: Air) -> Hour
     ensures { result ≡ hour_from readings air }
 {
@@ -30,29 +30,5 @@ pub(crate) fn hour_from(readings: HourReadings, air: Air) -> Hour
         air,
         wind: readings.wind,
         soil: soil_from(readings.water, readings.soil),
-    }
-}
-
-// Kept: neither type is this crate's, so a From would have to stand in part_spec or measured, away from its one use.
-pub(crate) fn parameters_from(p: TreeParameters) -> Parameters
-    ensures { result ≡ parameters_from p }
-{
-    Parameters {
-        gmax: p.gmax,
-        fmin: p.fmin,
-        lighta: p.lighta,
-        tmin: frames::complement(p.tmin),
-        topt: frames::complement(p.topt),
-        tmax: frames::complement(p.tmax),
-        vpdmax: p.vpdmax,
-        vpdmin: p.vpdmin,
-        soilmax: p.soilmax,
-        soilmin: p.soilmin,
-        leaf: p.leaf,
-        a: p.a,
-        e: p.e,
-        f1: p.f1,
-        f4: p.f4,
-        y: p.y,
     }
 }

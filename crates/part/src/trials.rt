@@ -12,6 +12,8 @@ use answers::Tried;
 use frames::Refusal;
 use trial_spec::Trial;
 
+// What trying answers in numbers.
+// Kept: both structs are of other crates, and answers knows no trial, so no From can stand here.
 fn tried_of(made: Trial) -> Tried
     ensures { result ≡ record { code = 0; answer = code_of (fed_as made.answer); reading = readout_of (outcome_of made.reading) } }
 {
@@ -28,6 +30,7 @@ pub fn pod1_trial(account: &[u8], line: &[u8], trial: &mut [u8]) -> Tried
     ensures { TriesBytes account.now line.now trial.old result trial.new }
 {
     // Kept: no `?`, since this returns a struct of numbers; a helper that returns a Result would need a definition of its own for its contract about the bytes.
+    // Kept: by and_then the closure borrows the buffer: neither what it writes there nor, on a refusal, that all stays as it was reached the clause.
     match stored::take_up(account) {
         Ok(a) => {
             let made = trial::trial(a, line);

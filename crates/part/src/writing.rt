@@ -8,9 +8,9 @@ ghost use Rattle.dates_spec.specs.Promise.{PlacePromise};
 ghost use Rattle.part_spec.specs.Calls.{PrintsBytes};
 ghost use Rattle.part_spec.specs.Frames.{hour_from, parameters_from, placed_text};
 
-use crate::given::{hour_from, parameters_from};
+use crate::given::hour_from;
 use answers::Printed;
-use frames::{Air, Ceiling, End, Header, Record, Refusal, Warmth};
+use frames::{Air, Ceiling, End, Header, Parameters, Record, Warmth};
 use part_spec::{HourReadings, TreeParameters};
 
 // A record's line.
@@ -63,6 +63,8 @@ pub fn pod1_write_place(
     ensures prints_bytes { PrintsBytes (placed_text tree days level latitude height) buffer.old result buffer.new }
     ensures promise { PlacePromise }
 {
+    // Kept: for a `?` a helper that returns a Result would take these six parameters and their clause once more.
+    // Kept: by and_then the closure borrows the buffer: neither what it writes there nor, on a refusal, that all stays as it was reached the clause.
     match dates::header_at(tree, days, level, latitude, height) {
         Ok(header) => write(Record::Header(header), buffer),
         Err(refusal) => answers::printed_of(Err(refusal)),
@@ -118,7 +120,7 @@ pub fn pod1_write_parameters(parameters: TreeParameters, buffer: &mut [u8]) -> P
     ensures prints_bytes { PrintsBytes (text_of (Record.Parameters (parameters_from parameters))) buffer.old result buffer.new }
     ensures round_trip { RoundTrip }
 {
-    write(Record::Parameters(parameters_from(parameters)), buffer)
+    write(Record::Parameters(Parameters::from(parameters)), buffer)
 }
 
 // Kind 08: leaf age by warmth. Row 25.

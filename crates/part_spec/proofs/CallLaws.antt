@@ -47,9 +47,12 @@ module _ (a : Account) (before after : List ℕ) (w : Result ℕ Refusal) (p : P
 
 -- ---- the account that an answer gives, over the bytes of the one before
 
+row-leaves : (before : List ℕ) (o : Outcome Account) (r : ℕ × ℕ) (code : ℕ) → o ≡ refused r → code ≡ code_of_row r → LeavesBytes before o code before
+row-leaves before o r code q is = record { answers = grind arith; leaves = grind arith; holds = λ a e. grind arith }
+
 module _ (before : List ℕ) (given : Result Account Refusal) where
   pub refused-leaves : (why : Refusal) (code : ℕ) → given ≡ Err why → code ≡ code_of_row (row_of why) → LeavesBytes before (outcome_of given) code before
-  refused-leaves why code e is = record { answers = grind arith; leaves = grind arith; holds = λ a f. grind arith }
+  refused-leaves why code e is = row-leaves before (outcome_of given) (row_of why) code (ap outcome_of e) is
 
   pub accepted-leaves : total_width widths ≤ length before → (next : Account) (after : List ℕ) (w : Result ℕ Refusal) (code : ℕ) → given ≡ Ok next
       → Prints (accepted (account_bytes next)) before w after → TakenUp next → code ≡ code_of (outcome_of w) → LeavesBytes before (outcome_of given) code after

@@ -49,14 +49,16 @@ fn print_comparison(rt: &impl Print, first: &[u8], second: &[u8], tolerance: u16
 
 // A word that is no number and a file that cannot be read print nothing. A text longer than what is read of it is refused by the same row at the same line, so
 // it has no line to hand back.
-fn print_answer(rt: &(impl Env + Files + Print + AllocGlobal)) -> Option<()> {
+fn print_answer(rt: &(impl Env + Files + Print)) -> Option<()> {
     if words::word_count(rt) != 4 {
         return None;
     }
     let tolerance = words::number_at(rt, 3)?;
-    let first = words::read_named(rt, 1)?;
-    let second = words::read_named(rt, 2)?;
-    print_comparison(rt, first.as_slice(), second.as_slice(), tolerance);
+    let mut first_buf = words::text_buffer();
+    let first = words::read_named(rt, 1, &mut first_buf)?;
+    let mut second_buf = words::text_buffer();
+    let second = words::read_named(rt, 2, &mut second_buf)?;
+    print_comparison(rt, first, second, tolerance);
     Some(())
 }
 

@@ -28,9 +28,7 @@ fn put_stopped(stopped: Stopped, buf: &mut [u8]) -> Result<usize, Refusal> {
         Stopped::Header { refusal, header } => {
             lines::put_header_refused(frames::row_of(refusal), header, buf)
         }
-        Stopped::Line { refusal, line } => {
-            lines::put_refusal(frames::row_of(refusal), line, buf)
-        }
+        Stopped::Line(stop) => { lines::put_refusal(frames::row_of(stop.refusal), stop.line, buf) }
     }
 }
 
@@ -59,10 +57,11 @@ fn print_stand(rt: &(impl Env + Print), text: &[u8], count: usize) {
 }
 
 // A file that cannot be read prints nothing.
-fn print_answer(rt: &(impl Env + Files + Print + AllocGlobal)) -> Option<()> {
+fn print_answer(rt: &(impl Env + Files + Print)) -> Option<()> {
     let count = words::word_count(rt).checked_sub(2)?;
-    let text = words::read_named(rt, 1)?;
-    print_stand(rt, text.as_slice(), count);
+    let mut buf = words::text_buffer();
+    let text = words::read_named(rt, 1, &mut buf)?;
+    print_stand(rt, text, count);
     Some(())
 }
 

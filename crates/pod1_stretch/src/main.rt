@@ -36,13 +36,14 @@ fn print_stretch(rt: &impl Print, text: &[u8], days: u16) {
 }
 
 // A word that is no number and a file that cannot be read print nothing. A text longer than what is read of it is refused by the same row at the same line.
-fn print_answer(rt: &(impl Env + Files + Print + AllocGlobal)) -> Option<()> {
+fn print_answer(rt: &(impl Env + Files + Print)) -> Option<()> {
     if words::word_count(rt) != 3 {
         return None;
     }
     let days = words::number_at(rt, 1)?;
-    let text = words::read_named(rt, 2)?;
-    print_stretch(rt, text.as_slice(), days);
+    let mut buf = words::text_buffer();
+    let text = words::read_named(rt, 2, &mut buf)?;
+    print_stretch(rt, text, days);
     Some(())
 }
 

@@ -23,9 +23,6 @@ set-worth : (i v : ℕ) (a : List ℕ) → i < length a → worth (i + 1) (set a
 set-worth i v a h =
     worth-next i (set a i v) ∙ ap₂ (λ (m w : ℕ). m + w * 4294967296 ^ i) (set-kept i i v a (omega arith)) (get_or-set_same a i v 0 h)
 
-pub set-zero : (i : ℕ) (a : List ℕ) → i < length a → worth (i + 1) (set a i 0) ≡ worth i a
-set-zero i a h = set-worth i 0 a h ∙ omega arith
-
 -- ---- a product with one word
 
 pub product-fits : (x y k : ℕ) → x < 4294967296 → y < 4294967296 → k < 4294967296 → x * y + k < 18446744073709551616

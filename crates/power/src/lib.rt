@@ -31,7 +31,7 @@ const LOWEST: u16 = 30;
 const HIGHEST: u16 = 250;
 
 // p/q in lowest terms.
-#[derive(Clone, Copy)]
+#[derive(Clone, Copy, Default)]
 pub struct Ratio {
     pub p: u16,
     pub q: u16,
@@ -98,7 +98,7 @@ pub fn floor_of(fmin: u16) -> Bounds
     }
 }
 
-// Kept: `terms_at`, `root_at` and this, each called by the next, ask `Fits`; a struct around the figures would be made once, in `f_temp`, and its field named at each figure.
+// Kept: `Fits` stands in three private functions of one chain; a struct adds a type and a field, and takes out one clause and a part of two.
 #[tactic(auto, unfolding(trees::specs::Temperature::temperature_pair))]
 fn pair_at(f: Figures, x: u16) -> Bounds
     requires { Fits f }

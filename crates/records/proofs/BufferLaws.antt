@@ -1,16 +1,14 @@
--- A text at the front of a lent buffer, or row 12 where the buffer is shorter; the bytes written are within it.
+-- A text at the front of a lent buffer, or row 12 where the buffer is shorter.
 use Rattle.std.specs.Prelude.{Result, Ok, Err}
 use Prim.Native.Nat.{ℕ, ◌≤◌, ◌<◌}
-use mathlib.Core.Path.{◌≡◌, refl, sym, ap, subst, ◌∙◌}
+use mathlib.Core.Path.{◌≡◌, sym, ap, subst, ◌∙◌}
 use mathlib.Core.List.{List, ◌++◌}
 use native.Mathlib.Omega.{arith}
 use borrow.Author.Tests.{lt-ltb, le-ltb}
-use lib.Dec.{ltb}
-use lib.ListN.{length, drop, length-append}
+use lib.ListN.{length, drop}
 use Rattle.records.specs.declared.Refusal.{Refusal}
-use Rattle.records.specs.Answers.{Outcome, accepted, refused, outcome_of}
+use Rattle.records.specs.Answers.{accepted}
 use Rattle.records.specs.Buffer.{Prints}
-use Rattle.records.proofs.AnswerLaws.{refused-not-accepted, accepted-same, row-passed}
 
 module _ (text before : List ℕ) where
   pub prints-short : length before < length text → Prints (accepted text) before (Err Refusal.Buffer) before
@@ -23,12 +21,3 @@ module _ (text before : List ℕ) where
 
 pub prints-same : {text line before after : List ℕ} {answer : Result ℕ Refusal} → text ≡ line → Prints (accepted text) before answer after → Prints (accepted line) before answer after
 prints-same {before = before} {after = after} {answer = answer} e p = subst (λ (t : List ℕ). Prints (accepted t) before answer after) e p
-
--- the bytes that were written are within the buffer
-pub printed-within : (o : Outcome (List ℕ)) (before after : List ℕ) (w : Result ℕ Refusal) (k : ℕ) → Prints o before w after → w ≡ Ok k → k ≤ length after
-printed-within (accepted t) before after w k p e =
-    let passed = row-passed (ltb (length before) (length t)) (12, 0) (accepted (length t)) k (sym p.answers ∙ ap outcome_of e) in
-    let same = accepted-same passed.1 in
-    let left : after ≡ t ++ drop (length t) before = p.leaves ∙ rw passed.0 refl in
-    rw (left, length-append t (drop (length t) before)) (omega (arith, same))
-printed-within (refused r) before after w k p e = refused-not-accepted (sym p.answers ∙ ap outcome_of e)

@@ -1,4 +1,4 @@
--- The figures of any tree (W-212): sound where row 24 lets the parameters pass; whether there are any, and in which measure, does not depend on the parameters.
+-- The figures of any tree (W-212): sound where row 24 lets the parameters pass.
 use Rattle.std.specs.Prelude.{Option, Some, None, is_none}
 use Prim.Native.Nat.{ℕ}
 use mathlib.Core.Path.{◌≡◌, refl, sym, ap, subst, ◌∙◌}
@@ -91,25 +91,3 @@ module _ (ps : Parameters) (t : ℕ) (f : Figures) (chosen : figures_in ps t ≡
 
   pub figures-in-sound : (eqb t 7 ≡ true → parameter_out ps ≡ false) → Sound f
   figures-in-sound passed = figures-in-all Sound ps t f chosen (λ e. parameters-sound ps (passed e)) (figures-sound t f)
-
--- ---- whatever the parameters are
-
-module _ (ps qs : Parameters) (t : ℕ) where
-  unknown-by : (b : Bool) → eqb t 7 ≡ b → figures_in ps t ≡ None → figures_in qs t ≡ None
-  unknown-by true e none = cc (figures-in-measured ps t e)
-  unknown-by false e none = figures-in-other qs t e ∙ sym (figures-in-other ps t e) ∙ none
-
-  pub figures-in-unknown : figures_in ps t ≡ None → figures_in qs t ≡ None
-  figures-in-unknown = unknown-by (eqb t 7) refl
-
-  measure-by : (b : Bool) (f g : Figures) → eqb t 7 ≡ b → figures_in ps t ≡ Some f → figures_in qs t ≡ Some g → f.measure ≡ g.measure
-  unfolding measured_figures
-  measure-by true f g e chosen other =
-      let first : measured_figures ps ≡ f = cc (figures-in-measured ps t e) in
-      let second : measured_figures qs ≡ g = cc (figures-in-measured qs t e) in
-      ap (λ (h : Figures). h.measure) (sym first) ∙ ap (λ (h : Figures). h.measure) second
-  measure-by false f g e chosen other =
-      let same : f ≡ g = cc (figures-in-other ps t e, figures-in-other qs t e) in ap (λ (h : Figures). h.measure) same
-
-  pub measure-same : (f g : Figures) → figures_in ps t ≡ Some f → figures_in qs t ≡ Some g → f.measure ≡ g.measure
-  measure-same f g = measure-by (eqb t 7) f g refl

@@ -13,13 +13,14 @@ ghost use Rattle.records.specs.Ranges.{checked};
 pub use measured::Parameters;
 pub use period::{all_given, period_hours};
 pub use ranges::{
-    ceiling_out, check_ceiling, check_header, check_hour, check_parameters, check_warmth,
-    lacks_ceiling, outside, parameters_out, ramps_out, soil_out, temperature_out, warmth_broken,
-    warmth_out,
+    HIGHEST_READING, ceiling_out, check_ceiling, check_header, check_hour, check_parameters,
+    check_warmth, lacks_ceiling, outside, parameters_out, ramps_out, soil_out, temperature_out,
+    warmth_broken, warmth_out,
 };
 pub use trees::Warmth;
 
 // The season's header: tree number, days in the year, first and last day of the accumulation period, critical level in hundredths of mmol m⁻².
+// Kept: a header may bring any byte as its tree, which row 5 refuses; a narrower type would ask more of callers.
 #[derive(Clone, Copy, Default, PartialEq)]
 pub struct Header {
     pub tree: u8,
@@ -38,7 +39,7 @@ pub enum Soil {
 
 // What an hour says of the air besides its ozone and temperature, by the kind of its frame: vapour pressure deficit in Pa (02);
 // deficit, and pressure in tenths of hPa (04); relative humidity in tenths of a percent (05).
-#[derive(Clone, Copy)]
+#[derive(Clone, Copy, PartialEq)]
 pub enum Air {
     Deficit(u16),
     Pressure { deficit: u16, pressure: u16 },
@@ -61,13 +62,13 @@ pub struct Hour {
 }
 
 // The season's end: the number of hour frames.
-#[derive(Clone, Copy)]
+#[derive(Clone, Copy, PartialEq)]
 pub struct End {
     pub hours: u16,
 }
 
 // The most that a missing ozone can have been, in tenths of ppb (W-207).
-#[derive(Clone, Copy)]
+#[derive(Clone, Copy, PartialEq)]
 pub struct Ceiling {
     pub ozone: u16,
 }
@@ -84,7 +85,7 @@ pub enum Record {
 }
 
 // The numbers of an hour frame as they stand in its line: ozone with FFFF for none, temperature in two's complement, soil in the measure of a tree not yet named.
-#[derive(Clone, Copy)]
+#[derive(Clone, Copy, PartialEq)]
 pub struct RawHour {
     pub day: u16,
     pub hour: u8,
@@ -98,8 +99,8 @@ pub struct RawHour {
 }
 
 // A frame that rows 1 to 3 let pass.
-// Kept: it differs from `Record` in its hour alone; one type with the hour as a parameter would put that parameter into every definition over either.
-#[derive(Clone, Copy)]
+// Kept: it differs from `Record` in its hour alone. With `Frame<H>` and a name for each instance only the constructors' names are one, and every match stays: 161 lines of definitions would change for 6 lines of code.
+#[derive(Clone, Copy, PartialEq)]
 pub enum Raw {
     Header(Header),
     Hour(RawHour),
@@ -111,6 +112,7 @@ pub enum Raw {
 
 // Why a call is refused: a case for each row, document 01's 1 to 13 and the requests' from 14 on, in that order. Range and Float name the field, 1 to 8.
 // `row_of` (specs/Answers.antt) gives each case's number.
+// Kept for the C interface: a field is the number that is told and printed, and a caller may hand any; an enum of fields would be one more match to that number.
 #[derive(Clone, Copy)]
 pub enum Refusal {
     Length,

@@ -41,6 +41,9 @@ pub fn check_header(h: Header) -> Result<(), Refusal>
     refused_where(outside(1, 10000, h.level), Refusal::Level)
 }
 
+// 60.0 °C in tenths of a degree above -50.0 °C, the highest reading of a temperature.
+pub const HIGHEST_READING: u16 = 1100;
+
 // Field 4.
 pub fn temperature_out(t: i16) -> bool
     ensures { result ≡ temperature_out t }

@@ -1,27 +1,27 @@
--- A number's bytes: one more byte read, below what bound; the library's bytes of a number.
+-- A number's bytes: below what bound one more is; the library's bytes of a number, and its number of bytes.
 use Prim.Native.Nat.{ℕ, zero, suc, ◌+◌, ◌-◌, ◌*◌, ◌/◌, ◌%◌, ◌^◌, ◌≤◌, ◌<◌}
 use mathlib.Core.Path.{◌≡◌, refl, ap, ◌∙◌}
 use mathlib.Core.List.{List, [], ◌∷◌, ◌++◌, append-nil}
 use native.Mathlib.Omega.{arith}
-use native.Mathlib.Nat.{zero-add, suc-add, pow-suc, mul_comm, pow-le-pow_right, div-div-eq-div-mul}
+use native.Mathlib.Nat.{add-zero, add-suc, zero-add, suc-add, pow-suc, mul_comm, div-div-eq-div-mul}
 use native.Mathlib.Numerals.{add-one}
-use lib.ListN.{get_or, drop}
-use lib.Seq.{append_snoc}
-use Rattle.std.specs.Int.{byte_at, bytes_high_first}
+use lib.ListN.{length, get_or, take, drop, length-drop, get_or-append}
+use lib.Seq.{append_snoc, length-take-le, get_or-drop}
+use Rattle.std.proofs.lemmas.List.{get_or-take, get_or-append_right}
+use Rattle.std.specs.Int.{byte_at, bytes_high_first, from_be_bytes, w64}
 use Rattle.stored.specs.Packing.{big_endian, big_endian_at}
 
 -- ---- one more byte read
 
-pub big_endian_at-step : (w at : ℕ) (l : List ℕ) → big_endian_at (w + 1) at l ≡ big_endian_at w at l * 256 + get_or l (at + w) 0
-unfolding big_endian_at
-big_endian_at-step w at l = rw add-one
-
 pub grown : (i n b : ℕ) → n < 256 ^ i → b < 256 → n * 256 + b < 256 ^ (i + 1)
 grown i n b h k = rw (add-one, pow-suc) (omega arith)
 
--- below 256^7 while fewer than 8 bytes are read
-pub small : (i n : ℕ) → n < 256 ^ i → i < 8 → n < 72057594037927936
-small i n h k = let p : 256 ^ i ≤ 256 ^ 7 = pow-le-pow_right (omega arith) {i = i} {j = 7} (omega arith) in omega arith
+-- ---- one more byte written, before those that are
+
+pub big_endian-step : (i n : ℕ) (rest : List ℕ) → 0 < i → big_endian (i - 1) (n / 256) (n % 256 ∷ rest) ≡ big_endian i n rest
+unfolding big_endian
+big_endian-step zero n rest h = absurd (omega arith)
+big_endian-step (suc i) n rest h = let e : suc i - 1 ≡ i = omega arith in rw e
 
 -- ---- the library's bytes
 
@@ -50,3 +50,66 @@ pub last-bytes : (w n : ℕ) → w ≤ 8 → drop (8 - w) (bytes_high_first 8 n)
 last-bytes w n h =
     let all : 8 ≡ 8 - w + w = omega arith in
     rw (← bytes-on w n [], append-nil, ← low-bytes (8 - w) w n, ← all) refl
+
+-- ---- a number from its bytes, read as the last of eight
+
+eight-is : (l : List ℕ) → from_be_bytes w64 l ≡ big_endian_at 8 0 l
+unfolding big_endian_at
+eight-is l = omega arith
+
+none-before : (k : ℕ) (l : List ℕ) → ((i : ℕ) → i < k → get_or l i 0 ≡ 0) → big_endian_at k 0 l ≡ 0
+unfolding big_endian_at
+none-before zero l h = refl
+none-before (suc k) l h = omega (arith, none-before k l (λ i j. h i (omega (arith, j))), h (0 + k) (omega arith))
+
+from-end : (k w at : ℕ) (l b : List ℕ) → big_endian_at k 0 l ≡ 0 → ((i : ℕ) → i < w → get_or l (k + i) 0 ≡ get_or b (at + i) 0) → big_endian_at (k + w) 0 l ≡ big_endian_at w at b
+unfolding big_endian_at
+from-end k zero at l b z h = rw add-zero z
+from-end k (suc w) at l b z h =
+    let less = from-end k w at l b z (λ i j. h i (omega (arith, j))) in
+    rw (add-suc, zero-add, less, h w (omega arith)) refl
+
+-- ---- eight bytes, of which the last w are those at a place of b
+
+abbrev pub noughts : ℕ → List ℕ
+noughts zero = []
+noughts (suc n) = 0 ∷ noughts n
+
+abbrev pub zeros : List ℕ
+zeros = noughts 8
+
+nought-at : (n i : ℕ) → get_or (noughts n) i 0 ≡ 0
+nought-at zero i = refl
+nought-at (suc n) zero = refl
+nought-at (suc n) (suc i) = nought-at n i
+
+module _ (k w at : ℕ) (b post : List ℕ) (few : k ≤ 8) (room : at + w ≤ length b) where
+  front-length : length (take k zeros) ≡ k
+  front-length = length-take-le k zeros few
+
+  part-length : length (take w (drop at b)) ≡ w
+  part-length = length-take-le w (drop at b) (rw length-drop (omega (arith, room)))
+
+  before : (i : ℕ) → i < k → get_or (take k zeros ++ (take w (drop at b) ++ post)) i 0 ≡ 0
+  before i h = get_or-append (take k zeros) _ 0 i (omega (arith, h, front-length)) ∙ get_or-take k zeros i 0 h ∙ nought-at 8 i
+
+  after : (i : ℕ) → i < w → get_or (take k zeros ++ (take w (drop at b) ++ post)) (k + i) 0 ≡ get_or b (at + i) 0
+  after i h =
+      let less : k + i - k ≡ i = omega arith in
+      get_or-append_right (take k zeros) (take w (drop at b) ++ post) k (k + i) 0 front-length (omega arith)
+      ∙ ap (λ (n : ℕ). get_or (take w (drop at b) ++ post) n 0) less
+      ∙ get_or-append (take w (drop at b)) post 0 i (omega (arith, h, part-length))
+      ∙ get_or-take w (drop at b) i 0 h
+      ∙ get_or-drop at b i 0
+
+  placed : big_endian_at (k + w) 0 (take k zeros ++ (take w (drop at b) ++ post)) ≡ big_endian_at w at b
+  placed = from-end k w at _ b (none-before k _ before) after
+
+pub read-from-end : (w at : ℕ) (b post : List ℕ) → w ≤ 8 → at + w ≤ length b
+    → from_be_bytes w64 (take (8 - w) zeros ++ (take (at + w - at) (drop at b) ++ post)) ≡ big_endian_at w at b
+read-from-end w at b post h room =
+    let all : 8 ≡ 8 - w + w = omega (arith, h) in
+    let width : at + w - at ≡ w = omega arith in
+    let l = take (8 - w) zeros ++ (take w (drop at b) ++ post) in
+    ap (λ (n : ℕ). from_be_bytes w64 (take (8 - w) zeros ++ (take n (drop at b) ++ post))) width
+    ∙ eight-is l ∙ ap (λ (n : ℕ). big_endian_at n 0 l) all ∙ placed (8 - w) w at b post (omega (arith, h)) room

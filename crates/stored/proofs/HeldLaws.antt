@@ -60,21 +60,9 @@ pub none-version : (l : List ℕ) → (get_or l 0 0 ≡ version → ⊥) → tru
 unfolding holds_none
 none-version l h = simp (ne_eqb (get_or l 0 0) version h, or-true)
 
-pub none-phase : (l : List ℕ) → 2 < get_or l 1 0 → true ≡ holds_none l
-unfolding holds_none
-none-phase l h = simp (lt-ltb 2 (get_or l 1 0) h, or-true)
-
-pub none-kind : (l : List ℕ) → total_width widths ≤ length l → get_or l 0 0 ≡ version → get_or l 1 0 ≤ 2 → not (is_kind (get_or l 2 0)) ≡ holds_none l
-unfolding holds_none
-none-kind l h v p = simp (le-ltb (length l) (total_width widths) h, eq-eqb (get_or l 0 0) version v, le-ltb 2 (get_or l 1 0) p)
-
 pub taken_none : (l : List ℕ) → holds_none l ≡ true → refused (13, 0) ≡ take_up_of l
 unfolding take_up_of
 taken_none l e = simp e
-
-pub taken-account : (l : List ℕ) → holds_none l ≡ false → accepted (account_in l) ≡ take_up_of l
-unfolding take_up_of
-taken-account l e = simp e
 
 -- ---- test by test
 

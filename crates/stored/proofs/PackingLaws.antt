@@ -15,7 +15,7 @@ use Rattle.stored.proofs.BigEndianLaws.{grown, last-bytes}
 
 -- ---- reading
 
-big_endian_at-fits : (l : List ℕ) → ((i : ℕ) → get_or l i 0 < 256) → (w at : ℕ) → big_endian_at w at l < 256 ^ w
+pub big_endian_at-fits : (l : List ℕ) → ((i : ℕ) → get_or l i 0 < 256) → (w at : ℕ) → big_endian_at w at l < 256 ^ w
 unfolding big_endian_at
 big_endian_at-fits l small zero at = omega arith
 big_endian_at-fits l small (suc w) at =

@@ -12,11 +12,9 @@ pub(crate) fn get(b: &[u8; SIZE], at: usize, width: usize) -> u64
     ensures is { result ≡ big_endian_at width at b.now }
     ensures fits { result < 256 ^ width }
 {
-    let mut n = 0;
-    for x in &b[at..at + width] {
-        n = n * 256 + u64::from(*x);
-    }
-    n
+    let mut eight = [0; 8];
+    eight[8 - width..].copy_from_slice(&b[at..at + width]);
+    u64::from_be_bytes(eight)
 }
 
 pub(crate) fn put(b: &mut [u8; SIZE], at: usize, width: usize, n: u64)

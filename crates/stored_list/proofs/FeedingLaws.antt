@@ -1,16 +1,14 @@
 -- Feeding a list that stands in bytes, by what the calls below it answer.
 use Rattle.std.specs.Prelude.{Result, Ok, Err}
-use Prim.Native.Nat.{ℕ, suc, ◌+◌, ◌*◌, ◌≤◌}
+use Prim.Native.Nat.{ℕ, suc, ◌+◌, ◌*◌}
 use mathlib.Core.Path.{◌≡◌, refl, sym, ap, ◌∙◌}
 use mathlib.Core.Bool.{true, false}
 use mathlib.Core.List.{List, ◌++◌}
 use native.Mathlib.Omega.{arith}
-use borrow.Author.Tests.{ltb-false}
-use lib.Dec.{eqb, ltb}
 use lib.ListN.{length, drop, length-append, length-drop}
 use Rattle.records.specs.declared.Refusal.{Refusal}
 use Rattle.records.specs.Answers.{Outcome, accepted, refused, reply, row_of, outcome_of}
-use Rattle.records.proofs.AnswerLaws.{or-neither, refused-not-accepted}
+use Rattle.records.proofs.AnswerLaws.{refused-not-accepted}
 use Rattle.account_spec.specs.declared.Account.{Account}
 use Rattle.stored.specs.Packing.{total_width}
 use Rattle.stored.specs.Layout.{widths}
@@ -39,9 +37,6 @@ each-length (Each.more r rs) = ap suc (each-length rs)
 
 fed-length : (xs ys : List Account) (line : List ℕ) → feed_all_of xs line ≡ accepted ys → length ys ≡ length xs
 fed-length xs ys line e = each-length (accepted-fed xs ys line (record { answers = ap reply (sym e); leaves = ap (left_together xs) (sym e) }))
-
-pub listed-few : (n : ℕ) → size_out n ≡ false → n ≤ 6
-listed-few n fits = ltb-false 6 n (or-neither (eqb n 0) (ltb 6 n) fits).1
 
 module _ (before line : List ℕ) where
   abbrev count : ℕ

@@ -13,8 +13,8 @@ use list::MOST;
 use stored::SIZE;
 
 // The accounts that bytes hold, into as many: row 13 where the bytes of one hold none.
-// Kept: each account's place in the bytes is computed, here and below; tried by zips of iter_mut, chunks_exact and chunks_exact_mut: std does not say what lent
-// slices end as, so no proof closed.
+// Kept: each account's place in the bytes is computed, here and below: after an adapter of iter_mut (zip, enumerate) std says nothing of the slice's values. A
+// rest of the bytes, cut by SIZE each turn, would be one more variable of each loop.
 fn take_up_all(accounts: &mut [Account], bytes: &[u8]) -> Result<(), Refusal>
     requires { length accounts.old ≡ count_in bytes.now }
     ensures { taken_as result accounts.new ≡ list_in bytes.now }

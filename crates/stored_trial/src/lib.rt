@@ -41,6 +41,7 @@ pub fn store(trial: Trial, buffer: &mut [u8]) -> Result<usize, Refusal>
     ensures prints { Prints (accepted (trial_bytes (contents_of trial))) buffer.old result buffer.new }
     ensures back { outcome_of result ≡ accepted trial_width → TrialTakenUp trial }
 {
+    // Kept: tried with first_chunk_mut: the goal then says both parts by 176 and 88, the laws by the length of what is left, and the proof did not close.
     if buffer.len() < SIZE {
         return Err(Refusal::Buffer);
     }
@@ -53,12 +54,11 @@ pub fn store(trial: Trial, buffer: &mut [u8]) -> Result<usize, Refusal>
 
 // ---- taking up
 
-// The answer that the code in the first two bytes names, where it is one.
-fn named_in(bytes: &[u8]) -> Option<Result<(), Refusal>>
-    requires { code_width ≤ length bytes.now }
-    ensures { coded_as result ≡ coded_of (big_endian_at code_width 0 bytes.now) }
+// The answer that a code names, where it is one.
+fn named_in(code: &[u8; TRIED]) -> Option<Result<(), Refusal>>
+    ensures { coded_as result ≡ coded_of (big_endian_at code_width 0 code.now) }
 {
-    answers::answer_of(u16::from_be_bytes([bytes[0], bytes[1]]))
+    answers::answer_of(u16::from_be_bytes(*code))
 }
 
 // The answer with this name, which leaves this account.
@@ -92,11 +92,11 @@ pub fn take_up(bytes: &[u8]) -> Result<Trial, Refusal>
     ensures holds { Holds (contents_in bytes.now) result }
     ensures same { TrialStoredBack bytes.now }
 {
-    if bytes.len() < SIZE {
+    let Some((code, accounts)) = bytes.split_first_chunk::<TRIED>() else {
         return Err(Refusal::Account);
-    }
-    let named = named_in(bytes).ok_or(Refusal::Account)?;
-    let tried = stored::take_up(&bytes[TRIED..])?;
-    let next = stored::take_up(&bytes[NEXT..])?;
+    };
+    let named = named_in(code).ok_or(Refusal::Account)?;
+    let tried = stored::take_up(accounts)?;
+    let next = stored::take_up(&accounts[stored::SIZE..])?;
     Ok(with_reading(tried, answer_with(named, next)))
 }

@@ -30,8 +30,7 @@ pub fn ozone_sums(ceiling: u16, h: Hour) -> OzoneSums
     ensures missing { result.missing ≡ cond (is_missing h.ozone) 1 0 }
     ensures small { (result.least < 65536) × (result.most < 65536) × (result.missing < 2) }
 {
-    let ozone = h.ozone;
-    match ozone {
+    match h.ozone {
         Some(n) => {
             let over = excess(n);
             OzoneSums {

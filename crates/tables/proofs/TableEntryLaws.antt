@@ -10,9 +10,9 @@ use lib.ListN.{length, get_or}
 use Rattle.trees.specs.declared.Figures.{Figures}
 use Rattle.trees.specs.Sound.{Sound}
 use Rattle.trees.specs.Temperature.{temperature_pair, tried, allowed}
-use Rattle.trees.specs.TemperatureTable.{IsTrimmed}
 use Rattle.trees.proofs.TemperatureTable.{table_test, table-tested}
 use Rattle.trees.proofs.TemperatureLookup.{pair_read}
+use Rattle.trees.proofs.TemperatureTrim.{trimmed_test, trimmed-tested}
 use Rattle.exact.specs.declared.Bounds.{Bounds}
 use Rattle.tables.specs.Steps.{Readable, ReadAs, IsTable}
 
@@ -51,16 +51,15 @@ read-pair {f} sound {from} {x} {ts} h tested =
     let asked = h.asked in
     pair_read sound (table-tested f from ts table) (omega arith) (omega arith) asked.first asked.last (h.lower, h.upper)
 
--- a tree's table, by two computed tests
+-- a tree's table, by three computed tests
 pub table_is :
-    {f : Figures} → Sound f → {first last : ℕ} {ts : List ℕ} → IsTrimmed f first last → last ≡ first + length ts - 1 → 0 < length ts → T (read_test f.fmin ts) →
-    T (part_test f first ts) → IsTable f f.fmin first ts
+    {f : Figures} → Sound f → {first : ℕ} {ts : List ℕ} → 0 < length ts → T (trimmed_test f first (first + length ts - 1)) → T (read_test f.fmin ts) →
+    T (part_test f first ts) → IsTable f first ts
 unfolding part_test
-table_is {f} sound {first} {last} {ts} trimmed ends filled reads tested = record {
-  floor = refl;
+table_is {f} sound {first} {ts} filled cut reads tested = record {
   percent = grind (arith, nat_tests);
   filled = filled;
-  trimmed = rw (← ends) trimmed;
+  trimmed = trimmed-tested f first (first + length ts - 1) sound cut;
   readable = λ x low high. readable reads low high;
   pairs = λ {x} {r} h. read-pair sound h tested;
 }

@@ -6,27 +6,27 @@ use Rattle.trees.proofs.SoundLaws.{boreal_spruce-sound, birch-sound, continental
 use Rattle.trees.proofs.TemperatureTrim.{trimmed-tested}
 use Rattle.tables.specs.Trimmed.{Trimmed}
 
-pub boreal_spruce-trimmed : IsTrimmed boreal_spruce 509 1100
+boreal_spruce-trimmed : IsTrimmed boreal_spruce 509 1100
 unfolding tried allowed
 boreal_spruce-trimmed = trimmed-tested boreal_spruce 509 1100 boreal_spruce-sound tt
 
-pub birch-trimmed : IsTrimmed birch 556 1100
+birch-trimmed : IsTrimmed birch 556 1100
 unfolding tried allowed
 birch-trimmed = trimmed-tested birch 556 1100 birch-sound tt
 
-pub continental_spruce-trimmed : IsTrimmed continental_spruce 511 813
+continental_spruce-trimmed : IsTrimmed continental_spruce 511 813
 unfolding tried allowed
 continental_spruce-trimmed = trimmed-tested continental_spruce 511 813 continental_spruce-sound tt
 
-pub beech-trimmed : IsTrimmed beech 557 803
+beech-trimmed : IsTrimmed beech 557 803
 unfolding tried allowed
 beech-trimmed = trimmed-tested beech 557 803 beech-sound tt
 
-pub oak-trimmed : IsTrimmed oak 517 848
+oak-trimmed : IsTrimmed oak 517 848
 unfolding tried allowed
 oak-trimmed = trimmed-tested oak 517 848 oak-sound tt
 
-pub evergreen-trimmed : IsTrimmed evergreen 513 889
+evergreen-trimmed : IsTrimmed evergreen 513 889
 unfolding tried allowed
 evergreen-trimmed = trimmed-tested evergreen 513 889 evergreen-sound tt
 

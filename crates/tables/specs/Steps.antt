@@ -20,11 +20,10 @@ pub record ReadAs (fmin : ℕ) (table : List ℕ) (from x : ℕ) (r : Bounds) : 
   pub lower : r.lower ≡ max (fmin * 10000000) (get_or table (x - from) 0)
   pub upper : r.upper ≡ max (fmin * 10000000) (get_or table (x - from) 0 + 1)
 
--- the tree's f_min, and its whole table from the reading `first` on
-pub record IsTable (f : Figures) (fmin first : ℕ) (table : List ℕ) : Type 0 where
-  pub floor : fmin ≡ f.fmin
-  pub percent : fmin ≤ 100
+-- a tree's whole table, from the reading `first` on
+pub record IsTable (f : Figures) (first : ℕ) (table : List ℕ) : Type 0 where
+  pub percent : f.fmin ≤ 100
   pub filled : 0 < length table
   pub trimmed : IsTrimmed f first (first + length table - 1)
-  pub readable : (x : ℕ) → first ≤ x → x < first + length table → Readable fmin table first x
-  pub pairs : {x : ℕ} {r : Bounds} → ReadAs fmin table first x r → r ≡ temperature_pair f x
+  pub readable : (x : ℕ) → first ≤ x → x < first + length table → Readable f.fmin table first x
+  pub pairs : {x : ℕ} {r : Bounds} → ReadAs f.fmin table first x r → r ≡ temperature_pair f x

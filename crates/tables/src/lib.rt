@@ -12,11 +12,8 @@ ghost use Rattle.tables.specs.Answers.{temperature_of};
 ghost use Rattle.tables.specs.Trimmed.{Trimmed};
 
 use exact::Bounds;
-use records::Refusal;
+use records::{HIGHEST_READING, Refusal};
 use trees::Curve;
-
-// 60.0 °C, the highest reading.
-const HIGHEST: u16 = 1100;
 
 // f_temp by a curve; row 10 with field 4 for a reading above 60.0 °C.
 #[tactic(auto, unfolding(crate::specs::Answers::temperature_of), using(trees::proofs::FactsLaws::facts, crate::proofs::TrimmedLaws::trimmed))]
@@ -25,7 +22,7 @@ pub fn f_temp(curve: Curve, x: u16) -> Result<Bounds, Refusal>
     ensures facts { FactorFacts }
     ensures trimmed { Trimmed }
 {
-    if HIGHEST < x {
+    if HIGHEST_READING < x {
         return Err(Refusal::Range(4));
     }
     Ok(lookups::pair_at(curve, x))

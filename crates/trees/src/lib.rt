@@ -95,7 +95,7 @@ pub struct Deficits {
 }
 
 // A factor lies from lower to upper.
-// Kept: `Bounds` is of whole numbers, and the definitions of several crates name it; with a type parameter each of them would name the number's type too.
+// Kept: with one type for both, every definition that names `Bounds` would name its numbers' type, for a struct of two fields.
 #[derive(Clone, Copy)]
 pub struct FactorPair {
     pub lower: Fraction,
@@ -299,6 +299,7 @@ impl Tree for Evergreen {
 }
 
 // The figures of the tree with a number, 1 to 6.
+// Kept: a header may bring any byte, which row 5 refuses; a narrower type would ask more of callers.
 #[tactic(auto, unfolding(crate::specs::Figures::figures_of))]
 pub fn figures_of(tree: u8) -> Option<Figures>
     ensures value { result ≡ figures_of tree }

@@ -1,5 +1,5 @@
 // Answers as words.
-use account::{Fed, Totals, Verdict};
+use account::{Fed, Totals};
 use cases::Refused;
 use cases_account::{Answer, Fields, Seven};
 use frames::Refusal;
@@ -16,23 +16,15 @@ impl fmt::Display for Answered {
     }
 }
 
-// Kept: Verdict is of another crate, so no Display can stand here; a struct around it would hold this same match.
-fn word_of(verdict: Verdict) -> &'static str {
-    match verdict {
-        Verdict::None => "none",
-        Verdict::Undecided => "undecided",
-        Verdict::Exceeded => "exceeded",
-        Verdict::Below => "below",
-    }
-}
-
 #[derive(Clone, Copy)]
 struct Reading(Result<Totals, Refusal>);
 
 impl fmt::Display for Reading {
     fn fmt<W: fmt::Write>(&self, f: &mut fmt::Formatter<W>) -> fmt::Result {
         match self.0 {
-            Ok(Totals { sums, verdict }) => { write!(f, "{} {}", Seven(sums), word_of(verdict)) }
+            Ok(Totals { sums, verdict }) => {
+                write!(f, "{} {}", Seven(sums), account_spec::word_of(verdict))
+            }
             Err(refusal) => write!(f, "{}", Refused(refusal)),
         }
     }

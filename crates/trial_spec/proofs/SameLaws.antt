@@ -1,9 +1,12 @@
 -- Two accounts are the same exactly where they are equal: each field is a number of the list, and the numbers determine the fields.
 use Rattle.std.specs.Prelude.{Option, Some, None}
+use Prim.Native.Nat.{ℕ}
 use mathlib.Core.Path.{◌≡◌, refl, sym, ap, ◌∙◌}
 use mathlib.Core.Bool.{true}
+use mathlib.Core.List.{List}
 use mathlib.Core.Logic.{◌↔◌}
 use borrow.Author.Tests.{eqb-true, eq-eqb}
+use lib.ListN.{get_or}
 use native.Mathlib.Omega.{arith}
 use Rattle.records.proofs.AnswerLaws.{and_both}
 use Rattle.records.proofs.NumberLaws.{numbers-equal, numbers-same}
@@ -29,6 +32,20 @@ kind-back None = refl
 kind-back (Some Deficit) = refl
 kind-back (Some Pressure) = refl
 kind-back (Some Humidity) = refl
+
+abbrev sums_at : List ℕ → Sums
+sums_at l = record {
+  hours = get_or l 0 0;
+  counted = get_or l 1 0;
+  missing = get_or l 2 0;
+  lower = get_or l 3 0;
+  upper = get_or l 4 0;
+  least = get_or l 5 0;
+  most = get_or l 6 0;
+}
+
+sums-back : (s : Sums) → sums_at (sums_numbers s) ≡ s
+sums-back s = refl
 
 sums-equal : (s t : Sums) → sums_numbers s ≡ sums_numbers t → s ≡ t
 sums-equal s t e = grind arith

@@ -23,7 +23,7 @@ fn ceiling_late(s: State) -> bool
 fn awaited(season: Season) -> bool
     ensures { result ≡ awaits season }
 {
-    season.header.tree == 7 && !measured::is_fed(season.parameters)
+    season.header.tree == measured::MEASURED && !measured::is_fed(season.parameters)
 }
 
 // Warmth comes directly after parameters and once.
@@ -41,8 +41,7 @@ fn open_turn(s: State, frame: Raw) -> bool
 {
     match frame {
         Raw::Header(_) => true,
-        Raw::Hour(_) => awaited(s.season),
-        Raw::End(_) => awaited(s.season),
+        Raw::Hour(_) | Raw::End(_) => awaited(s.season),
         Raw::Ceiling(_) => awaited(s.season) | ceiling_late(s),
         Raw::Parameters(_) => !awaited(s.season),
         Raw::Warmth(_) => warmth_late(s),
@@ -54,14 +53,7 @@ pub fn out_of_turn(s: State, frame: Raw) -> bool
     ensures { result ≡ out_of_turn s frame }
 {
     match s.phase {
-        Phase::Fresh => match frame {
-            Raw::Header(_) => false,
-            Raw::Hour(_) => true,
-            Raw::End(_) => true,
-            Raw::Ceiling(_) => true,
-            Raw::Parameters(_) => true,
-            Raw::Warmth(_) => true,
-        },
+        Phase::Fresh => !matches!(frame, Raw::Header(_)),
         Phase::Open => open_turn(s, frame),
         Phase::Closed => true,
     }
@@ -148,7 +140,7 @@ fn by_kind(s: State, frame: Raw) -> Result<Record, Refusal>
     ensures { outcome_of result ≡ due_of s frame }
 {
     match frame {
-        Raw::Header(_) => {},
+        Raw::Header(_) | Raw::Ceiling(_) | Raw::Warmth(_) => {},
         Raw::Hour(raw) => {
             in_order(s, raw)?;
             if records::lacks_ceiling(s.season.ceiling, frames::ozone_of(raw.ozone)) {
@@ -160,16 +152,12 @@ fn by_kind(s: State, frame: Raw) -> Result<Record, Refusal>
                 return Err(Refusal::Count);
             }
         },
-        Raw::Ceiling(_) => {},
         Raw::Parameters(parameters) => {
-            if records::parameters_out(parameters) {
-                return Err(Refusal::Parameter);
-            }
+            records::check_parameters(parameters)?;
             if records::ramps_out(s.season.header, parameters) {
                 return Err(Refusal::Period);
             }
         },
-        Raw::Warmth(_) => {},
     }
     frames::record_of(s.season.header.tree, frame)
 }

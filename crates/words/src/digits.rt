@@ -6,7 +6,7 @@ use crate::input::{word_at, word_buffer};
 use std::env::Env;
 
 // What a word of decimal digits says.
-// Kept: the library's `parse` refuses a number that is too large, which says the greatest one here.
+// Kept: the library's `parse` takes a sign, and refuses a number that is too large; here a sign is no digit, and such a number says the greatest.
 pub fn number(word: &[u8]) -> Option<u16>
     ensures { result ≡ number_of word.now }
 {

@@ -1,5 +1,5 @@
 // Standard input, or a file that a word of the program names.
-ghost use Rattle.std.specs.Prelude.{◌+◌, ◌≤◌, ◌≡◌, length, IfSome, vec_len};
+ghost use Rattle.std.specs.Prelude.{◌+◌, ◌≤◌, ◌≡◌, length, IfSome};
 ghost use Rattle.words.specs.Input.{bytes_in};
 
 use std::env::{Env, FillError};
@@ -14,6 +14,7 @@ const TEXT_BYTES: usize = 364544;
 const WORD_BYTES: usize = 131072;
 
 // Room for a word.
+// Kept: a const parameter would have each program name the size where it names the buffer.
 pub fn word_buffer() -> [u8; WORD_BYTES]
     ensures { 131072 ≡ length result }
 {
@@ -21,6 +22,7 @@ pub fn word_buffer() -> [u8; WORD_BYTES]
 }
 
 // Room for that much of a text.
+// Kept: as `word_buffer`.
 pub fn text_buffer() -> [u8; TEXT_BYTES]
     ensures { 364544 ≡ length result }
 {
@@ -52,7 +54,7 @@ pub fn word_at<'a>(rt: &impl Env, place: usize, buf: &'a mut [u8]) -> &'a [u8]
 }
 
 // Until the buffer is full or the input ends.
-// Kept: `read_exact` refuses an input that ends before the buffer is full, and `read_to_end` puts the text on a heap, where the report program has one buffer on its stack.
+// Kept: `read_exact` refuses an input that ends before the buffer is full, and `read_to_end` puts the text on a heap, where the programs have buffers on their stack.
 pub fn fill<R: Read>(input: &mut R, buf: &mut [u8]) -> Option<usize>
     ensures { bytes_in result ≤ length buf.new }
 {
@@ -67,17 +69,14 @@ pub fn fill<R: Read>(input: &mut R, buf: &mut [u8]) -> Option<usize>
     Some(n)
 }
 
-// As much of a text as decides what is said of it, from the file that the program's word at a place names, its own name being at place 0. A name that is missing,
-// too long or not UTF-8 names no file, and nothing is read where memory does not suffice.
-pub fn read_named(rt: &(impl Env + Files + AllocGlobal), place: usize) -> Option<Vec<u8>>
-    ensures { IfSome result (λ text. vec_len text ≤ 364544) }
+// The bytes of the file that the program's word at a place names, its own name being at place 0, at the buffer's start, as many as it has room for. A name that
+// is missing, too long or not UTF-8 names no file.
+pub fn read_named<'a>(rt: &(impl Env + Files), place: usize, buf: &'a mut [u8]) -> Option<&'a [u8]>
+    ensures { IfSome result (λ text. length text.now ≤ length buf.old) }
 {
-    let mut buf = word_buffer();
-    let path = str::from_utf8(word_at(rt, place, &mut buf)).ok()?;
-    let file = File::open(rt, path).ok()?;
-    let mut text = Vec::new(rt.alloc());
-    file.take(TEXT_BYTES as u64).read_to_end(&mut text).ok()?;
-    // What `read_to_end` leaves has no bound in its contract.
-    text.truncate(TEXT_BYTES);
-    Some(text)
+    let mut name = word_buffer();
+    let path = str::from_utf8(word_at(rt, place, &mut name)).ok()?;
+    let mut file = File::open(rt, path).ok()?;
+    let n = fill(&mut file, buf)?;
+    Some(&buf[..n])
 }

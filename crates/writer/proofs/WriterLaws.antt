@@ -1,16 +1,19 @@
 -- A line set at the front of a buffer; a record that is refused first leaves the buffer.
 use Rattle.std.specs.Prelude.{Ok}
-use Prim.Native.Nat.{ℕ, ◌+◌, ◌-◌, ◌≤◌}
+use Prim.Native.Nat.{ℕ, zero, suc, ◌+◌, ◌-◌, ◌*◌, ◌<◌, ◌≤◌}
 use borrow.Rule.Slice.PartMut.{put_mid, mid_of}
 use mathlib.Core.Path.{◌≡◌, refl, sym, ap, ap₂, ◌∙◌}
-use mathlib.Core.List.{List, [], ◌++◌, append_assoc, append-nil}
+use mathlib.Core.List.{List, [], ◌∷◌, ◌++◌, append_assoc, append-nil}
 use native.Mathlib.Nat.{zero-add}
+use native.Mathlib.Numerals.{add-one}
 use native.Mathlib.Omega.{arith}
-use lib.ListN.{length, take, drop, length-drop, length-append, drop_of_length-le}
-use lib.Seq.{sets, sets-eq, take_all, take_at, drop_at, drop-drop}
+use lib.ListN.{length, get_or, take, drop, length-drop, length-append, drop_of_length-le}
+use lib.Seq.{sets, length-sets, sets-eq, length-take-le, take_all, take_at, drop_at, drop-drop}
 use Rattle.records.specs.Answers.{accepted}
 use Rattle.records.specs.Buffer.{Prints}
 use Rattle.records.proofs.BufferLaws.{prints-whole}
+use Rattle.frames.specs.Digits.{number}
+use Rattle.writer.specs.Steps.{numbers}
 
 pub prints-set : (text b after : List ℕ) (n : ℕ) → length text ≡ n → n ≤ length b → after ≡ sets b 0 text → Prints (accepted text) b (Ok n) after
 prints-set text b after n e h p =
@@ -42,3 +45,27 @@ set-next b text more m ys k p s h q =
     sets-eq (text ++ more) b 0 (omega (arith, length-append text more)) ∙ rw zero-add in
     let past : drop (length more) rest ≡ drop (length (text ++ more)) b = drop-drop (length more) (length text) b ∙ rw length-append in
     ap₂ (put_mid (length text) k) is next ∙ rest-set text rest more k left (omega arith) ∙ ap (λ (r : List ℕ). (text ++ more) ++ r) past ∙ sym after
+
+-- ---- numbers in a row
+
+numbers-length : (ns : List ℕ) → length (numbers ns []) ≡ 4 * length ns
+numbers-length [] = refl
+numbers-length (n ∷ ns) = omega (arith, numbers-length ns)
+
+numbers-more : (i : ℕ) (ns : List ℕ) → i < length ns → numbers (take (suc i) ns) [] ≡ numbers (take i ns) [] ++ number (get_or ns i 0) []
+numbers-more i [] h = absurd (omega (arith, h))
+numbers-more zero (n ∷ ns) h = refl
+numbers-more (suc i) (n ∷ ns) h = ap (number n) (numbers-more i ns (omega (arith, h)))
+
+-- one number more
+pub numbers-next :
+    (b ns m ys : List ℕ) (i : ℕ) → m ≡ sets b 0 (numbers (take i ns) []) → i < length ns → length ns * 4 ≤ length b → length m ≡ length b →
+    ys ≡ sets (mid_of (4 * i) (length m - 4 * i) m) 0 (number (get_or ns i 0) []) →
+    (put_mid (4 * i) (length m - 4 * i) m ys ≡ sets b 0 (numbers (take (i + 1) ns) [])) × (length (put_mid (4 * i) (length m - 4 * i) m ys) ≡ length b)
+numbers-next b ns m ys i p h room same q =
+    let size : length (numbers (take i ns) []) ≡ 4 * i = numbers-length (take i ns) ∙ ap (λ (k : ℕ). 4 * k) (length-take-le i ns (omega (arith, h))) in
+    let more : 4 * i + 4 ≤ length b = omega (arith, h, room) in
+    let next = set-next b (numbers (take i ns) []) (number (get_or ns i 0) []) m ys (length m - 4 * i) p (rw size refl) (rw size more) (rw size q) in
+    let is : numbers (take (i + 1) ns) [] ≡ numbers (take i ns) [] ++ number (get_or ns i 0) [] = rw add-one (numbers-more i ns h) in
+    let whole : put_mid (4 * i) (length m - 4 * i) m ys ≡ sets b 0 (numbers (take (i + 1) ns) []) = rw is (rw size at next) in
+    (whole, ap length whole ∙ length-sets b 0 (numbers (take (i + 1) ns) []))

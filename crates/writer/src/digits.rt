@@ -1,8 +1,9 @@
 // The digits of a byte and of two-byte numbers, high byte first, at the front of a lent buffer.
-ghost use Rattle.std.specs.Prelude.{◌≡◌, ◌≤◌, ◌<◌, [], ◌∷◌, length};
+ghost use Rattle.std.specs.Prelude.{◌≡◌, ◌*◌, ◌≤◌, ◌<◌, [], length};
 ghost use Rattle.std.proofs.lemmas.List.Edits.{sets};
 ghost use Rattle.frames.specs.Digits.{digit_of, byte, number};
-ghost use Rattle.frames.specs.Kinds.{one, two, size_of, span};
+ghost use Rattle.writer.specs.Steps.{numbers};
+ghost use Rattle.frames.specs.Kinds.{one, two, size_of};
 
 use frames::widths::{BYTE, NUMBER};
 
@@ -31,22 +32,12 @@ pub(crate) fn put_number(buf: &mut [u8], n: u16)
     put_byte(&mut buf[BYTE..], (n % 256) as u8);
 }
 
-// Two numbers in a row.
-pub(crate) fn put_two(buf: &mut [u8], a: u16, b: u16)
-    requires { span (two ∷ two ∷ []) ≤ length buf.old }
-    ensures { buf.new ≡ sets buf.old 0 (number a (number b [])) }
+// Numbers in a row.
+pub(crate) fn put_numbers(buf: &mut [u8], ns: &[u16])
+    requires { length ns.now * 4 ≤ length buf.old }
+    ensures { buf.new ≡ sets buf.old 0 (numbers ns.now []) }
 {
-    put_number(buf, a);
-    put_number(&mut buf[NUMBER..], b);
-}
-
-const TWO: usize = NUMBER + NUMBER;
-
-// Four numbers in a row.
-pub(crate) fn put_four(buf: &mut [u8], a: u16, b: u16, c: u16, d: u16)
-    requires { span (two ∷ two ∷ two ∷ two ∷ []) ≤ length buf.old }
-    ensures { buf.new ≡ sets buf.old 0 (number a (number b (number c (number d [])))) }
-{
-    put_two(buf, a, b);
-    put_two(&mut buf[TWO..], c, d);
+    for i in 0..ns.len() {
+        put_number(&mut buf[NUMBER * i..], ns[i]);
+    }
 }

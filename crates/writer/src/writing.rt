@@ -9,8 +9,11 @@ ghost use Rattle.records.specs.Answers.{accepted, refused, outcome_of};
 ghost use Rattle.records.specs.Buffer.{Prints};
 ghost use Rattle.records.specs.declared.Record.{Record};
 
-use crate::digits::{put_byte, put_four, put_number, put_two};
-use frames::widths::{EndLine, HeaderLine, HourLine, ParameterLine, PressureLine, WarmthLine};
+use crate::digits::{put_byte, put_number, put_numbers};
+use frames::widths::{
+    CEILING_KIND, END_KIND, EndLine, HEADER_KIND, HeaderLine, HourLine, PARAMETER_KIND,
+    ParameterLine, PressureLine, WARMTH_KIND, WarmthLine,
+};
 use frames::{Air, Header, Hour, Parameters, Record, Refusal, Warmth};
 
 // Row 12 where a buffer is shorter than a line.
@@ -28,14 +31,11 @@ fn put_header(h: Header, buf: &mut [u8]) -> Result<usize, Refusal>
     ensures { Prints (accepted (frame_line (Record.Header h))) buf.old result buf.new }
 {
     room_for(HeaderLine::DIGITS, buf)?;
-    put_byte(buf, 1);
+    put_byte(buf, HEADER_KIND);
     put_byte(&mut buf[HeaderLine::TREE..], h.tree);
-    put_four(
+    put_numbers(
         &mut buf[HeaderLine::DAYS..],
-        h.days,
-        h.first,
-        h.last,
-        h.level,
+        &[h.days, h.first, h.last, h.level],
     );
     Ok(HeaderLine::DIGITS)
 }
@@ -52,8 +52,11 @@ fn put_hour_fields(h: Hour, buf: &mut [u8])
     put_byte(buf, frames::air_kind(h.air));
     put_number(&mut buf[HourLine::DAY..], h.day);
     put_byte(&mut buf[HourLine::HOUR..], h.hour);
-    put_four(&mut buf[HourLine::OZONE..], ozone, h.ppfd, h.radiation, t);
-    put_two(&mut buf[HourLine::VAPOUR..], vapour, h.wind);
+    put_numbers(
+        &mut buf[HourLine::OZONE..],
+        &[ozone, h.ppfd, h.radiation, t],
+    );
+    put_numbers(&mut buf[HourLine::VAPOUR..], &[vapour, h.wind]);
     put_number(&mut buf[HourLine::SOIL..], n);
 }
 
@@ -102,29 +105,20 @@ fn put_parameters(p: Parameters, buf: &mut [u8]) -> Result<usize, Refusal>
     ensures { Prints (accepted (frame_line (Record.Parameters p))) buf.old result buf.new }
 {
     room_for(ParameterLine::DIGITS, buf)?;
-    put_byte(buf, 7);
-    put_four(
+    put_byte(buf, PARAMETER_KIND);
+    put_numbers(
         &mut buf[ParameterLine::GMAX..],
-        p.gmax,
-        p.fmin,
-        p.lighta,
-        p.tmin,
+        &[p.gmax, p.fmin, p.lighta, p.tmin],
     );
-    put_four(
+    put_numbers(
         &mut buf[ParameterLine::TOPT..],
-        p.topt,
-        p.tmax,
-        p.vpdmax,
-        p.vpdmin,
+        &[p.topt, p.tmax, p.vpdmax, p.vpdmin],
     );
-    put_four(
+    put_numbers(
         &mut buf[ParameterLine::SOILMAX..],
-        p.soilmax,
-        p.soilmin,
-        p.leaf,
-        p.a,
+        &[p.soilmax, p.soilmin, p.leaf, p.a],
     );
-    put_four(&mut buf[ParameterLine::E..], p.e, p.f1, p.f4, p.y);
+    put_numbers(&mut buf[ParameterLine::E..], &[p.e, p.f1, p.f4, p.y]);
     Ok(ParameterLine::DIGITS)
 }
 
@@ -134,8 +128,8 @@ fn put_warmth(w: Warmth, buf: &mut [u8]) -> Result<usize, Refusal>
     ensures { Prints (accepted (frame_line (Record.Warmth w))) buf.old result buf.new }
 {
     room_for(WarmthLine::DIGITS, buf)?;
-    put_byte(buf, 8);
-    put_two(&mut buf[WarmthLine::RISE..], w.rise, w.fall);
+    put_byte(buf, WARMTH_KIND);
+    put_numbers(&mut buf[WarmthLine::RISE..], &[w.rise, w.fall]);
     put_number(&mut buf[WarmthLine::END..], w.end);
     Ok(WarmthLine::DIGITS)
 }
@@ -148,8 +142,8 @@ pub(crate) fn put(record: Record, buf: &mut [u8]) -> Result<usize, Refusal>
     match record {
         Record::Header(h) => put_header(h, buf),
         Record::Hour(h) => put_hour(h, buf),
-        Record::End(e) => put_number_line(3, e.hours, buf),
-        Record::Ceiling(c) => put_number_line(6, c.ozone, buf),
+        Record::End(e) => put_number_line(END_KIND, e.hours, buf),
+        Record::Ceiling(c) => put_number_line(CEILING_KIND, c.ozone, buf),
         Record::Parameters(p) => put_parameters(p, buf),
         Record::Warmth(w) => put_warmth(w, buf),
     }

@@ -9,7 +9,7 @@ use Rattle.frames.proofs.KindLaws.{deficit-left}
 use Rattle.hour_lines.proofs.ChunkLaws.{number-says}
 use Rattle.hour_lines.proofs.HourLaws.{hour-is, pressure-says, soil-before, soil-last, air-pressure, air-humidity, air-deficit}
 use Rattle.hour_lines.proofs.hour_at.Goals as goal
-use Rattle.hour_lines.proofs.hour_at.Goals.{in-4, in-5, in_default, then-kind-eq4, else-kind-eq4}
+use Rattle.hour_lines.proofs.hour_at.Goals.{in-4, in-5, in_default, then-kind-eq-PRESSURE_KIND, else-kind-eq-PRESSURE_KIND}
 
 pub returns : goal.returns
 returns c = λ l h.
@@ -19,9 +19,9 @@ returns c = λ l h.
       | in-5 w ↦ w.air-is ∙ ap Humidity vapour ∙ air-humidity _ l w.in-5.is
       | in_default w ↦ w.air-is ∙ ap Deficit vapour ∙ air-deficit _ l (deficit-left _ h.sized.hour (λ e. omega arith) (λ e. omega arith))
     ] in
-    let soil : c.if-kind-eq4.soil ≡ number_at 32 l = elim c.if-kind-eq4.branch [
-      | then-kind-eq4 w ↦ w.soil-is ∙ w.number-soil.ensures ∙ soil-before _ l _ _ _ h w.if-kind-eq4.true
-      | else-kind-eq4 w ↦ w.soil-is ∙ c.number-last.ensures ∙ soil-last _ l _ _ _ h w.if-kind-eq4.false
+    let soil : c.if-kind-eq-PRESSURE_KIND.soil ≡ number_at 32 l = elim c.if-kind-eq-PRESSURE_KIND.branch [
+      | then-kind-eq-PRESSURE_KIND w ↦ w.soil-is ∙ w.number-soil.ensures ∙ soil-before _ l _ _ _ h w.if-kind-eq-PRESSURE_KIND.true
+      | else-kind-eq-PRESSURE_KIND w ↦ w.soil-is ∙ c.number-last.ensures ∙ soil-last _ l _ _ _ h w.if-kind-eq-PRESSURE_KIND.false
     ] in
     hour-is l h.sized.hour
     (c.number.ensures ∙ number-says l 0 _ h.first 2 2 (omega arith) (omega arith))

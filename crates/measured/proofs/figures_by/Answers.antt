@@ -1,7 +1,8 @@
 -- `measured::figures_by` meets its contract.
 use Rattle.std.specs.Prelude.{◌≡◌, Option, Some, None}
 use Rattle.std.specs.Option.{unwrap_or}
-use Rattle.std.proofs.Common.{refl, ap, ◌∙◌}
+use Rattle.std.proofs.Common.{refl, ap, ap₂, ◌∙◌}
+use borrow.Author.Rules.{rules}
 use Rattle.power.specs.declared.Ratio.{Ratio}
 use Rattle.measured.specs.Figures.{p_in, q_in, powers_in, measured_figures}
 use Rattle.measured.proofs.figures_by.Goals as goal
@@ -20,7 +21,8 @@ q-is None = refl
 pub returns : goal.returns
 unfolding measured_figures
 returns c = let a = c.args in
-    let is = ap (λ (o : Option Ratio). unwrap_or o no_ratio) c.requires in
+    let zeros : c.default.result ≡ no_ratio = search rules in
+    let is = ap₂ unwrap_or c.requires zeros in
     let p : c.unwrap_or-ratio.result.p ≡ p_in (powers_in a.p) = ap (λ (r : Ratio). r.p) (c.unwrap_or-ratio.ensures ∙ is) ∙ p-is (powers_in a.p) in
     let q : c.unwrap_or-ratio.result.q ≡ q_in (powers_in a.p) = ap (λ (r : Ratio). r.q) (c.unwrap_or-ratio.ensures ∙ is) ∙ q-is (powers_in a.p) in
     simp (p, q, c.degrees-3.ensures, c.degrees-2.ensures, c.degrees.ensures)

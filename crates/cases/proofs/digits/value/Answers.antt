@@ -1,19 +1,23 @@
 -- `cases::digits::value` is what a digit says.
+use mathlib.Core.Bool.{Bool, true, false}
+use mathlib.Core.Path.{◌≡◌, sym, ◌∙◌}
+use Prim.Native.Nat.{ℕ}
 use native.Mathlib.Omega.{arith}
-use Rattle.frames.proofs.DigitLaws.{decimal, letter, under, between, over, value-is}
+use Rattle.std.proofs.lemmas.Bool.Decides.{nat_tests}
+use Rattle.frames.specs.Digits.{is_digit, value_of}
+use Rattle.frames.specs.Steps.{bits_of}
 use Rattle.cases.proofs.digits.value.Goals as goal
 
-pub returns-in-48-to-57 : goal.returns-in-48-to-57
-returns-in-48-to-57 c = value-is _ (decimal (omega arith) (omega arith))
+of-digit : (c : ℕ) → is_digit c ≡ true → bits_of c ≡ value_of c
+unfolding is_digit value_of bits_of
+of-digit c e = grind (arith, nat_tests)
 
-pub returns-in-65-to-70 : goal.returns-in-65-to-70
-returns-in-65-to-70 c = omega (arith, value-is c.args.c (letter (omega arith) (omega arith)))
+of-other : (c : ℕ) → is_digit c ≡ false → 0 ≡ value_of c
+unfolding is_digit value_of
+of-other c e = grind (arith, nat_tests)
 
-pub returns-in_default : goal.returns-in_default
-returns-in_default c = value-is _ (under (omega arith))
+pub returns-then-is_digit : goal.returns-then-is_digit
+returns-then-is_digit c = c.digit_value.ensures.0 ∙ of-digit c.args.c (sym c.is_digit.ensures ∙ c.if-is_digit.true)
 
-pub returns-in_default-2 : goal.returns-in_default-2
-returns-in_default-2 c = value-is _ (between (omega arith) (omega arith))
-
-pub returns-in_default-3 : goal.returns-in_default-3
-returns-in_default-3 c = value-is _ (over (omega arith))
+pub returns-else-is_digit : goal.returns-else-is_digit
+returns-else-is_digit c = of-other c.args.c (sym c.is_digit.ensures ∙ c.if-is_digit.false)

@@ -1,18 +1,21 @@
 -- `floats::fields::complement_field` meets its contract.
-use Rattle.std.proofs.Common.{sym, ap, ◌∙◌, le-ltb, lt-ltb}
-use Rattle.std.specs.Prelude.{Some}
-use Rattle.floats.specs.declared.whole.Number.{Number}
-use Rattle.floats.proofs.FieldLaws.{complement-says}
+use Rattle.std.proofs.Common.{◌≡◌, sym, ap, ◌∙◌, rules}
+use Rattle.std.specs.Prelude.{Err}
+use Rattle.records.specs.Answers.{accepted}
+use Rattle.records.specs.declared.Refusal.{Refusal}
+use Rattle.floats_spec.specs.Numbers.{complement_bytes}
+use Rattle.floats.proofs.FieldLaws.{complement-says, complement-held, bits-back}
 use Rattle.floats.proofs.fields.complement_field.Goals as goal
 
-pub returns-then-n-lt32768 : goal.returns-then-n-lt32768
-returns-then-n-lt32768 c = let says = complement-says c.args.field _ _ (sym (c.in-Some-Plus.is ∙ ap (λ (k : Number). Some k) c.in-Some-Plus.field-0-is) ∙ c.whole_number.ensures) in rw (lt-ltb _ _ c.if-n-lt32768.true) at says
+pub returns-in_err-z : goal.returns-in_err-z
+returns-in_err-z c =
+    let none = c.in_err-z.ensures.ok_part in
+    let row = rw none at c.in_err-z.ensures.value in
+    let e : c.from_residual.result ≡ Err c.in_err-z.field-0.0 = search rules in
+    let why : c.in_err-z.field-0.0 ≡ Refusal.Float c.args.field = cc row in
+    rw (e, why) (complement-says c.args.field _ _ (sym none ∙ c.whole_number.ensures))
 
-pub returns-else-n-lt32768 : goal.returns-else-n-lt32768
-returns-else-n-lt32768 c = let says = complement-says c.args.field _ _ (sym (c.in-Some-Plus.is ∙ ap (λ (k : Number). Some k) c.in-Some-Plus.field-0-is) ∙ c.whole_number.ensures) in rw (le-ltb _ _ c.if-n-lt32768.false) at says
-
-pub returns-then-n-lt32768-2 : goal.returns-then-n-lt32768-2
-returns-then-n-lt32768-2 c = let says = complement-says c.args.field _ _ (sym (c.in-Some-Minus.is ∙ ap (λ (k : Number). Some k) c.in-Some-Minus.field-0-is) ∙ c.whole_number.ensures) in rw (lt-ltb _ _ c.if-n-lt32768-2.true) at says
-
-pub returns-else-n-lt32768-2 : goal.returns-else-n-lt32768-2
-returns-else-n-lt32768-2 c = let says = complement-says c.args.field _ _ (sym (c.in-Some-Minus.is ∙ ap (λ (k : Number). Some k) c.in-Some-Minus.field-0-is) ∙ c.whole_number.ensures) in rw (le-ltb _ _ c.if-n-lt32768-2.false) at says
+pub returns : goal.returns
+returns c =
+    let number = sym c.in_ok-z.ensures.ok_part ∙ c.whole_number.ensures in
+    ap accepted (complement-held _ _ _ _ (λ t k. search rules) c.try_from.ensures c.map_or.ensures ∙ ap complement_bytes (bits-back _ _ number)) ∙ complement-says c.args.field _ _ number

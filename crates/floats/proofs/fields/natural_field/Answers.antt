@@ -1,15 +1,21 @@
 -- `floats::fields::natural_field` meets its contract.
-use Rattle.std.proofs.Common.{sym, ap, ◌∙◌, le-ltb, lt-ltb}
-use Rattle.std.specs.Prelude.{Some}
-use Rattle.floats.specs.declared.whole.Number.{Number}
-use Rattle.floats.proofs.FieldLaws.{natural-says}
+use Rattle.std.proofs.Common.{◌≡◌, sym, ap, ◌∙◌, rules}
+use Rattle.std.specs.Prelude.{Err}
+use Rattle.records.specs.Answers.{accepted}
+use Rattle.records.specs.declared.Refusal.{Refusal}
+use Rattle.floats_spec.specs.Numbers.{natural_bytes}
+use Rattle.floats.proofs.FieldLaws.{natural-says, natural-held, bits-back}
 use Rattle.floats.proofs.fields.natural_field.Goals as goal
 
-pub returns-then-n-lt65536 : goal.returns-then-n-lt65536
-returns-then-n-lt65536 c = let says = natural-says c.args.field _ _ (sym (c.in-Some-Plus.is ∙ ap (λ (k : Number). Some k) c.in-Some-Plus.field-0-is) ∙ c.whole_number.ensures) in rw (lt-ltb _ _ c.if-n-lt65536.true) at says
+pub returns-in_err-z : goal.returns-in_err-z
+returns-in_err-z c =
+    let none = c.in_err-z.ensures.ok_part in
+    let row = rw none at c.in_err-z.ensures.value in
+    let e : c.from_residual.result ≡ Err c.in_err-z.field-0.0 = search rules in
+    let why : c.in_err-z.field-0.0 ≡ Refusal.Float c.args.field = cc row in
+    rw (e, why) (natural-says c.args.field _ _ (sym none ∙ c.whole_number.ensures))
 
-pub returns-else-n-lt65536 : goal.returns-else-n-lt65536
-returns-else-n-lt65536 c = let says = natural-says c.args.field _ _ (sym (c.in-Some-Plus.is ∙ ap (λ (k : Number). Some k) c.in-Some-Plus.field-0-is) ∙ c.whole_number.ensures) in rw (le-ltb _ _ c.if-n-lt65536.false) at says
-
-pub returns-in-Some-Minus : goal.returns-in-Some-Minus
-returns-in-Some-Minus c = natural-says c.args.field _ _ (sym (c.in-Some-Minus.is ∙ ap (λ (k : Number). Some k) c.in-Some-Minus.field-0-is) ∙ c.whole_number.ensures)
+pub returns : goal.returns
+returns c =
+    let number = sym c.in_ok-z.ensures.ok_part ∙ c.whole_number.ensures in
+    ap accepted (c.unwrap_or.ensures ∙ natural-held _ _ c.try_from.ensures ∙ ap natural_bytes (bits-back _ _ number)) ∙ natural-says c.args.field _ _ number

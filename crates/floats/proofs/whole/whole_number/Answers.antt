@@ -1,8 +1,9 @@
 -- `floats::whole::whole_number` meets its contract.
-use Rattle.std.proofs.Common.{sym, ◌∙◌}
+use Rattle.std.specs.Prelude.{Some}
+use Rattle.std.proofs.Common.{ℤ, sym, ap, ◌∙◌, arith}
 use lib.Ieee.{of_bits}
 use Rattle.floats.proofs.OrderLaws.{is_T}
-use Rattle.floats.proofs.SignLaws.{plus-broken, plus-number, negated-ge, minus-broken, size-pos, minus_number, neither-broken}
+use Rattle.floats.proofs.SignLaws.{plus-broken, plus-number, negated-ge, minus-broken, minus_number, neither-broken, size-most, plus-bits, minus-fits, minus-bits}
 use Rattle.floats.proofs.whole.whole_number.Goals as goal
 
 pub size_of-requires : goal.size_of-requires
@@ -15,7 +16,9 @@ returns-in_err-n c = rw c.from_residual.ensures (plus-broken _ c.if-x.true (sym 
 
 pub returns-then-x : goal.returns-then-x
 unfolding of_bits
-returns-then-x c = plus-number _ _ c.if-x.true (sym c.in_ok-n.was ∙ c.size_of.ensures)
+returns-then-x c =
+    let size = sym c.in_ok-n.was ∙ c.size_of.ensures in
+    ap (λ (z : ℤ). Some z) (plus-bits _ (size-most _ _ size)) ∙ plus-number _ _ c.if-x.true size
 
 pub size_of-requires-then-x-2 : goal.size_of-requires-then-x-2
 unfolding of_bits
@@ -25,13 +28,23 @@ pub returns-in_err-n-2 : goal.returns-in_err-n-2
 unfolding of_bits
 returns-in_err-n-2 c = rw c.from_residual-in_err-n-2.ensures (minus-broken _ (sym c.in_err-n-2.was ∙ c.size_of-then-x-2.ensures))
 
+pub overflow_cast-result : goal.overflow_cast-result
+unfolding of_bits
+overflow_cast-result c = record { sfits = omega (arith, size-most _ _ (sym c.in_ok-n.was ∙ c.size_of.ensures)) }
+
+pub overflow_cast-result-then-x-2 : goal.overflow_cast-result-then-x-2
+unfolding of_bits
+overflow_cast-result-then-x-2 c = record { sfits = omega (arith, size-most _ _ (sym c.in_ok-n-2.was ∙ c.size_of-then-x-2.ensures)) }
+
 pub overflow_sub-result : goal.overflow_sub-result
 unfolding of_bits
-overflow_sub-result c = size-pos _ _ c.if-x-2.true (sym c.in_ok-n-2.was ∙ c.size_of-then-x-2.ensures)
+overflow_sub-result c = minus-fits _ (size-most _ _ (sym c.in_ok-n-2.was ∙ c.size_of-then-x-2.ensures))
 
 pub returns-then-x-2 : goal.returns-then-x-2
 unfolding of_bits
-returns-then-x-2 c = minus_number _ _ c.if-x-2.true (sym c.in_ok-n-2.was ∙ c.size_of-then-x-2.ensures)
+returns-then-x-2 c =
+    let size = sym c.in_ok-n-2.was ∙ c.size_of-then-x-2.ensures in
+    ap (λ (z : ℤ). Some z) (minus-bits _ (size-most _ _ size)) ∙ minus_number _ _ c.if-x-2.true size
 
 pub returns : goal.returns
 unfolding of_bits

@@ -1,7 +1,7 @@
 -- `flux::remembered::worked` meets its contract: f_temp's numbers take less than a word.
 use Rattle.std.specs.Prelude.{Option, Some, Result, Ok, Err}
-use Rattle.std.specs.Option.{unwrap_or}
-use Rattle.std.specs.Result.{result_unwrap_or}
+use Rattle.std.specs.Option.{UnwrapsOrElse}
+use Rattle.std.specs.Result.{ResultUnwrapsOrElse}
 use Rattle.std.proofs.Common.{◌≡◌, ℕ, ◌+◌, ◌*◌, ◌<◌, ◌≤◌, sym, refl, ◌∙◌, arith, le-ltb}
 use Rattle.exact.specs.declared.Bounds.{Bounds}
 use Rattle.records.specs.declared.Refusal.{Refusal}
@@ -17,9 +17,9 @@ use Rattle.flux.specs.Remembered.{remembered_of}
 use Rattle.flux.proofs.remembered.worked.Goals.{in-Tabled, in-Worked}
 use Rattle.flux.proofs.remembered.worked.Goals as goal
 
-accepted-or : (r : Result Bounds Refusal) (other pair : Bounds) → outcome_of r ≡ accepted pair → result_unwrap_or r other ≡ pair
-accepted-or (Ok p) other pair e = accepted-same e
-accepted-or (Err w) other pair e = refused-not-accepted e
+accepted-or : (r : Result Bounds Refusal) (P : Bounds → Type 0) (x pair : Bounds) → outcome_of r ≡ accepted pair → ResultUnwrapsOrElse r P x → x ≡ pair
+accepted-or (Ok p) P x pair e is = is ∙ accepted-same e
+accepted-or (Err w) P x pair e is = refused-not-accepted e
 
 -- the number that is made of the two
 made : (f : Figures) (t s : ℕ) (pair : Bounds) → t ≤ 1100 → s ≡ saturation_of t → pair ≡ temperature_pair f t → s * 4294967296 + (pair.lower + pair.upper) ≡ remembered_of f t
@@ -30,15 +30,15 @@ small : (f : Figures) → Sound f → (t : ℕ) (pair : Bounds) → pair ≡ tem
 small f sound t pair is =
     rw is (omega (arith, temperature_pair-le f sound t, temperature_pair-gap f sound t), omega (arith, temperature_pair-le f sound t, temperature_pair-gap f sound t))
 
-some-or : {A : Type 0} (o : Option A) (other pair : A) → o ≡ Some pair → unwrap_or o other ≡ pair
-some-or o other pair e = rw e refl
+some-or : (o : Option Bounds) (P : Bounds → Type 0) (x pair : Bounds) → o ≡ Some pair → UnwrapsOrElse o P x → x ≡ pair
+some-or o P x pair e is = rw e at is
 
 pair-is : (c : goal.After-struct_known-1) → c.match-f.pair ≡ temperature_pair c.args.dosing.stand.figures c.args.t
 pair-is c =
     let d = c.args.dosing in
     elim c.match-f.branch [
-      | in-Tabled w ↦ w.pair-is ∙ w.unwrap_or-pair.ensures ∙ accepted-or _ _ _ (w.f_temp.ensures.result_value ∙ sym (up-to-60 _ _ c.requires.highest refl)) ∙ sym (d.tabled.pair _ w.in-Tabled.is _)
-      | in-Worked w ↦ w.pair-is ∙ w.unwrap_or-pair-in-Worked.ensures ∙ some-or _ _ _ (w.f_temp-in-Worked.ensures.sound.pair d.sound)
+      | in-Tabled w ↦ w.pair-is ∙ accepted-or _ _ _ _ (w.f_temp.ensures.result_value ∙ sym (up-to-60 _ _ c.requires.highest refl)) w.unwrap_or_default-pair.ensures ∙ sym (d.tabled.pair _ w.in-Tabled.is _)
+      | in-Worked w ↦ w.pair-is ∙ some-or _ _ _ _ (w.f_temp-in-Worked.ensures.sound.pair d.sound) w.unwrap_or_default-pair-in-Worked.ensures
     ]
 
 pub overflow_add-result : goal.overflow_add-result

@@ -27,7 +27,7 @@ returns c = let h = c.args.h in
     let k = c.air_kind.result in
     let day = set-next _ (byte k []) (number h.day []) _ _ _ c.put_byte.ensures refl (omega arith) c.put_number.ensures in
     let hour = set-next _ (byte k (number h.day [])) (byte h.hour []) _ _ _ day refl (omega arith) c.put_byte-2.ensures in
-    let four = set-next _ (byte k (number h.day (byte h.hour []))) (number o (number h.ppfd (number h.radiation (number t [])))) _ _ _ hour refl (omega arith) c.put_four.ensures in
-    let two = set-next _ (byte k (number h.day (byte h.hour (number o (number h.ppfd (number h.radiation (number t []))))))) (number v (number h.wind [])) _ _ _ four refl (omega arith) c.put_two.ensures in
+    let four = set-next _ (byte k (number h.day (byte h.hour []))) (number o (number h.ppfd (number h.radiation (number t [])))) _ _ _ hour refl (omega arith) c.put_numbers.ensures in
+    let two = set-next _ (byte k (number h.day (byte h.hour (number o (number h.ppfd (number h.radiation (number t []))))))) (number v (number h.wind [])) _ _ _ four refl (omega arith) c.put_numbers-2.ensures in
     let soil = set-next _ (byte k (number h.day (byte h.hour (number o (number h.ppfd (number h.radiation (number t (number v (number h.wind []))))))))) (number c.soil_number-n.result []) _ _ _ two refl (omega arith) c.put_number-2.ensures in
     soil ∙ same _ h k o t v _ c.air_kind.ensures c.ozone_number-ozone.ensures (c.complement-t.ensures ∙ ap complement_of (plain h.temperature (search rules))) c.vapour_number-vapour.ensures c.soil_number-n.ensures

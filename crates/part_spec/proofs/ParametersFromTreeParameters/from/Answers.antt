@@ -1,7 +1,7 @@
--- `part::given::parameters_from` meets its contract.
+-- The parameters of a maker's numbers meet their contract.
 use borrow.Author.Rules.{rules}
 use Rattle.records.proofs.SignedLaws.{plain}
-use Rattle.part.proofs.given.parameters_from.Goals as goal
+use Rattle.part_spec.proofs.ParametersFromTreeParameters.from.Goals as goal
 
 pub returns : goal.returns
 returns c = let p = c.args.p in
