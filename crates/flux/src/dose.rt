@@ -1,7 +1,7 @@
 // An hour's dose from its concentration, its share and its root (document 01, "Factors"). With g = gmax·p the conductance is g/(41000·10⁷) m/s and the resistance
 // 195·s/10⁷ s/m; both terms of F are taken 5·41000·10⁷ times.
-ghost use Rattle.std.specs.Prelude.{◌≡◌, ◌≤◌};
-ghost use Rattle.flux_spec.specs.Pair.{quotient};
+ghost use Rattle.std.specs.Prelude.{◌≡◌, ◌/◌, ◌^◌, ◌<◌, ◌≤◌};
+ghost use Rattle.flux_spec.specs.Pair.{divisor, quotient};
 
 // 1: 5·41000·10⁷.
 const ONE: u64 = 2050000000000;
@@ -14,13 +14,46 @@ const RESISTANCE: u64 = 39;
 
 const RESISTANCE_UNIT: u64 = 400000;
 
+// 1 + Rb(g + 0.0004), rounded down, or up where `more` is 1.
 // Kept: `more` is added as it stands; a bool would be turned into this number at once.
-// 3600·F, rounded down, at a concentration c/18000, a share p/10⁷ and a root s/10⁷; `more` is 1 where the divisor is rounded up. No
-// hour in range has a concentration above 29644 nmol m⁻³, which is 533592000/18000.
-pub(crate) fn quotient(gmax: u64, c: u64, p: u64, s: u64, more: u64) -> u64
-    requires { (gmax ≤ 500) × (c ≤ 533592000) × (p ≤ 10000003) × (s ≤ 14142136) × (more ≤ 1) }
-    ensures { result ≡ quotient gmax c p s more }
+fn divisor(gmax: u64, p: u64, s: u64, more: u64) -> u64
+    requires { (gmax ≤ 500) × (p ≤ 10000003) × (s ≤ 14142136) × (more ≤ 1) }
+    ensures is { result ≡ divisor gmax p s more }
+    ensures size { (0 < result) × (result < 2 ^ 44) }
 {
-    let g = gmax * p;
-    c * g / (ONE + more + RESISTANCE * s * (g + BESIDES) / RESISTANCE_UNIT)
+    ONE + more + RESISTANCE * s * (gmax * p + BESIDES) / RESISTANCE_UNIT
+}
+
+// n/d, rounded down, for a divisor d of a dose: `near` or one more, where their products with d show it.
+fn divided(n: u64, d: u64, near: u64) -> u64
+    requires { (0 < d) × (d < 2 ^ 44) }
+    ensures { result ≡ n / d }
+{
+    if near < 1048576 && near * d <= n {
+        let rest = n - near * d;
+        if rest < d {
+            return near;
+        }
+        if rest - d < d {
+            return near + 1;
+        }
+    }
+    n / d
+}
+
+// 3600·F, rounded down, at a concentration c/18000, a share p/10⁷ and a root s/10⁷, with the divisor rounded up. No hour in range has a concentration above
+// 29644 nmol m⁻³, which is 533592000/18000.
+pub(crate) fn quotient_low(gmax: u64, c: u64, p: u64, s: u64) -> u64
+    requires { (gmax ≤ 500) × (c ≤ 533592000) × (p ≤ 10000003) × (s ≤ 14142136) }
+    ensures { result ≡ quotient gmax c p s 1 }
+{
+    c * (gmax * p) / divisor(gmax, p, s, 1)
+}
+
+// The same with the divisor rounded down; quicker where `near` is next to it.
+pub(crate) fn quotient_up(gmax: u64, c: u64, p: u64, s: u64, near: u64) -> u64
+    requires { (gmax ≤ 500) × (c ≤ 533592000) × (p ≤ 10000003) × (s ≤ 14142136) }
+    ensures { result ≡ quotient gmax c p s 0 }
+{
+    divided(c * (gmax * p), divisor(gmax, p, s, 0), near)
 }

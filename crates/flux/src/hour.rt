@@ -75,9 +75,11 @@ fn pair(gmax: u16, leaf: u16, y: u16, wind: u16, c: Bounds, s: Bounds) -> Bounds
     let g = gmax as u64;
     let r = boundary::root_low(leaf, wind);
     let threshold = 3600 * (y as u64);
+    let lower = dose::quotient_low(g, c.lower, s.lower, r + 1);
+    let upper = dose::quotient_up(g, c.upper, s.upper, r, lower);
     Bounds {
-        lower: dose::quotient(g, c.lower, s.lower, r + 1, 1).saturating_sub(threshold),
-        upper: (dose::quotient(g, c.upper, s.upper, r, 0) + 1).saturating_sub(threshold),
+        lower: lower.saturating_sub(threshold),
+        upper: (upper + 1).saturating_sub(threshold),
     }
 }
 

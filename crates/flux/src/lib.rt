@@ -28,11 +28,12 @@ ghost use Rattle.flux_spec.specs.Facts.{HourFacts};
 ghost use Rattle.flux_spec.specs.HourDose.{tree_of, hour_dose_of};
 
 use exact::Bounds;
-pub use feed::feed_hours;
+pub use feed::{feed_hours, feed_remembering};
 pub use flux_spec::Age;
 use flux_spec::Stand;
 use frames::{Hour, Parameters, Refusal};
 use given::{Dosing, Passed};
+pub use remembered::{Memory, no_memory};
 use trees::Figures;
 
 // The figures of the tree with a number, those of tree 7 by its parameters: rows 24 and 5.

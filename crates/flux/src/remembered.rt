@@ -3,12 +3,43 @@
 // Kept: no heap, so 8 bytes of the stack for each temperature; a struct of two `u32` would take as many, and still hold f_temp's numbers added up and say none
 // by 0.
 // Kept for speed: trees 1 to 6 are remembered too; a year took 2 to 3 percent longer where their tables were read at each hour.
-ghost use Rattle.std.specs.Prelude.{◌≡◌, ◌-◌, ◌/◌, ◌%◌, ◌<◌, ◌≤◌};
-ghost use Rattle.flux.specs.Remembered.{remembered_of, Remembers};
+ghost use Rattle.std.specs.Prelude.{None, Some, ◌≡◌, ◌-◌, ◌/◌, ◌%◌, ◌<◌, ◌≤◌};
+ghost use Rattle.flux.specs.Remembered.{remembered_of, Remembers, RemembersTree, RemembersTree-prop};
 
 use crate::given::Dosing;
 use exact::Bounds;
+use frames::Parameters;
 use trees::Source;
+
+// What is remembered for a tree, told by its number and its parameters: for each temperature a number, 0 where none has come up. It is kept from one run of hours
+// to the next.
+#[derive(Drop)]
+pub struct Memory {
+    pub of: Option<(u8, Parameters)>,
+    pub(crate) cells: [u64; 1101],
+    pub ghost kept: { RemembersTree of cells } by { RemembersTree-prop of cells },
+}
+
+// One that remembers nothing.
+pub fn no_memory() -> Memory
+    ensures { result.of ≡ None }
+{
+    Memory {
+        of: None,
+        cells: [0; 1101],
+    }
+}
+
+// For the hours of a tree: emptied where it is of another one.
+pub(crate) fn made_for(memory: &mut Memory, tree: u8, parameters: Parameters)
+    ensures { memory.new.of ≡ Some (tree, parameters) }
+{
+    if memory.of == Some((tree, parameters)) {
+        return;
+    }
+    memory.of = Some((tree, parameters));
+    memory.cells = [0; 1101];
+}
 
 // The saturation pressure stands above f_temp's two numbers, which are added up.
 const WORD: u64 = 4294967296;

@@ -6,5 +6,5 @@ ghost use Rattle.flux_spec.specs.Conductance.{above_of};
 pub(crate) fn above(t: i16) -> u16
     ensures { result ≡ above_of t }
 {
-    500u16.saturating_add_signed(t)
+    (i32::from(t) + 500).max(0) as u16
 }

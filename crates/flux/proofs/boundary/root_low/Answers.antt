@@ -1,11 +1,12 @@
 -- `flux::boundary::root_low` meets its contract.
-use Rattle.std.proofs.Common.{ℕ, ◌/◌, ◌<◌, ◌≤◌, mul-le-mul_left, div-mul-le_self, arith}
 use Rattle.flux_spec.specs.Pair.{root_low}
+use Rattle.exact.proofs.SquareLaws.{square_root-is}
 use Rattle.flux.proofs.boundary.root_low.Goals as goal
 
-tenth-lt : (n d : ℕ) → n ≤ 2000000000000000 → 10 ≤ d → n / d < 1125899906842624
-tenth-lt n d h k = omega (arith, div-mul-le_self n d, mul-le-mul_left (n / d) k)
+pub returns-then-has_root : goal.returns-then-has_root
+unfolding root_low
+returns-then-has_root c = rw c.max-w.ensures at (c.has_root.ensures c.if-has_root.true)
 
 pub returns : goal.returns
 unfolding root_low
-returns c = rw c.max.ensures at c.root.ensures
+returns c = rw c.max-w.ensures at (square_root-is _ _ c.isqrt.ensures.square_le c.isqrt.ensures.next_square_gt)
