@@ -27,7 +27,8 @@ RUNNING = "rt: running out/"  # only what is proved and built is run
 COUNTS = ("logic /", "statements ", "library ")  # lines on what rt has loaded
 
 FIRST = (
-    "pod1: target/bin/{name} is proved and built first, {count} crates, once: a quarter of an hour or more where nothing is proved yet."
+    "pod1: target/bin/{name} is proved and built first, {count} crates, once: some seven minutes on"
+    " four processors where nothing is proved yet, and longer beside other work."
     " Ctrl-C stops it, and the next run goes on from there."
 )
 AGAIN = "pod1: sources have changed since the program was built; what stands on them is proved again."

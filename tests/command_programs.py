@@ -173,7 +173,7 @@ class Builds(Copied):
             (self.bin / tool).symlink_to(shutil.which(tool) if tool != "python3" else sys.executable)
         self.write("made", f"#!/bin/sh\ncat >/dev/null\necho '{report(SEASON).splitlines()[0]}'\n".encode())
         self.env = {"PATH": str(self.bin), "HOME": str(self.folder)}
-        self.first = "pod1: target/bin/pod1 is proved and built first, 3 crates, once: a quarter"
+        self.first = "pod1: target/bin/pod1 is proved and built first, 3 crates, once: some"
 
     def rt(self, *lines):
         """A stand-in for rt, which notes how it was called, and in which crate."""

@@ -1,0 +1,103 @@
+#!/usr/bin/env bash
+# Each language form that a place of the code must have stands there (docs/DECISIONS.md, "Forms that
+# have a place", names them): a search for the form in the file, which fails when the form goes. So
+# that no search passes by itself, each is tried on a copy of the file without the form too.
+#
+#     tests/forms.sh
+set -eu -o pipefail
+cd "$(dirname "$0")/../crates"
+room=$(mktemp -d)
+trap 'rm -rf "$room"' EXIT
+missing=0
+forms=0
+
+# found FILE PATTERN: the pattern, over any number of lines, stands in the file
+found() {
+    grep -Pzq "(?s)$2" "$1"
+}
+
+# form WHAT FILE PATTERN WITHOUT: the form is in the file, and not in the file as sed leaves it by
+# WITHOUT, a script over the whole text that takes the form out
+form() {
+    forms=$((forms + 1))
+    if [ ! -e "$2" ] || ! found "$2" "$3"; then
+        echo "forms: $1: not in crates/$2"
+        missing=$((missing + 1))
+        return
+    fi
+    sed -z -E "$4" "$2" >"$room/without"
+    if cmp -s "$2" "$room/without"; then
+        echo "forms: $1: what takes it out of crates/$2 changes nothing; mend tests/forms.sh"
+        missing=$((missing + 1))
+    elif found "$room/without" "$3"; then
+        echo "forms: $1: found in crates/$2 where it is taken out; mend tests/forms.sh"
+        missing=$((missing + 1))
+    fi
+}
+
+form 'the evergreen dip is a match on the day with ranges' trees/src/phen.rt \
+    'match day \{\s*0\.\.=80 => .*81\.\.=209 => .*210\.\.=260 => .*261\.\.=319 => .*320\.\. => ' \
+    's/match day \{/if day < 81 {/'
+form 'a tree is a match on its number' trees/src/lib.rt \
+    'match tree \{\s*1 => Some\(.*\s6 => Some\(.*_ => None' \
+    's/match tree \{/if tree == 1 {/'
+form 'a line loop over a digit loop, each with a label' walk/src/loops.rt \
+    "'lines: loop \{((?!'lines: loop).)*let mut end = at;\s*('digits|(//[^\n]*\s*)+'digits): loop \{" \
+    "s/'digits: loop \{/while end < text.len() {/"
+form 'a bad digit leaves the line loop by its label' walk/src/loops.rt \
+    "'digits: loop \{((?!\n        \}).)*is_digit\(((?!\n        \}).)*break 'lines Err\(" \
+    "s/break 'lines Err\(/return Err(/g"
+form 'a refused line leaves the line loop by break with its refusal' walk/src/loops.rt \
+    "'lines: loop \{.*\n        \}\n.*break 'lines Err\(" \
+    "s/break 'lines Err\(/return Err(/g"
+for table in BOREAL_SPRUCE:592 BIRCH:545 CONTINENTAL_SPRUCE:303 BEECH:247 OAK:332 EVERGREEN:377; do
+    name=${table%:*}
+    form "the table of f_temp of $name is a constant array" tables/src/values.rt \
+        "const $name: \[u32; ${table#*:}\] = \[\s*[0-9]" \
+        "s/const $name: \[/static $name: [/"
+done
+form 'the power inequality is computed over the whole table' tables/src/lookups.rt \
+    'fn entries\(\) -> &.static \[u32\]\s*ensures[^\n]*IsTable' \
+    's/ensures[^\n]*IsTable/ensures { length/'
+for tree in BorealSpruce Birch ContinentalSpruce Beech Oak Evergreen; do
+    form "the figures of $tree are constants of its type" trees/src/lib.rt \
+        "impl Tree for $tree \{((?!\nimpl).)*$(printf 'const %s: u16 = [^;]+;((?!\\nimpl).)*' \
+            GMAX F_MIN LIGHT_A T_MIN T_OPT T_MAX)const F1: u16 = [^;]+;\s*const F4: u16 = " \
+        "s/impl Tree for $tree \{/impl $tree {/"
+done
+form 'the line of the first hour is a part whose lifetime is the second text'"'"'s' compare/src/lib.rt \
+    "pub fn first_difference<'a>\(\s*first: &\[u8\],\s*second: &'a \[u8\],[^)]*\) -> &'a \[u8\]" \
+    "s/second: &'a \[u8\]/second: \&[u8]/"
+form 'soil is an enum of the two measures with their number' records/src/lib.rt \
+    'pub enum Soil \{[^}]*Suction\(u16\),[^}]*Water\(u16\),[^}]*\}' \
+    's/Water\(u16\)/Water/'
+form 'and a field of the hour record' records/src/lib.rt \
+    'pub struct Hour \{[^}]*pub soil: Soil,' \
+    's/pub soil: Soil,/pub soil: u16,/'
+for call in feed_untested feed; do
+    form "account::$call takes the decoded line apart by let .. else, the same account handed back" \
+        account/src/lib.rt \
+        "pub fn $call\(account: Account,((?!\n\}).)*let Ok\(\w+\) = \w+ else \{((?!\n\}).)*return Err\(\([^\n]*account\)\);" \
+        's/let Ok\((\w+)\) = /if let Ok(\1) = /g'
+done
+form 'an hour of floats is a struct of seven f32 readings' floats_spec/src/lib.rt \
+    'pub struct FloatReadings \{([^}]*pub \w+: f32,){7}' \
+    's/f32/u16/'
+form 'taken by value, each turned to a whole number' floats/src/lib.rt \
+    'pub fn feed_floats\([^)]*readings: FloatReadings\)' \
+    's/readings: FloatReadings/readings: \&FloatReadings/'
+form 'several trees are a lent slice of account structs' list/src/lib.rt \
+    'pub fn feed_all\(accounts: &mut \[Account\], line: &\[u8\]\)' \
+    's/accounts: &mut \[Account\]/accounts: [Account; 6]/'
+form 'one thin walk over them calls the by-value step' list/src/lib.rt \
+    'for place in accounts\.iter_mut\(\) \{\s*\*place = \w+\([^)]*\*place[^)]*\);\s*\}' \
+    's/for place in accounts/for place in others/'
+form 'a refusal has a definition with a number and a field for each case' records/specs/Answers.antt \
+    'row_of : Refusal → ℕ × ℕ.*Refusal\.Range.*Refusal\.Float' \
+    's/Refusal\.Float/Refusal.Other/g'
+
+if [ $missing != 0 ]; then
+    echo "forms: $missing of $forms forms are not in their place"
+    exit 1
+fi
+echo "forms: $forms forms are in their places, and each is missed where it is taken out"
