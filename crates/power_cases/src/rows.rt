@@ -15,7 +15,7 @@ fn figures_of(row: &[u8]) -> Figures {
         p: u16_at(row, 15),
         q: u16_at(row, 20),
         source: Source::Worked,
-        ..Beech::FIGURES
+        ..Beech::figures()
     }
 }
 

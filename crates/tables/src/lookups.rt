@@ -24,7 +24,7 @@ fn pair_of<T: Table>(x: u16) -> Bounds
     requires { x ≤ 1100 }
     ensures { result ≡ temperature_pair T.FIGURES x }
 {
-    let fmin = T::FIGURES.fmin;
+    let fmin = T::figures().fmin;
     let first = T::FIRST;
     let table = T::entries();
     if x < first {

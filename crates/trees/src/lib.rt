@@ -1,4 +1,4 @@
-// The tree table of document 01: each tree's figures, as a constant that belongs to that tree's type.
+// The tree table: each figure of a tree is a constant that belongs to that tree's type.
 #![tactic(auto)]
 
 pub mod factors;
@@ -105,11 +105,94 @@ pub struct FactorPair {
 // 0 °C in whole degrees above -50 °C.
 const ZERO: u16 = 50;
 
-// A tree of the table: its figures are a constant of its type.
+// A tree's figures, put together from the constants of its type.
+macro_rules! put_together {
+    ($tree:ident) => {
+        Figures {
+            gmax: $tree::GMAX,
+            fmin: $tree::F_MIN,
+            lighta: $tree::LIGHT_A,
+            tmin: $tree::T_MIN,
+            topt: $tree::T_OPT,
+            tmax: $tree::T_MAX,
+            p: $tree::P,
+            q: $tree::Q,
+            source: Source::Tabled($tree::CURVE),
+            vpdmax: $tree::VPD_MAX,
+            vpdmin: $tree::VPD_MIN,
+            measure: $tree::MEASURE,
+            soilmax: $tree::SOIL_MAX,
+            soilmin: $tree::SOIL_MIN,
+            leaf: $tree::LEAF,
+            phenology: $tree::PHENOLOGY,
+            a: $tree::A,
+            e: $tree::E,
+            f1: $tree::F1,
+            f4: $tree::F4,
+            y: 1,
+        }
+    };
+}
+
+/// A tree of the table: each of its figures is a constant of its type, under the figure's own name.
 pub trait Tree {
     ghost FIGURES: { Figures };
 
-    const FIGURES: Figures;
+    /// mmol m⁻² s⁻¹
+    const GMAX: u16;
+
+    /// percent
+    const F_MIN: u16;
+
+    /// ten-thousandths
+    const LIGHT_A: u16;
+
+    /// The three temperatures of f_temp, in whole degrees above -50 °C.
+    const T_MIN: u16;
+
+    const T_OPT: u16;
+
+    const T_MAX: u16;
+
+    /// (T_MAX - T_OPT) / (T_OPT - T_MIN) is P / Q, reduced.
+    const P: u16;
+
+    const Q: u16;
+
+    /// Whose table f_temp is found in.
+    const CURVE: Curve;
+
+    /// Pa
+    const VPD_MAX: u16;
+
+    const VPD_MIN: u16;
+
+    /// What a soil reading measures, and the two ends of f_SW in its unit.
+    const MEASURE: Measure;
+
+    const SOIL_MAX: u16;
+
+    const SOIL_MIN: u16;
+
+    /// mm
+    const LEAF: u16;
+
+    /// What f_phen goes by.
+    const PHENOLOGY: Phenology;
+
+    /// f_phen on the first day and on the last, in percent.
+    const A: u16;
+
+    const E: u16;
+
+    /// The days within which f_phen rises, and within which it falls.
+    const F1: u16;
+
+    const F4: u16;
+
+    /// The figures together.
+    fn figures() -> Figures
+        ensures { result ≡ FIGURES };
 }
 
 #[derive(Clone, Copy)]
@@ -118,29 +201,49 @@ pub struct BorealSpruce;
 impl Tree for BorealSpruce {
     ghost FIGURES = { boreal_spruce };
 
-    const FIGURES: Figures = Figures {
-        gmax: 125,
-        fmin: 10,
-        lighta: 60,
-        tmin: ZERO + 0,
-        topt: ZERO + 20,
-        tmax: ZERO + 200,
-        p: 9,
-        q: 1,
-        source: Source::Tabled(Curve::BorealSpruce),
-        vpdmax: 800,
-        vpdmin: 2800,
-        measure: Measure::Water,
-        soilmax: 150,
-        soilmin: 10,
-        leaf: 8,
-        phenology: Phenology::Ramps,
-        a: 0,
-        e: 0,
-        f1: 20,
-        f4: 30,
-        y: 1,
-    };
+    const GMAX: u16 = 125;
+
+    const F_MIN: u16 = 10;
+
+    const LIGHT_A: u16 = 60;
+
+    const T_MIN: u16 = ZERO + 0;
+
+    const T_OPT: u16 = ZERO + 20;
+
+    const T_MAX: u16 = ZERO + 200;
+
+    const P: u16 = 9;
+
+    const Q: u16 = 1;
+
+    const CURVE: Curve = Curve::BorealSpruce;
+
+    const VPD_MAX: u16 = 800;
+
+    const VPD_MIN: u16 = 2800;
+
+    const MEASURE: Measure = Measure::Water;
+
+    const SOIL_MAX: u16 = 150;
+
+    const SOIL_MIN: u16 = 10;
+
+    const LEAF: u16 = 8;
+
+    const PHENOLOGY: Phenology = Phenology::Ramps;
+
+    const A: u16 = 0;
+
+    const E: u16 = 0;
+
+    const F1: u16 = 20;
+
+    const F4: u16 = 30;
+
+    fn figures() -> Figures {
+        put_together!(BorealSpruce)
+    }
 }
 
 #[derive(Clone, Copy)]
@@ -149,29 +252,49 @@ pub struct Birch;
 impl Tree for Birch {
     ghost FIGURES = { birch };
 
-    const FIGURES: Figures = Figures {
-        gmax: 240,
-        fmin: 10,
-        lighta: 42,
-        tmin: ZERO + 5,
-        topt: ZERO + 20,
-        tmax: ZERO + 200,
-        p: 12,
-        q: 1,
-        source: Source::Tabled(Curve::Birch),
-        vpdmax: 500,
-        vpdmin: 2700,
-        measure: Measure::Water,
-        soilmax: 150,
-        soilmin: 10,
-        leaf: 50,
-        phenology: Phenology::Ramps,
-        a: 0,
-        e: 0,
-        f1: 20,
-        f4: 30,
-        y: 1,
-    };
+    const GMAX: u16 = 240;
+
+    const F_MIN: u16 = 10;
+
+    const LIGHT_A: u16 = 42;
+
+    const T_MIN: u16 = ZERO + 5;
+
+    const T_OPT: u16 = ZERO + 20;
+
+    const T_MAX: u16 = ZERO + 200;
+
+    const P: u16 = 12;
+
+    const Q: u16 = 1;
+
+    const CURVE: Curve = Curve::Birch;
+
+    const VPD_MAX: u16 = 500;
+
+    const VPD_MIN: u16 = 2700;
+
+    const MEASURE: Measure = Measure::Water;
+
+    const SOIL_MAX: u16 = 150;
+
+    const SOIL_MIN: u16 = 10;
+
+    const LEAF: u16 = 50;
+
+    const PHENOLOGY: Phenology = Phenology::Ramps;
+
+    const A: u16 = 0;
+
+    const E: u16 = 0;
+
+    const F1: u16 = 20;
+
+    const F4: u16 = 30;
+
+    fn figures() -> Figures {
+        put_together!(Birch)
+    }
 }
 
 #[derive(Clone, Copy)]
@@ -180,29 +303,49 @@ pub struct ContinentalSpruce;
 impl Tree for ContinentalSpruce {
     ghost FIGURES = { continental_spruce };
 
-    const FIGURES: Figures = Figures {
-        gmax: 130,
-        fmin: 16,
-        lighta: 100,
-        tmin: ZERO + 0,
-        topt: ZERO + 14,
-        tmax: ZERO + 35,
-        p: 3,
-        q: 2,
-        source: Source::Tabled(Curve::ContinentalSpruce),
-        vpdmax: 500,
-        vpdmin: 3000,
-        measure: Measure::Suction,
-        soilmax: 50,
-        soilmin: 500,
-        leaf: 8,
-        phenology: Phenology::Temperature,
-        a: 0,
-        e: 0,
-        f1: 0,
-        f4: 0,
-        y: 1,
-    };
+    const GMAX: u16 = 130;
+
+    const F_MIN: u16 = 16;
+
+    const LIGHT_A: u16 = 100;
+
+    const T_MIN: u16 = ZERO + 0;
+
+    const T_OPT: u16 = ZERO + 14;
+
+    const T_MAX: u16 = ZERO + 35;
+
+    const P: u16 = 3;
+
+    const Q: u16 = 2;
+
+    const CURVE: Curve = Curve::ContinentalSpruce;
+
+    const VPD_MAX: u16 = 500;
+
+    const VPD_MIN: u16 = 3000;
+
+    const MEASURE: Measure = Measure::Suction;
+
+    const SOIL_MAX: u16 = 50;
+
+    const SOIL_MIN: u16 = 500;
+
+    const LEAF: u16 = 8;
+
+    const PHENOLOGY: Phenology = Phenology::Temperature;
+
+    const A: u16 = 0;
+
+    const E: u16 = 0;
+
+    const F1: u16 = 0;
+
+    const F4: u16 = 0;
+
+    fn figures() -> Figures {
+        put_together!(ContinentalSpruce)
+    }
 }
 
 #[derive(Clone, Copy)]
@@ -211,29 +354,49 @@ pub struct Beech;
 impl Tree for Beech {
     ghost FIGURES = { beech };
 
-    const FIGURES: Figures = Figures {
-        gmax: 155,
-        fmin: 13,
-        lighta: 60,
-        tmin: ZERO + 5,
-        topt: ZERO + 16,
-        tmax: ZERO + 33,
-        p: 17,
-        q: 11,
-        source: Source::Tabled(Curve::Beech),
-        vpdmax: 1000,
-        vpdmin: 3100,
-        measure: Measure::Suction,
-        soilmax: 50,
-        soilmin: 1250,
-        leaf: 70,
-        phenology: Phenology::Ramps,
-        a: 0,
-        e: 40,
-        f1: 20,
-        f4: 20,
-        y: 1,
-    };
+    const GMAX: u16 = 155;
+
+    const F_MIN: u16 = 13;
+
+    const LIGHT_A: u16 = 60;
+
+    const T_MIN: u16 = ZERO + 5;
+
+    const T_OPT: u16 = ZERO + 16;
+
+    const T_MAX: u16 = ZERO + 33;
+
+    const P: u16 = 17;
+
+    const Q: u16 = 11;
+
+    const CURVE: Curve = Curve::Beech;
+
+    const VPD_MAX: u16 = 1000;
+
+    const VPD_MIN: u16 = 3100;
+
+    const MEASURE: Measure = Measure::Suction;
+
+    const SOIL_MAX: u16 = 50;
+
+    const SOIL_MIN: u16 = 1250;
+
+    const LEAF: u16 = 70;
+
+    const PHENOLOGY: Phenology = Phenology::Ramps;
+
+    const A: u16 = 0;
+
+    const E: u16 = 40;
+
+    const F1: u16 = 20;
+
+    const F4: u16 = 20;
+
+    fn figures() -> Figures {
+        put_together!(Beech)
+    }
 }
 
 #[derive(Clone, Copy)]
@@ -242,29 +405,49 @@ pub struct Oak;
 impl Tree for Oak {
     ghost FIGURES = { oak };
 
-    const FIGURES: Figures = Figures {
-        gmax: 265,
-        fmin: 13,
-        lighta: 60,
-        tmin: ZERO + 0,
-        topt: ZERO + 22,
-        tmax: ZERO + 35,
-        p: 13,
-        q: 22,
-        source: Source::Tabled(Curve::Oak),
-        vpdmax: 1100,
-        vpdmin: 3100,
-        measure: Measure::Suction,
-        soilmax: 1000,
-        soilmin: 2000,
-        leaf: 42,
-        phenology: Phenology::Ramps,
-        a: 30,
-        e: 30,
-        f1: 15,
-        f4: 20,
-        y: 1,
-    };
+    const GMAX: u16 = 265;
+
+    const F_MIN: u16 = 13;
+
+    const LIGHT_A: u16 = 60;
+
+    const T_MIN: u16 = ZERO + 0;
+
+    const T_OPT: u16 = ZERO + 22;
+
+    const T_MAX: u16 = ZERO + 35;
+
+    const P: u16 = 13;
+
+    const Q: u16 = 22;
+
+    const CURVE: Curve = Curve::Oak;
+
+    const VPD_MAX: u16 = 1100;
+
+    const VPD_MIN: u16 = 3100;
+
+    const MEASURE: Measure = Measure::Suction;
+
+    const SOIL_MAX: u16 = 1000;
+
+    const SOIL_MIN: u16 = 2000;
+
+    const LEAF: u16 = 42;
+
+    const PHENOLOGY: Phenology = Phenology::Ramps;
+
+    const A: u16 = 30;
+
+    const E: u16 = 30;
+
+    const F1: u16 = 15;
+
+    const F4: u16 = 20;
+
+    fn figures() -> Figures {
+        put_together!(Oak)
+    }
 }
 
 #[derive(Clone, Copy)]
@@ -273,29 +456,49 @@ pub struct Evergreen;
 impl Tree for Evergreen {
     ghost FIGURES = { evergreen };
 
-    const FIGURES: Figures = Figures {
-        gmax: 195,
-        fmin: 2,
-        lighta: 120,
-        tmin: ZERO + 1,
-        topt: ZERO + 23,
-        tmax: ZERO + 39,
-        p: 8,
-        q: 11,
-        source: Source::Tabled(Curve::Evergreen),
-        vpdmax: 2200,
-        vpdmin: 4000,
-        measure: Measure::Suction,
-        soilmax: 1000,
-        soilmin: 4500,
-        leaf: 30,
-        phenology: Phenology::Dip,
-        a: 100,
-        e: 100,
-        f1: 0,
-        f4: 0,
-        y: 1,
-    };
+    const GMAX: u16 = 195;
+
+    const F_MIN: u16 = 2;
+
+    const LIGHT_A: u16 = 120;
+
+    const T_MIN: u16 = ZERO + 1;
+
+    const T_OPT: u16 = ZERO + 23;
+
+    const T_MAX: u16 = ZERO + 39;
+
+    const P: u16 = 8;
+
+    const Q: u16 = 11;
+
+    const CURVE: Curve = Curve::Evergreen;
+
+    const VPD_MAX: u16 = 2200;
+
+    const VPD_MIN: u16 = 4000;
+
+    const MEASURE: Measure = Measure::Suction;
+
+    const SOIL_MAX: u16 = 1000;
+
+    const SOIL_MIN: u16 = 4500;
+
+    const LEAF: u16 = 30;
+
+    const PHENOLOGY: Phenology = Phenology::Dip;
+
+    const A: u16 = 100;
+
+    const E: u16 = 100;
+
+    const F1: u16 = 0;
+
+    const F4: u16 = 0;
+
+    fn figures() -> Figures {
+        put_together!(Evergreen)
+    }
 }
 
 // The figures of the tree with a number, 1 to 6.
@@ -306,12 +509,12 @@ pub fn figures_of(tree: u8) -> Option<Figures>
     ensures row { choice_row result ≡ tree_row tree }
 {
     match tree {
-        1 => Some(BorealSpruce::FIGURES),
-        2 => Some(Birch::FIGURES),
-        3 => Some(ContinentalSpruce::FIGURES),
-        4 => Some(Beech::FIGURES),
-        5 => Some(Oak::FIGURES),
-        6 => Some(Evergreen::FIGURES),
+        1 => Some(BorealSpruce::figures()),
+        2 => Some(Birch::figures()),
+        3 => Some(ContinentalSpruce::figures()),
+        4 => Some(Beech::figures()),
+        5 => Some(Oak::figures()),
+        6 => Some(Evergreen::figures()),
         _ => None,
     }
 }
