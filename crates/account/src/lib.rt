@@ -1,4 +1,4 @@
-// The season account (document 01, "Account"): a fresh one, feeding it a line, reading it.
+// The season account: a fresh one, feeding it a line, reading it.
 #![tactic(auto)]
 
 mod adding;
@@ -31,7 +31,13 @@ pub fn fresh() -> Account
 pub fn feed_untested(account: Account, frame: Raw) -> Fed
     ensures { Answers account (untested_of account frame) result }
 {
-    let record = turns::decode(State::from(account), frame).map_err(|refusal| (refusal, account))?;
+    let decoded = turns::decode(State::from(account), frame);
+    let Ok(record) = decoded else {
+        let Err(refusal) = decoded else {
+            unreachable!()
+        };
+        return Err((refusal, account));
+    };
     if !(adding::has_room(account) & adding::temperate(record)) {
         return Err((Refusal::Account, account));
     }
@@ -98,9 +104,10 @@ pub fn refused_by(account: Account, refusal: Refusal) -> Refusal
 pub fn feed(account: Account, line: &[u8]) -> Fed
     ensures { Feeds account line.now result }
 {
-    // Kept: tried as `map_err` with `?`: that the row is the one of `refused_by` did not reach the proof out of the closure that calls it.
-    match frames::parse(line) {
-        Ok(frame) => feed_frame(account, frame),
-        Err(refusal) => Err((refused_by(account, refusal), account)),
-    }
+    let parsed = frames::parse(line);
+    let Ok(frame) = parsed else {
+        let Err(refusal) = parsed else { unreachable!() };
+        return Err((refused_by(account, refusal), account));
+    };
+    feed_frame(account, frame)
 }
