@@ -17,5 +17,5 @@ not_compared code text line = record { code = code; text = text; line = line; ho
 -- the row alone is the code, as in the report: no field is told of a text's line
 abbrev pub compared_of : Compared → ComparisonNumbers
 compared_of (figures hours sum line) = differing hours sum (place_numbers line)
-compared_of (refused_text text row line) = not_compared row text line
-compared_of (refused_both row) = not_compared row 0 0
+compared_of (refused_text text row line) = not_compared row.0 text line
+compared_of (refused_both row) = not_compared row.0 0 0

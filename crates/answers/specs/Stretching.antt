@@ -12,5 +12,5 @@ no_stretch code line = record { code = code; found = 0; line = line; sum = 0; da
 abbrev pub stretch_of : Outcome Worst → StretchNumbers
 stretch_of (accepted (found sum day)) = record { code = 0; found = 1; line = 0; sum = sum; day = day }
 stretch_of (accepted none_yet) = no_stretch 0 0
-stretch_of (accepted (stopped_by row line)) = no_stretch row line
+stretch_of (accepted (stopped_by row line)) = no_stretch row.0 line
 stretch_of (refused r) = no_stretch (code_of_row r) 0

@@ -9,7 +9,7 @@ use Rattle.lines.specs.Calls.{pair_line, none_yet_line, refused_line}
 abbrev worst_line : Worst → List ℕ
 worst_line (found sum day) = pair_line sum day
 worst_line none_yet = none_yet_line
-worst_line (stopped_by row line) = refusal_line row line
+worst_line (stopped_by row line) = refusal_line row.0 line
 
 unfoldable pub stretch_line : Outcome Worst → List ℕ
 stretch_line (accepted w) = worst_line w
