@@ -78,7 +78,7 @@ for call in feed_untested feed; do
     form "account::$call takes the decoded line apart by let .. else, the same account handed back" \
         account/src/lib.rt \
         "pub fn $call\(account: Account,((?!\n\}).)*let Ok\(\w+\) = \w+ else \{((?!\n\}).)*return Err\(\([^\n]*account\)\);" \
-        's/let Ok\((\w+)\) = /if let Ok(\1) = /g'
+        's/let Ok\((\w+)\) = (\w+) else/match \2/g'
 done
 form 'an hour of floats is a struct of seven f32 readings' floats_spec/src/lib.rt \
     'pub struct FloatReadings \{([^}]*pub \w+: f32,){7}' \
@@ -93,8 +93,8 @@ form 'one thin walk over them calls the by-value step' list/src/lib.rt \
     'for place in accounts\.iter_mut\(\) \{\s*\*place = \w+\([^)]*\*place[^)]*\);\s*\}' \
     's/for place in accounts/for place in others/'
 form 'a refusal has a definition with a number and a field for each case' records/specs/Answers.antt \
-    'row_of : Refusal → ℕ × ℕ.*Refusal\.Range.*Refusal\.Float' \
-    's/Refusal\.Float/Refusal.Other/g'
+    'row_of : Refusal → ℕ × ℕ\nrow_of Length = \(1, 0\)\n.*row_of \(Range f\) = \(10, f\)\n.*row_of \(Float f\) = \(26, f\)' \
+    's/row_of \(Float f\) = /row_of _ = /'
 
 if [ $missing != 0 ]; then
     echo "forms: $missing of $forms forms are not in their place"
