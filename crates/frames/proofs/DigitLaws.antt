@@ -10,7 +10,7 @@ use borrow.Author.Tests.{le-leb, lt-leb}
 use lib.ListN.{length, get_or, drop}
 use lib.Seq.{drop-cons}
 use Rattle.exact.proofs.OrderLaws.{le-or-lt}
-use Rattle.frames.specs.Digits.{is_digit, value_of, all_digits}
+use Rattle.frames.specs.Digits.{is_digit, value_of, bits_of, all_digits}
 use Rattle.records.proofs.AnswerLaws.{and_both}
 
 -- where a byte lies: a decimal digit, a letter, or one of the three gaps
@@ -79,6 +79,14 @@ case-bits c (over p) e = absurd (true≢false (sym e))
 
 pub value-bits : (c : ℕ) → is_digit c ≡ true → c % 16 + 9 * (c / 64) ≡ value_of c
 value-bits c e = case-bits c (digit-cases c) (digit-is c (digit-cases c) ∙ e) ∙ value-is c (digit-cases c)
+
+pub bits-lt : (c : ℕ) → bits_of c < 16
+unfolding bits_of
+bits-lt c = omega arith
+
+pub bits-value : (c : ℕ) → is_digit c ≡ true → bits_of c ≡ value_of c
+unfolding bits_of
+bits-value c e = omega (arith, value-bits c e, value-lt c)
 
 -- ---- a line of digits, from a place on
 

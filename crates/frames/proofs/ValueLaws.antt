@@ -7,19 +7,11 @@ use mathlib.Core.List.{List}
 use native.Mathlib.Omega.{arith}
 use lib.ListN.{length, get_or, set, length-set, replicate, get_or-replicate, length-replicate, get_or-eq_default}
 use lib.Seq.{get_or-set_same, get_or-set_other}
-use Rattle.frames.specs.Digits.{is_digit, value_of, all_digits}
+use Rattle.frames.specs.Digits.{bits_of, all_digits}
 use Rattle.frames.specs.Kinds.{longest}
-use Rattle.frames.specs.Steps.{bits_of, Values, Says}
+use Rattle.frames.specs.Steps.{Values, Says}
 use Rattle.exact.proofs.OrderLaws.{le-or-lt}
-use Rattle.frames.proofs.DigitLaws.{value-lt, value-bits, digit_at}
-
-bits-lt : (c : ℕ) → bits_of c < 16
-unfolding bits_of
-bits-lt c = omega arith
-
-bits-value : (c : ℕ) → is_digit c ≡ true → bits_of c ≡ value_of c
-unfolding bits_of
-bits-value c e = omega (arith, value-bits c e, value-lt c)
+use Rattle.frames.proofs.DigitLaws.{bits-lt, bits-value, digit_at}
 
 -- the first n values are those of the line's characters
 pub record ReadTo (l : List ℕ) (n : ℕ) (vs : List ℕ) : Type 0 where

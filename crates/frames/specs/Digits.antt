@@ -1,4 +1,4 @@
--- Capital hexadecimal digits, two a byte, and two-byte numbers, high byte first (document 01, "Frames").
+-- Capital hexadecimal digits, two a byte, and two-byte numbers, high byte first .
 use Rattle.std.specs.Prelude.{ℕ, ◌+◌, ◌-◌, ◌*◌, ◌/◌, ◌%◌, Bool, true, cond, ◌&&◌, ◌||◌, List, [], ◌∷◌, get_or, ltb, leb}
 
 -- from low to high, both included
@@ -12,6 +12,11 @@ is_digit c = within 48 57 c || within 65 70 c
 -- what a digit says (0 of any other byte)
 unfoldable pub value_of : ℕ → ℕ
 value_of c = cond (within 48 57 c) (c - 48) (cond (within 65 70 c) (c - 55) 0)
+
+-- the low four bits of a character, with 9 more for each 64 in it: a digit's value, and of a character that is no
+-- digit a number below 16 that says nothing
+unfoldable pub bits_of : ℕ → ℕ
+bits_of c = (c % 16 + 9 * (c / 64)) % 16
 
 unfoldable pub all_digits : List ℕ → Bool
 all_digits [] = true

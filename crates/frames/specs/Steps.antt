@@ -1,13 +1,9 @@
 -- Serves the code's own steps; no reader need believe it.
 -- The values of a line's digits, worked out for many characters at a time, and what is found in them.
-use Rattle.std.specs.Prelude.{ℕ, ◌+◌, ◌*◌, ◌/◌, ◌%◌, ◌≤◌, ◌<◌, ◌≡◌, true, List, length, get_or}
+use Rattle.std.specs.Prelude.{ℕ, ◌≤◌, ◌<◌, ◌≡◌, true, List, length, get_or}
 use Rattle.frames.specs.Digits.{value_of, byte_at}
 use Rattle.frames.specs.Kinds.{longest, is_length, length_of}
 use Rattle.frames.specs.Fields.{fields_at}
-
--- a character's low four bits, and 9 more from 64 on: the value of a digit
-unfoldable pub bits_of : ℕ → ℕ
-bits_of c = (c % 16 + 9 * (c / 64)) % 16
 
 -- numbers that are values of digits
 pub record Values (vs : List ℕ) : Type 0 where

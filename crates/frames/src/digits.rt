@@ -1,8 +1,8 @@
 // Capital hexadecimal digits, and the numbers that two and four of them say, high byte first.
 ghost use Rattle.std.specs.Prelude.{◌≡◌, ◌+◌, ◌≤◌, ◌<◌, true, length};
-ghost use Rattle.frames.specs.Digits.{is_digit, all_digits, byte_at, number_at};
+ghost use Rattle.frames.specs.Digits.{is_digit, value_of, bits_of, all_digits, byte_at, number_at};
 ghost use Rattle.frames.specs.Kinds.{one, two, size_of, longest};
-ghost use Rattle.frames.specs.Steps.{bits_of, Values, Says, Finds};
+ghost use Rattle.frames.specs.Steps.{Values, Says, Finds};
 
 use crate::widths::{BYTE, HourLine, LONGEST};
 
@@ -15,10 +15,13 @@ pub fn is_digit(c: u8) -> bool
     (48 <= c) & (c <= 57) | (65 <= c) & (c <= 70)
 }
 
-// 0 is the byte 48 and A the byte 65: a digit's value is its low four bits, and 9 more for a letter.
-#[tactic(auto, unfolding(crate::specs::Steps::bits_of))]
+/// The value of a digit: its low four bits, for 0 is the byte 48, and 9 more for a letter, for A is the byte 65.
+/// No test comes before it, so it is taken of any character.
+#[tactic(auto, unfolding(crate::specs::Digits::bits_of))]
 pub fn digit_value(c: u8) -> u8
-    ensures { (result ≡ bits_of c) × (result < 16) }
+    ensures value { is_digit c ≡ true → result ≡ value_of c }
+    ensures of_any { result ≡ bits_of c }
+    ensures small { result < 16 }
 {
     (c % 16 + 9 * (c / 64)) % 16
 }

@@ -9,9 +9,8 @@ use lib.ListN.{length, get_or, set, length-set}
 use lib.Seq.{get_or-set_same, get_or-set_other}
 use Rattle.exact.proofs.OrderLaws.{le-or-lt}
 use Rattle.records.proofs.AnswerLaws.{and_both}
-use Rattle.frames.specs.Digits.{is_digit, value_of, all_digits, byte_at, number_at}
-use Rattle.frames.specs.Steps.{bits_of}
-use Rattle.frames.proofs.DigitLaws.{value-lt, value-bits, digit_at}
+use Rattle.frames.specs.Digits.{is_digit, value_of, bits_of, all_digits, byte_at, number_at}
+use Rattle.frames.proofs.DigitLaws.{bits-value, digit_at}
 use Rattle.hour_lines.specs.Steps.{ReadTo, Says}
 
 -- ---- one character more
@@ -46,10 +45,6 @@ all_digits_lem : (l : List ℕ) → ((i : ℕ) → i < length l → is_digit (ge
 unfolding all_digits
 all_digits_lem [] each = refl
 all_digits_lem (c ∷ l) each = ap₂ (λ (x y : Bool). x && y) (each 0 (omega arith)) (all_digits_lem l (λ i h. each (suc i) (omega arith)))
-
-bits-value : (c : ℕ) → is_digit c ≡ true → bits_of c ≡ value_of c
-unfolding bits_of
-bits-value c e = omega (arith, value-bits c e, value-lt c)
 
 -- two chunks one after the other, one that ends at the last character but one, and the last
 pub chunks-digits :

@@ -2,11 +2,11 @@
 -- The bytes that 16 characters of a line say, each with the character after it, and the hour that three such chunks hold.
 use Rattle.std.specs.Prelude.{ℕ, ◌+◌, ◌-◌, ◌*◌, ◌<◌, ◌≡◌, Bool, true, List, length, get_or}
 use Rattle.records.specs.declared.RawHour.{RawHour}
-use Rattle.frames.specs.Digits.{is_digit, byte_at}
+use Rattle.frames.specs.Digits.{is_digit, bits_of, byte_at}
 use Rattle.frames.specs.Kinds.{length_of}
 use Rattle.frames.specs.Fields.{fields_at}
 use Rattle.frames.specs.Layout.{air_of, raw_hour_of}
-use Rattle.frames.specs.Steps.{bits_of, IsHour}
+use Rattle.frames.specs.Steps.{IsHour}
 
 -- the first n characters of the line l from a place on are read: each gives a byte, and `digits` only where all are digits
 pub record ReadTo (l : List ℕ) (from n : ℕ) (digits : Bool) (bytes : List ℕ) : Type 0 where
