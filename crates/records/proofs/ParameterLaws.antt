@@ -1,7 +1,7 @@
 -- The figures of any tree (W-212): sound where row 24 lets the parameters pass.
 use Rattle.std.specs.Prelude.{Option, Some, None, is_none}
 use Prim.Native.Nat.{ℕ}
-use mathlib.Core.Path.{◌≡◌, refl, sym, ap, subst, ◌∙◌}
+use mathlib.Core.Path.{◌≡◌, refl, sym, subst, ◌∙◌}
 use mathlib.Core.Logic.{◌↔◌}
 use mathlib.Core.Bool.{Bool, true, false, ◌||◌, true≢false}
 use native.Mathlib.Omega.{arith}
