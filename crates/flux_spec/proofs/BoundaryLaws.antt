@@ -1,16 +1,18 @@
--- The root of leaf/wind, rounded up to k decimals, is the least that reaches it and never rises as k grows; `root_low` and the next enclose it.
+-- The root of leaf/wind, rounded up to k decimals, is the least that reaches it and never rises as k grows, nor as the
+-- wind does; `root_low` and the next enclose it.
 use Rattle.std.proofs.lemmas.Bool.Decides.{nat_tests}
 use mathlib.Core.Path.{◌≡◌, ap, ◌∙◌}
 use Prim.Native.Nat.{ℕ, ◌+◌, ◌-◌, ◌*◌, ◌/◌, ◌^◌, ◌≤◌, ◌<◌}
 use native.Mathlib.Nat.{le_trans, mul-le-mul_left, mul-le-mul_right, le_of_mul-le-mul_right, div-mul-le_self, lt-div-mul-add}
 use native.Mathlib.Omega.{arith}
 use lib.Pow.{pow-add}
-use Rattle.exact.specs.Frac.{◌over◌, ◌≼◌}
+use Rattle.exact.specs.Frac.{natural, ◌over◌, ◌≼◌}
 use Rattle.exact.proofs.OrderLaws.{ten-pos}
-use Rattle.exact.proofs.FracLaws.{over-le}
+use Rattle.exact.proofs.FracLaws.{≼_refl, ⊗-mono, over-le}
 use Rattle.exact.proofs.LeastLaws.{least-reaches, reaches-least}
 use Rattle.exact.proofs.SquareLaws.{square_le, square-lt, square_root-under, square_root-over}
-use Rattle.flux_spec.specs.BoundaryLayer.{wind_read, root_up_at}
+use Rattle.flux_spec.specs.BoundaryLayer.{wind_read, root_up_at, resistance_at}
+use Rattle.flux_spec.specs.Facts.{BoundaryFacts}
 use Rattle.flux_spec.specs.Pair.{root_low}
 
 -- 10^(2k), as a square
@@ -48,6 +50,28 @@ module _ (leaf wind : ℕ) (blows : 0 < wind) where
 
 wind-blows : (wind : ℕ) → 0 < wind_read wind
 wind-blows wind = omega arith
+
+-- ---- Rb as the wind rises
+
+root_up_at-falls : (k leaf wind wind' : ℕ) → 0 < wind → wind ≤ wind' → root_up_at k leaf wind' ≤ root_up_at k leaf wind
+root_up_at-falls k leaf wind wind' blows h =
+    let r = root_up_at k leaf wind in
+    root_up_at-least k leaf wind' r (omega (arith, root_up_at-reaches k leaf wind blows, mul-le-mul_left (r * r) h))
+
+resistance_at-falls :
+    (leaf k wind wind' : ℕ) → wind ≤ wind' → resistance_at k leaf wind' ≼ resistance_at k leaf wind
+unfolding resistance_at
+resistance_at-falls leaf k wind wind' h =
+    let fewer = root_up_at-falls k leaf (wind_read wind) (wind_read wind') (wind-blows wind) (omega (arith, h)) in
+    ⊗-mono (≼_refl (natural 195)) (over-le (ten-pos k) (ten-pos k) (mul-le-mul_right (10 ^ k) fewer))
+
+resistance_at-level : (leaf k wind : ℕ) → wind ≤ 10 → resistance_at k leaf wind ≡ resistance_at k leaf 10
+unfolding resistance_at
+resistance_at-level leaf k wind h =
+    let read : wind_read wind ≡ 10 = omega (arith, h) in rw read
+
+pub boundary-facts : (leaf : ℕ) → BoundaryFacts leaf
+boundary-facts leaf = record { falls = resistance_at-falls leaf; level = resistance_at-level leaf }
 
 -- ---- the root between two numbers
 

@@ -21,6 +21,7 @@ use Rattle.flux_spec.specs.Conductance.{above_of, phenology_in, share_at}
 use Rattle.flux_spec.specs.Pair.{opening_low, opening_up, share_low, share_up}
 use Rattle.flux_spec.specs.Facts.{ShareFacts, HourFacts}
 use Rattle.flux_spec.proofs.BudgetLaws.{is_steep, width_in, near_in}
+use Rattle.flux_spec.proofs.BoundaryLaws.{boundary-facts}
 use Rattle.flux_spec.proofs.ConcentrationLaws.{ozone-facts}
 use Rattle.flux_spec.proofs.LightLaws.{light-facts}
 use Rattle.flux_spec.proofs.PhenologyLaws.{phenology_in-limits}
@@ -122,4 +123,4 @@ share-facts stand s h =
     }
 
 pub hour-facts : HourFacts
-hour-facts = grind (arith, nat_tests, ozone-facts, lit≤, light-facts, share-facts)
+hour-facts = grind (arith, nat_tests, ozone-facts, lit≤, light-facts, share-facts, boundary-facts)

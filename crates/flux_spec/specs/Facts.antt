@@ -1,4 +1,5 @@
--- The facts of ozone's concentration, of f_light and of the share of gmax (document 01, "How far the promises go"), for any sound figures, period and hour.
+-- The facts of ozone's concentration, of f_light, of the share of gmax and of the boundary layer's resistance, for any
+-- sound figures, period and hour.
 use Rattle.std.specs.Prelude.{ℕ, ◌+◌, ◌*◌, ◌≤◌, ◌≡◌, pos}
 use Rattle.exact.specs.Frac.{natural, ◌over◌, ◌⊗◌, ◌≼◌, ◌≈◌, Between}
 use Rattle.trees.specs.declared.Figures.{Figures}
@@ -9,6 +10,7 @@ use Rattle.records.specs.Ozone.{tenths_or}
 use Rattle.flux_spec.specs.declared.Stand.{Stand}
 use Rattle.flux_spec.specs.Light.{light_at}
 use Rattle.flux_spec.specs.Deficit.{HasVpd}
+use Rattle.flux_spec.specs.BoundaryLayer.{resistance_at}
 use Rattle.flux_spec.specs.Conductance.{above_of, share_at}
 use Rattle.flux_spec.specs.Dose.{per_ppb, concentration}
 use Rattle.flux_spec.specs.Pair.{concentration_low, concentration_up}
@@ -41,9 +43,17 @@ pub record ShareFacts (stand : Stand) (h : Hour) : Type 0 where
   -- it never falls as k grows
   pub grows : HasVpd h.air (above_of h.temperature) → (k l : ℕ) → k ≤ l → share_at k stand h ≼ share_at l stand h
 
+-- Rb, for a leaf in mm and a wind in cm/s, worked out at k
+pub record BoundaryFacts (leaf : ℕ) : Type 0 where
+  -- it falls as the wind rises
+  pub falls : (k wind wind' : ℕ) → wind ≤ wind' → resistance_at k leaf wind' ≼ resistance_at k leaf wind
+  -- a wind under 10 cm/s is read as 10
+  pub level : (k wind : ℕ) → wind ≤ 10 → resistance_at k leaf wind ≡ resistance_at k leaf 10
+
 pub record HourFacts : Type 0 where
   pub ozone : (h : Hour) → OzoneFacts h
   -- at sea level, 1013.2 hPa, and 20.0 °C a ppb is what it is without a pressure, 41.56 nmol m⁻³, to a hundredth
   pub sea_level : Between (4156 over 100) (4157 over 100) (per_ppb (Pressure 0 10132) (pos 200))
   pub light : (f : Figures) → LightFacts f
+  pub boundary : (leaf : ℕ) → BoundaryFacts leaf
   pub share : (stand : Stand) → Sound stand.figures → (h : Hour) → ShareFacts stand h
