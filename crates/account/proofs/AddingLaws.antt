@@ -1,23 +1,27 @@
 -- The pair of an hour by what `hour_dose` says, and the account with an hour added by whether it is counted.
-use Rattle.std.specs.Prelude.{Some, Result, Ok, Err}
+use Rattle.std.specs.Prelude.{Option, Some, None, Result, Ok, Err}
 use Rattle.std.specs.Result.{ResultUnwrapsOrElse}
 use Prim.Native.Nat.{ℕ, ◌+◌, ◌≤◌}
 use mathlib.Core.Path.{◌≡◌, refl, sym, ap, subst, ◌∙◌}
-use mathlib.Core.Bool.{Bool, true, false, cond}
+use mathlib.Core.Bool.{Bool, true, false, cond, ◌&&◌}
+use lib.Dec.{eqb}
 use native.Mathlib.Nat.{le_trans, add-zero}
 use native.Mathlib.Omega.{arith}
 use Rattle.exact.specs.declared.Bounds.{Bounds}
 use Rattle.trees.specs.declared.Figures.{Figures}
 use Rattle.trees.specs.declared.Warmth.{Warmth}
+use Rattle.measured.specs.declared.Parameters.{Parameters}
+use Rattle.measured.specs.Figures.{figures_in}
 use Rattle.records.specs.declared.Hour.{Hour}
 use Rattle.records.specs.declared.Record.{Record}
 use Rattle.records.specs.declared.Refusal.{Refusal}
 use Rattle.records.specs.Ozone.{is_missing, read_as}
-use Rattle.records.specs.Answers.{Outcome, accepted, refused, outcome_of}
-use Rattle.records.specs.Ranges.{hour_checked, ceiling_out, warmth_broken, lacks_ceiling}
+use Rattle.records.specs.Parameters.{parameter_out}
+use Rattle.records.specs.Answers.{Outcome, accepted, outcome_of}
+use Rattle.records.specs.Ranges.{on_tree, hour_checked, ceiling_out, warmth_broken, lacks_ceiling}
 use Rattle.records.proofs.AnswerLaws.{accepted-same, refused-not-accepted, row-passed, onward-passed}
 use Rattle.flux_spec.specs.Dose.{is_counted, excess}
-use Rattle.flux_spec.specs.HourDose.{tree_of, stand_of, days_out, soil_unfit, stand_for, hour_dose_of}
+use Rattle.flux_spec.specs.HourDose.{stand_of, days_out, soil_unfit, stand_by, stand_for, hour_dose_of}
 use Rattle.flux_spec.specs.declared.Age.{Age}
 use Rattle.flux_spec.specs.declared.Stand.{Stand}
 use Rattle.flux_spec.proofs.HourDoseLaws.{stand-passed}
@@ -32,6 +36,7 @@ use Rattle.account_spec.specs.Hours.{plus, stand_in, ceiling_in, carried_after, 
 use Rattle.account_spec.specs.Rules.{with_hour, entered}
 use Rattle.account_spec.specs.Steps.{Dosable, RecordDosable}
 use Rattle.account_spec.proofs.HourLaws.{season-stand, dosable-stand, PairSized, pair-sized, dosable-has}
+use Rattle.account.proofs.AgeLaws.{own_warmth, own-once}
 use Rattle.account.specs.Entering.{pair_in, pair_by, carried_by, hour_added, entered_by}
 
 -- ---- the temperature sum plays no part in the rows
@@ -39,37 +44,63 @@ use Rattle.account.specs.Entering.{pair_in, pair_by, carried_by, hour_added, ent
 abbrev age_of : Warmth → ℕ → Age
 age_of w sum = record { warmth = w; sum = sum }
 
-sum-apart :
-    (tree : Outcome Figures) (w : Warmth) (m n first last ceiling : ℕ) (h : Hour) (stand : Stand) → stand_for tree (age_of w m) first last ceiling h ≡ accepted stand →
-    stand_for tree (age_of w n) first last ceiling h ≡ accepted (stand_of stand.figures (age_of w n) first last ceiling)
-unfolding stand_for
-sum-apart (accepted f) w m n first last ceiling h stand e =
-    let warm = row-passed (warmth_broken w) _ _ stand e in
-    let days = row-passed (days_out f first last) _ _ stand warm.1 in
-    let within = row-passed (ceiling_out ceiling) _ _ stand days.1 in
-    let has = row-passed (lacks_ceiling ceiling h.ozone) _ _ stand within.1 in
-    let passed = onward-passed (hour_checked (soil_unfit f.measure h.soil) h) _ stand has.1 in
-    rw (warm.0, days.0, within.0, has.0, passed.1) (ap (λ (s : Stand). accepted (stand_of s.figures (age_of w n) first last ceiling)) (accepted-same passed.2))
-sum-apart (refused r) w m n first last ceiling h stand e = refused-not-accepted e
+module _ (w : Warmth) (m n first last ceiling : ℕ) (h : Hour) (stand : Stand) where
+  abbrev after : Outcome Stand
+  after = accepted (stand_of stand.figures (age_of w n) first last ceiling)
+
+  apart-by :
+      (f : Figures) → stand_by f (age_of w m) first last ceiling h ≡ accepted stand →
+      stand_by f (age_of w n) first last ceiling h ≡ after
+  unfolding stand_by
+  apart-by f e =
+      let days = row-passed (days_out f first last) _ _ stand e in
+      let has = row-passed (lacks_ceiling ceiling h.ozone) _ _ stand days.1 in
+      let passed = onward-passed (hour_checked (soil_unfit f.measure h.soil) h) _ stand has.1 in
+      rw (days.0, has.0, passed.1)
+      (ap (λ (s : Stand). accepted (stand_of s.figures (age_of w n) first last ceiling)) (accepted-same passed.2))
+
+  apart-on :
+      (choice : Option Figures) →
+      on_tree choice (λ f. stand_by f (age_of w m) first last ceiling h) ≡ accepted stand →
+      on_tree choice (λ f. stand_by f (age_of w n) first last ceiling h) ≡ after
+  apart-on (Some f) e = apart-by f e
+  apart-on None e = refused-not-accepted e
+
+  sum-apart :
+      (ps : Parameters) (tree : ℕ) → stand_for ps tree (age_of w m) first last ceiling h ≡ accepted stand →
+      stand_for ps tree (age_of w n) first last ceiling h ≡ after
+  unfolding stand_for
+  sum-apart ps tree e =
+      let within = row-passed (ceiling_out ceiling) _ _ stand e in
+      let measured = row-passed (eqb tree 7 && parameter_out ps) _ _ stand within.1 in
+      let warm = row-passed (warmth_broken w) _ _ stand measured.1 in
+      rw (within.0, measured.0, warm.0) (apart-on (figures_in ps tree) warm.1)
 
 -- ---- what `hour_dose` says of a counted hour
 
+abbrev dose_of : Season → Carried → Hour → Outcome Bounds
+dose_of season c h =
+    hour_dose_of season.parameters season.header.tree (age_of season.warmth c.sum)
+    season.header.first season.header.last season.ceiling h
+
 module _ (season : Season) (c : Carried) (h : Hour) where
-  abbrev dose : Outcome Bounds
-  dose = hour_dose_of (tree_of season.parameters season.header.tree) (age_of season.warmth c.sum) season.header.first season.header.last season.ceiling h
-
-  dose-is : Dosable season h → is_counted h ≡ true → dose ≡ accepted (pair_of (stand_in season) c h)
+  dose-is :
+      own_warmth season.header.tree season.warmth ≡ season.warmth → Dosable season h → is_counted h ≡ true →
+      dose_of season c h ≡ accepted (pair_of (stand_in season) c h)
   unfolding hour_dose_of pair_of
-  dose-is dosable counted =
+  dose-is own dosable counted =
       let stand = stand-passed _ _ _ _ _ h dosable.0 dosable.1 in
-      rw (sum-apart _ season.warmth 0 c.sum _ _ _ h dosable.0 dosable.1, counted, dosable-stand season h dosable, stand.is) refl
+      let apart = sum-apart season.warmth 0 c.sum _ _ _ h dosable.0 _ _ dosable.1 in
+      rw (own, apart, counted, dosable-stand season h dosable, stand.is) refl
 
-  -- the season's pair, where no row refuses the hour
-  pub pair_is : Dosable season h → is_counted h ≡ true → pair_by season c.sum h ≡ pair_of (stand_in season) c h
+  -- the season's pair, where no row refuses the hour and leaf age is the tree's own
+  pub pair_is :
+      own_warmth season.header.tree season.warmth ≡ season.warmth → Dosable season h → is_counted h ≡ true →
+      pair_by season c.sum h ≡ pair_of (stand_in season) c h
   unfolding pair_by
-  pair_is dosable counted = rw (dose-is dosable counted) refl
+  pair_is own dosable counted = rw (dose-is own dosable counted) refl
 
-  module _ (counted : is_counted h ≡ true) (d : Result Bounds Refusal) (dosed : outcome_of d ≡ dose) where
+  module _ (d : Result Bounds Refusal) (dosed : outcome_of d ≡ dose_of season c h) where
     pub pair-given : (pair : Bounds) → d ≡ Ok pair → pair ≡ pair_by season c.sum h
     unfolding pair_by
     pair-given pair e = ap pair_in (sym (ap outcome_of e) ∙ dosed)
@@ -78,29 +109,53 @@ module _ (season : Season) (c : Carried) (h : Hour) where
     unfolding pair_by
     pair-none r e = ap pair_in (sym (ap outcome_of e) ∙ dosed)
 
-    -- an hour that it does not refuse
-    pair-dosable : (pair : Bounds) → d ≡ Ok pair → Dosable season h
-    unfolding hour_dose_of
-    pair-dosable pair e = let p = onward-passed _ _ pair (sym dosed ∙ ap outcome_of e) in (_, sum-apart _ season.warmth c.sum 0 _ _ _ h p.0 p.1)
+-- ---- its pair is at most what an hour can bring, also where warmth stands by another tree
 
-    pub pair_small : (pair : Bounds) → d ≡ Ok pair → (pair.lower ≤ most_hour season) × (pair.upper ≤ most_hour season)
-    pair_small pair e =
-        let dosable = pair-dosable pair e in
-        let few = (stand-passed _ _ _ _ _ h dosable.0 dosable.1).within in
-        let is = pair-given pair e ∙ pair_is dosable counted in
-        let own : PairSized season pair = subst (PairSized season) (sym is) (pair-sized season h few c (dosable-has season h dosable)) in
-        (le_trans own.order own.most, own.most)
+abbrev own_season : Season → Season
+own_season season = record {
+  header = season.header;
+  ceiling = season.ceiling;
+  parameters = season.parameters;
+  warmth = own_warmth season.header.tree season.warmth;
+}
+
+module _ (season : Season) (c : Carried) (h : Hour) where
+  dose-own : dose_of season c h ≡ dose_of (own_season season) c h
+  unfolding hour_dose_of
+  dose-own = rw (own-once season.header.tree season.warmth) refl
+
+  dose-dosable : (pair : Bounds) → dose_of season c h ≡ accepted pair → Dosable (own_season season) h
+  unfolding hour_dose_of
+  dose-dosable pair e = let p = onward-passed _ _ pair e in (_, sum-apart _ c.sum 0 _ _ _ h p.0 _ _ p.1)
+
+  dose-small :
+      is_counted h ≡ true → (pair : Bounds) → dose_of season c h ≡ accepted pair →
+      (pair.lower ≤ most_hour season) × (pair.upper ≤ most_hour season)
+  dose-small counted pair e =
+      let owned = own_season season in
+      let dosable = dose-dosable pair e in
+      let few = (stand-passed _ _ _ _ _ h dosable.0 dosable.1).within in
+      let is = accepted-same
+      (sym e ∙ dose-own ∙ dose-is owned c h (own-once season.header.tree season.warmth) dosable counted) in
+      let sized : PairSized owned pair =
+      subst (PairSized owned) (sym is) (pair-sized owned h few c (dosable-has owned h dosable)) in
+      (le_trans sized.order sized.most, sized.most)
 
   -- 0 and 0 where it refuses the hour
   module _ (counted : is_counted h ≡ true) where
-    pub pair-or : (d : Result Bounds Refusal) (P : Bounds → Type 0) → ((y : Bounds) → P y → y ≡ record { lower = 0; upper = 0 }) → (x : Bounds) → outcome_of d ≡ dose → ResultUnwrapsOrElse d P x → x ≡ pair_by season c.sum h
-    pair-or (Ok pair) P none x e is = is ∙ pair-given counted (Ok pair) e pair refl
-    pair-or (Err r) P none x e is = none x is ∙ pair-none counted (Err r) e r refl
+    pub pair-or :
+        (d : Result Bounds Refusal) (P : Bounds → Type 0) →
+        ((y : Bounds) → P y → y ≡ record { lower = 0; upper = 0 }) → (x : Bounds) →
+        outcome_of d ≡ dose_of season c h → ResultUnwrapsOrElse d P x → x ≡ pair_by season c.sum h
+    pair-or (Ok pair) P none x e is = is ∙ pair-given season c h (Ok pair) e pair refl
+    pair-or (Err r) P none x e is = none x is ∙ pair-none season c h (Err r) e r refl
 
     pub pair-or-small :
-        (d : Result Bounds Refusal) (P : Bounds → Type 0) → ((y : Bounds) → P y → y ≡ record { lower = 0; upper = 0 }) → (x : Bounds) → outcome_of d ≡ dose → ResultUnwrapsOrElse d P x →
+        (d : Result Bounds Refusal) (P : Bounds → Type 0) →
+        ((y : Bounds) → P y → y ≡ record { lower = 0; upper = 0 }) → (x : Bounds) →
+        outcome_of d ≡ dose_of season c h → ResultUnwrapsOrElse d P x →
         (x.lower ≤ most_hour season) × (x.upper ≤ most_hour season)
-    pair-or-small (Ok pair) P none x e is = rw is (pair_small counted (Ok pair) e pair refl)
+    pair-or-small (Ok pair) P none x e is = rw is (dose-small counted pair (sym e))
     pair-or-small (Err r) P none x e is = rw (none x is) (omega arith, omega arith)
 
 -- ---- an hour added
@@ -147,16 +202,24 @@ carried-is season c h dosable =
     let stand = dosable-stand season h dosable in
     rw (stand, (season-stand season dosable.0 stand).warmth) refl
 
-hour-by : (a : Account) (h : Hour) → Dosable a.season h → (t : Bool) → is_counted h ≡ t → hour_added a h ≡ with_hour a h
-unfolding hour_added hour_sums
-hour-by a h dosable true e = rw (e, pair_is a.season a.carried h dosable e, ceiling-is a.season h dosable, carried-is a.season a.carried h dosable) refl
-hour-by a h dosable false e = rw (e, carried-is a.season a.carried h dosable) refl
+module _ (a : Account) (own : own_warmth a.season.header.tree a.season.warmth ≡ a.season.warmth) where
+  hour-by : (h : Hour) → Dosable a.season h → (t : Bool) → is_counted h ≡ t → hour_added a h ≡ with_hour a h
+  unfolding hour_added hour_sums
+  hour-by h dosable true e =
+      rw (
+        e,
+        pair_is a.season a.carried h own dosable e,
+        ceiling-is a.season h dosable,
+        carried-is a.season a.carried h dosable,
+      )
+      refl
+  hour-by h dosable false e = rw (e, carried-is a.season a.carried h dosable) refl
 
-pub entered-is : (a : Account) (r : Record) → RecordDosable a.season r → entered_by a r ≡ entered a r
-unfolding entered_by entered
-entered-is a (Record.Header h) dosable = refl
-entered-is a (Record.Hour h) dosable = hour-by a h dosable (is_counted h) refl
-entered-is a (Record.End e) dosable = refl
-entered-is a (Record.Ceiling c) dosable = refl
-entered-is a (Record.Parameters p) dosable = refl
-entered-is a (Record.Warmth w) dosable = refl
+  pub entered-is : (r : Record) → RecordDosable a.season r → entered_by a r ≡ entered a r
+  unfolding entered_by entered
+  entered-is (Record.Header h) dosable = refl
+  entered-is (Record.Hour h) dosable = hour-by h dosable (is_counted h) refl
+  entered-is (Record.End e) dosable = refl
+  entered-is (Record.Ceiling c) dosable = refl
+  entered-is (Record.Parameters p) dosable = refl
+  entered-is (Record.Warmth w) dosable = refl

@@ -1,3 +1,4 @@
+mod AgeLaws
 pub mod AddingLaws
 pub mod WarmthLaws
 pub mod RoomLaws

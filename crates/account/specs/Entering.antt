@@ -9,7 +9,7 @@ use Rattle.records.specs.declared.Record.{Record}
 use Rattle.records.specs.Answers.{Outcome, accepted, refused, row, onward}
 use Rattle.records.specs.Temperature.{temperature_out}
 use Rattle.flux_spec.specs.Dose.{is_counted}
-use Rattle.flux_spec.specs.HourDose.{tree_of, hour_dose_of}
+use Rattle.flux_spec.specs.HourDose.{hour_dose_of}
 use Rattle.account_spec.specs.declared.Season.{Season}
 use Rattle.account_spec.specs.declared.Sums.{Sums}
 use Rattle.account_spec.specs.declared.Carried.{Carried}
@@ -26,7 +26,7 @@ pair_in (refused row) = record { lower = 0; upper = 0 }
 
 unfoldable pub pair_by : Season → ℕ → Hour → Bounds
 pair_by season sum h =
-    pair_in (hour_dose_of (tree_of season.parameters season.header.tree) (record { warmth = season.warmth; sum = sum })
+    pair_in (hour_dose_of season.parameters season.header.tree (record { warmth = season.warmth; sum = sum })
     season.header.first season.header.last season.ceiling h)
 
 abbrev pub carried_by : Warmth → Carried → Hour → Carried

@@ -1,4 +1,4 @@
-// The hour's stomatal ozone dose (document 01, "Factors" and "The exact dose").
+// The hour's stomatal ozone dose.
 #![tactic(auto)]
 
 mod boundary;
@@ -19,13 +19,11 @@ mod share;
 mod vapour;
 
 ghost use Rattle.std.specs.Prelude.{◌≡◌};
-ghost use Rattle.trees.specs.Sound.{Sound};
-ghost use Rattle.trees.specs.Steps.{HasTable};
-ghost use Rattle.records.specs.Answers.{accepted, outcome_of};
+ghost use Rattle.records.specs.Answers.{accepted, outcome_of, onward};
 ghost use Rattle.flux_spec.specs.BenchCases.{BenchCases};
 ghost use Rattle.flux_spec.specs.Enclosure.{Enclosure};
 ghost use Rattle.flux_spec.specs.Facts.{HourFacts};
-ghost use Rattle.flux_spec.specs.HourDose.{tree_of, hour_dose_of};
+ghost use Rattle.flux_spec.specs.HourDose.{tree_of, age_by, stand_by, added_pair, hour_dose_of};
 
 use exact::Bounds;
 pub use feed::{feed_hours, feed_remembering};
@@ -46,32 +44,43 @@ fn tree_of(parameters: Parameters, tree: u8) -> Result<Figures, Refusal>
     measured::figures_in(parameters, tree).ok_or(Refusal::Tree)
 }
 
-// The dose of an hour by a stand: rows 25, 7, 17, 18 and 10.
-fn dose_by(stand: Stand, h: Hour) -> Result<Bounds, Refusal>
-    requires sound { Sound stand.figures }
-    requires tabled { HasTable stand.figures }
-    ensures { outcome_of result ≡ hour_dose_of (accepted stand.figures) stand.age stand.first stand.last stand.ceiling h }
+// Leaf age by warmth is tree 7's; the leaves of any other tree age by the day.
+fn age_by(tree: u8, age: Age) -> Age
+    ensures { result ≡ age_by tree age }
 {
-    let figures = stand.figures;
-    if records::warmth_broken(stand.age.warmth) {
-        return Err(Refusal::Warmth);
+    if tree == measured::MEASURED {
+        return age;
     }
+    Age {
+        warmth: measured::no_warmth(),
+        sum: age.sum,
+    }
+}
+
+// The dose of an hour by a stand: rows 7, 18 and 10.
+fn dose_by(dosing: Dosing, h: Hour) -> Result<Bounds, Refusal>
+    ensures { let s = dosing.stand in
+        outcome_of result
+        ≡ onward (stand_by s.figures s.age s.first s.last s.ceiling h) (λ own. accepted (added_pair own h)) }
+{
+    let stand = dosing.stand;
+    let figures = stand.figures;
     if rows::days_out(figures, stand.first, stand.last) {
         return Err(Refusal::Period);
-    }
-    if records::ceiling_out(stand.ceiling) {
-        return Err(Refusal::Ceiling);
     }
     if records::lacks_ceiling(stand.ceiling, h.ozone) {
         return Err(Refusal::NoCeiling);
     }
     records::check_hour(h, rows::soil_unfit(figures.measure, h.soil))?;
-    Ok(run::pair_alone(Dosing { stand }, Passed { hour: h }))
+    Ok(run::pair_alone(dosing, Passed { hour: h }))
 }
 
-// What an hour adds to POD1, for the tree with a number, its parameters (tree 7 goes by them, no other tree), leaf age by warmth (all 0: by the day), the first and
-// the last day of the period and the ozone ceiling (0: none): its pair where it is counted, else 0 and 0.
-// Kept: a struct of the first six would be a `Stand` with a tree's number for its figures, filled at each call and taken apart in the promise.
+/// What an hour adds to POD1: its pair where it is counted, else 0 and 0. It goes by the tree with a number, the first
+/// and the last day of the period and the ozone ceiling (0: none); tree 7 goes by its parameters and by leaf age by
+/// warmth (all 0: by the day), which are not looked at for any other tree. Refused by rows 17, 24, 25, 5, 7, 18 and 10,
+/// in that order.
+// Kept: a struct of the first six would be a `Stand` with a tree's number for its figures, filled at each call and taken
+// apart in the promise.
 pub fn hour_dose(
     tree: u8,
     parameters: Parameters,
@@ -81,18 +90,30 @@ pub fn hour_dose(
     ceiling: u16,
     h: Hour,
 ) -> Result<Bounds, Refusal>
-    ensures result_value { outcome_of result ≡ hour_dose_of (tree_of parameters tree) age first last ceiling h }
+    ensures result_value { outcome_of result ≡ hour_dose_of parameters tree age first last ceiling h }
     ensures enclosure { Enclosure }
     ensures facts { HourFacts }
     ensures bench_cases { BenchCases }
 {
-    let figures = tree_of(parameters, tree)?;
+    if records::ceiling_out(ceiling) {
+        return Err(Refusal::Ceiling);
+    }
+    if rows::measured_out(tree, parameters) {
+        return Err(Refusal::Parameter);
+    }
+    let own = age_by(tree, age);
+    if records::warmth_broken(own.warmth) {
+        return Err(Refusal::Warmth);
+    }
+    let Some(figures) = measured::figures_in(parameters, tree) else {
+        return Err(Refusal::Tree);
+    };
     let stand = Stand {
         figures,
-        age,
+        age: own,
         first,
         last,
         ceiling,
     };
-    dose_by(stand, h)
+    dose_by(Dosing { stand }, h)
 }

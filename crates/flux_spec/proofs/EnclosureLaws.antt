@@ -16,13 +16,13 @@ use Rattle.records.specs.Parameters.{parameter_out}
 use Rattle.records.proofs.ParameterLaws.{parameters-sound, figures-in-sound}
 use Rattle.flux_spec.specs.declared.Age.{Age}
 use Rattle.flux_spec.specs.Enclosure.{gap_most, Limited, MeasuredLimited, Answered, Enclosure}
-use Rattle.flux_spec.specs.HourDose.{tree_of, stand_of, stand_for, added_pair, hour_dose_of}
+use Rattle.flux_spec.specs.HourDose.{tree_of, age_by, stand_of, stand_for, added_pair, hour_dose_of}
 use Rattle.exact.specs.declared.Bounds.{Bounds}
 use Rattle.records.specs.declared.Hour.{Hour}
 use Rattle.records.specs.Answers.{accepted}
-use Rattle.records.proofs.AnswerLaws.{accepted-same, row-passed, onward-passed, on_tree-passed}
+use Rattle.records.proofs.AnswerLaws.{accepted-same, onward-passed}
 use Rattle.flux_spec.proofs.BudgetLaws.{most_dose-le}
-use Rattle.flux_spec.proofs.HourDoseLaws.{stand-passed}
+use Rattle.flux_spec.proofs.HourDoseLaws.{figures-named, stand-passed}
 use Rattle.flux_spec.proofs.PairLaws.{ozone-grows}
 use Rattle.flux_spec.proofs.HourLaws.{hour-enclosed}
 use Rattle.flux_spec.proofs.FillingLaws.{pair-enclosed}
@@ -45,26 +45,31 @@ measured-limited ps e = grind (arith, nat_tests, parameters-sound, most_dose-le)
 
 -- ---- any tree that has figures
 
+-- which row 24 lets pass
+pub named-sound :
+    (ps : Parameters) (tree : ℕ) → eqb tree 7 && parameter_out ps ≡ false → (f : Figures) → figures_in ps tree ≡ Some f →
+    Sound f
+named-sound ps tree passed f chosen = grind (arith, nat_tests, passed, chosen, figures-in-sound ps tree f)
+
 pub record TreeNamed (ps : Parameters) (tree : ℕ) (f : Figures) : Type 0 where
   pub chosen : figures_in ps tree ≡ Some f
   pub measured : eqb tree 7 ≡ true → parameter_out ps ≡ false
   pub sound : Sound f
 
 pub tree-named : (ps : Parameters) (tree : ℕ) (f : Figures) → tree_of ps tree ≡ accepted f → TreeNamed ps tree f
-unfolding tree_of
 tree-named ps tree f e =
-    let found = on_tree-passed (figures_in ps tree) _ f (row-passed (eqb tree 7 && parameter_out ps) _ _ f e).1 in
-    grind (arith, nat_tests, found, e, accepted-same found.2, figures-in-sound ps tree f)
+    let named = figures-named ps tree f e in
+    grind (arith, nat_tests, named.passed, named.chosen, figures-in-sound ps tree f)
 
 answered :
-    (ps : Parameters) (age : Age) (tree first last ceiling : ℕ) (h : Hour) (pair : Bounds) → hour_dose_of (tree_of ps tree) age first last ceiling h ≡ accepted pair →
-    Answered ps age tree first last ceiling h pair
+    (ps : Parameters) (age : Age) (tree first last ceiling : ℕ) (h : Hour) (pair : Bounds) →
+    hour_dose_of ps tree age first last ceiling h ≡ accepted pair → Answered ps age tree first last ceiling h pair
 unfolding hour_dose_of
 answered ps age tree first last ceiling h pair e =
-    let found = onward-passed (stand_for (tree_of ps tree) age first last ceiling h) _ pair e in
+    let found = onward-passed (stand_for ps tree (age_by tree age) first last ceiling h) _ pair e in
     let stand = found.0 in
-    let p = stand-passed (tree_of ps tree) age first last ceiling h stand found.1 in
-    let own = stand_of stand.figures age first last ceiling in
+    let p = stand-passed tree (age_by tree age) first last ceiling h stand found.1 in
+    let own = stand_of stand.figures (age_by tree age) first last ceiling in
     let sound = (tree-named ps tree stand.figures p.named).sound in
     record {
       figures = stand.figures;

@@ -2,7 +2,7 @@
 use Rattle.std.proofs.lemmas.Bool.Decides.{nat_tests}
 use Rattle.std.specs.Prelude.{Some, None}
 use Prim.Native.Nat.{ℕ, ◌+◌, ◌≤◌}
-use mathlib.Core.Path.{◌≡◌, refl}
+use mathlib.Core.Path.{◌≡◌, refl, sym}
 use mathlib.Core.Bool.{true, false, ◌&&◌}
 use native.Mathlib.Omega.{arith}
 use lib.Dec.{eqb}
@@ -16,16 +16,26 @@ use Rattle.records.specs.declared.Header.{Header}
 use Rattle.records.specs.declared.Hour.{Hour}
 use Rattle.records.specs.declared.RawHour.{RawHour}
 use Rattle.records.specs.declared.Record.{Record}
-use Rattle.records.specs.Answers.{Outcome, accepted, refused}
+use Rattle.records.specs.Answers.{Outcome, accepted, refused, onward}
 use Rattle.records.specs.Ranges.{period_out, hour_checked, checked, ceiling_out, warmth_broken, lacks_ceiling}
-use Rattle.records.proofs.AnswerLaws.{accepted-same, refused-not-accepted, row-passed, onward-passed}
+use Rattle.records.proofs.AnswerLaws.{accepted-same, row-passed, onward-passed, on_tree-passed}
 use Rattle.records.proofs.OzoneLaws.{ceiling-le}
 use Rattle.frames.specs.Layout.{ozone_of, soil_of, hour_of}
 use Rattle.flux_spec.specs.declared.Age.{Age}
 use Rattle.flux_spec.specs.declared.Stand.{Stand}
 use Rattle.flux_spec.specs.Dose.{is_counted}
-use Rattle.flux_spec.specs.Pair.{hour_pair}
-use Rattle.flux_spec.specs.HourDose.{tree_of, stand_of, days_out, other_measure, soil_unfit, stand_for, hour_dose_of, added_pair}
+use Rattle.flux_spec.specs.HourDose.{
+  tree_of,
+  age_by,
+  stand_of,
+  days_out,
+  other_measure,
+  soil_unfit,
+  stand_by,
+  stand_for,
+  hour_dose_of,
+  added_pair,
+}
 
 -- ---- the tree's figures
 
@@ -44,62 +54,76 @@ module _ (ps : Parameters) (tree : ℕ) where
     unfolding tree_of
     no-figures-is e = rw (passed, e)
 
--- ---- refused, by each row
+-- figures are named where row 24 lets the parameters pass
+pub record FiguresNamed (ps : Parameters) (tree : ℕ) (f : Figures) : Type 0 where
+  pub passed : eqb tree 7 && parameter_out ps ≡ false
+  pub chosen : figures_in ps tree ≡ Some f
 
-module _ (tree : Outcome Figures) (age : Age) (first last ceiling : ℕ) (h : Hour) where
-  pub no-tree-is : (w : ℕ × ℕ) → tree ≡ refused w → refused w ≡ hour_dose_of tree age first last ceiling h
+pub figures-named : (ps : Parameters) (tree : ℕ) (f : Figures) → tree_of ps tree ≡ accepted f → FiguresNamed ps tree f
+unfolding tree_of
+figures-named ps tree f e =
+    let within = row-passed (eqb tree 7 && parameter_out ps) _ _ f e in
+    let found = on_tree-passed (figures_in ps tree) _ f within.1 in
+    record { passed = within.0; chosen = rw (accepted-same found.2) at found.1 }
+
+-- ---- refused, by each row before the tree's figures
+
+module _ (ps : Parameters) (tree : ℕ) (age : Age) (first last ceiling : ℕ) (h : Hour) where
+  pub ceiling-out-is : ceiling_out ceiling ≡ true → refused (17, 0) ≡ hour_dose_of ps tree age first last ceiling h
   unfolding hour_dose_of stand_for
-  no-tree-is w e = rw e
+  ceiling-out-is out = rw out
 
-  module _ (f : Figures) (e : tree ≡ accepted f) where
-    pub named-is : (o : Outcome Bounds) → o ≡ hour_dose_of (accepted f) age first last ceiling h → o ≡ hour_dose_of tree age first last ceiling h
-    named-is o is = rw e is
-
-    pub warmth-out-is : warmth_broken age.warmth ≡ true → refused (25, 0) ≡ hour_dose_of tree age first last ceiling h
+  module _ (within : ceiling_out ceiling ≡ false) where
+    pub parameter-out-is :
+        eqb tree 7 && parameter_out ps ≡ true → refused (24, 0) ≡ hour_dose_of ps tree age first last ceiling h
     unfolding hour_dose_of stand_for
-    warmth-out-is out = rw (e, out)
+    parameter-out-is out = rw (within, out)
 
-    module _ (warm : warmth_broken age.warmth ≡ false) where
-      pub days-out-is : days_out f first last ≡ true → refused (7, 0) ≡ hour_dose_of tree age first last ceiling h
+    module _ (passed : eqb tree 7 && parameter_out ps ≡ false) where
+      pub warmth-out-is :
+          warmth_broken (age_by tree age).warmth ≡ true → refused (25, 0) ≡ hour_dose_of ps tree age first last ceiling h
       unfolding hour_dose_of stand_for
-      days-out-is out = rw (e, warm, out)
+      warmth-out-is out = rw (within, passed, out)
 
-      module _ (days : days_out f first last ≡ false) where
-        pub ceiling-out-is : ceiling_out ceiling ≡ true → refused (17, 0) ≡ hour_dose_of tree age first last ceiling h
+      module _ (warm : warmth_broken (age_by tree age).warmth ≡ false) where
+        pub no-tree-is : figures_in ps tree ≡ None → refused (5, 0) ≡ hour_dose_of ps tree age first last ceiling h
         unfolding hour_dose_of stand_for
-        ceiling-out-is out = rw (e, warm, days, out)
+        no-tree-is e = rw (within, passed, warm, e)
 
-        module _ (within : ceiling_out ceiling ≡ false) where
-          pub lacks-ceiling-is : lacks_ceiling ceiling h.ozone ≡ true → refused (18, 0) ≡ hour_dose_of tree age first last ceiling h
-          unfolding hour_dose_of stand_for
-          lacks-ceiling-is lacks = rw (e, warm, days, within, lacks)
+        pub named-is :
+            (f : Figures) → figures_in ps tree ≡ Some f → (o : Outcome Bounds) →
+            o ≡ onward (stand_by f (age_by tree age) first last ceiling h) (λ stand. accepted (added_pair stand h)) →
+            o ≡ hour_dose_of ps tree age first last ceiling h
+        unfolding hour_dose_of stand_for
+        named-is f e o is = rw (within, passed, warm, e) is
 
-          module _ (has : lacks_ceiling ceiling h.ozone ≡ false) where
-            pub reading-out-is :
-                (row : ℕ × ℕ) → hour_checked (soil_unfit f.measure h.soil) h ≡ refused row → refused row ≡ hour_dose_of tree age first last ceiling h
-            unfolding hour_dose_of stand_for
-            reading-out-is row out = rw (e, warm, days, within, has, out)
+-- ---- by the figures
 
-            -- ---- accepted
+module _ (f : Figures) (age : Age) (first last ceiling : ℕ) (h : Hour) where
+  abbrev pub dose : Outcome Bounds
+  dose = onward (stand_by f age first last ceiling h) (λ stand. accepted (added_pair stand h))
 
-            module _ (passed : hour_checked (soil_unfit f.measure h.soil) h ≡ accepted tt) where
-              pub stand-is : stand_for tree age first last ceiling h ≡ accepted (stand_of f age first last ceiling)
-              unfolding stand_for
-              stand-is = rw (e, warm, days, within, has, passed)
+  pub days-out-is : days_out f first last ≡ true → refused (7, 0) ≡ dose
+  unfolding stand_by
+  days-out-is out = rw out
 
-              pub dosed-is : (pair : Bounds) → pair ≡ added_pair (stand_of f age first last ceiling) h → accepted pair ≡ hour_dose_of tree age first last ceiling h
-              unfolding hour_dose_of
-              dosed-is pair p = rw (stand-is, p)
+  module _ (days : days_out f first last ≡ false) where
+    pub lacks-ceiling-is : lacks_ceiling ceiling h.ozone ≡ true → refused (18, 0) ≡ dose
+    unfolding stand_by
+    lacks-ceiling-is lacks = rw (days, lacks)
 
-              pub counted_is :
-                  is_counted h ≡ true → (pair : Bounds) → pair ≡ hour_pair (stand_of f age first last ceiling) h →
-                  accepted pair ≡ hour_dose_of tree age first last ceiling h
-              unfolding hour_dose_of
-              counted_is counted pair p = rw (stand-is, counted, p)
+    module _ (has : lacks_ceiling ceiling h.ozone ≡ false) where
+      pub reading-out-is : (row : ℕ × ℕ) → hour_checked (soil_unfit f.measure h.soil) h ≡ refused row → refused row ≡ dose
+      unfolding stand_by
+      reading-out-is row out = rw (days, has, out)
 
-              pub uncounted-is : is_counted h ≡ false → accepted (record { lower = 0; upper = 0 }) ≡ hour_dose_of tree age first last ceiling h
-              unfolding hour_dose_of
-              uncounted-is dark = rw (stand-is, dark)
+      module _ (passed : hour_checked (soil_unfit f.measure h.soil) h ≡ accepted tt) where
+        pub stand-is : stand_by f age first last ceiling h ≡ accepted (stand_of f age first last ceiling)
+        unfolding stand_by
+        stand-is = rw (days, has, passed)
+
+        pub dosed-is : (pair : Bounds) → pair ≡ added_pair (stand_of f age first last ceiling) h → accepted pair ≡ dose
+        dosed-is pair p = rw (stand-is, p)
 
 -- ---- an hour that is not counted
 
@@ -124,25 +148,34 @@ checked-fit m h own e = grind arith
 
 -- ---- what an hour that no row refuses has passed
 
-pub record Passed (tree : Outcome Figures) (age : Age) (first last ceiling : ℕ) (h : Hour) (stand : Stand) : Type 0 where
-  pub named : tree ≡ accepted stand.figures
+pub record Passed (ps : Parameters) (tree : ℕ) (age : Age) (first last ceiling : ℕ) (h : Hour) (stand : Stand) : Type 0 where
+  pub named : tree_of ps tree ≡ accepted stand.figures
   pub is : stand ≡ stand_of stand.figures age first last ceiling
+  pub warm : warmth_broken age.warmth ≡ false
   pub within : ceiling ≤ 5000
   pub checks : checked (Record.Hour h) ≡ accepted tt
 
 pub stand-passed :
-    (tree : Outcome Figures) (age : Age) (first last ceiling : ℕ) (h : Hour) (stand : Stand) → stand_for tree age first last ceiling h ≡ accepted stand →
-    Passed tree age first last ceiling h stand
-unfolding stand_for
-stand-passed (accepted f) age first last ceiling h stand e =
-    let warm = row-passed (warmth_broken age.warmth) _ _ stand e in
-    let days = row-passed (days_out f first last) _ _ stand warm.1 in
-    let within = row-passed (ceiling_out ceiling) _ _ stand days.1 in
-    let has = row-passed (lacks_ceiling ceiling h.ozone) _ _ stand within.1 in
+    {ps : Parameters} (tree : ℕ) (age : Age) (first last ceiling : ℕ) (h : Hour) (stand : Stand) →
+    stand_for ps tree age first last ceiling h ≡ accepted stand → Passed ps tree age first last ceiling h stand
+unfolding stand_for stand_by
+stand-passed {ps} tree age first last ceiling h stand e =
+    let within = row-passed (ceiling_out ceiling) _ _ stand e in
+    let measured = row-passed (eqb tree 7 && parameter_out ps) _ _ stand within.1 in
+    let warm = row-passed (warmth_broken age.warmth) _ _ stand measured.1 in
+    let found = on_tree-passed (figures_in ps tree) _ stand warm.1 in
+    let f : Figures = found.0 in
+    let days = row-passed (days_out f first last) _ _ stand found.2 in
+    let has = row-passed (lacks_ceiling ceiling h.ozone) _ _ stand days.1 in
     let range = onward-passed (hour_checked (soil_unfit f.measure h.soil) h) _ stand has.1 in
     rw (← accepted-same range.2)
-    (record { named = refl; is = refl; within = ceiling-le ceiling within.0; checks = fit-checked f.measure h range.1 })
-stand-passed (refused w) age first last ceiling h stand e = refused-not-accepted e
+    (record {
+      named = sym (tree_is ps tree measured.0 f found.1);
+      is = refl;
+      warm = warm.0;
+      within = ceiling-le ceiling within.0;
+      checks = fit-checked f.measure h range.1;
+    })
 
 -- ---- an hour frame, read in the tree's measure, of a season whose header row 7 lets pass
 
@@ -153,11 +186,15 @@ own-measure : (m : Measure) (n : ℕ) → other_measure m (soil_of m n) ≡ fals
 own-measure m n = grind arith
 
 pub frame-stand :
-    (header : Header) (age : Age) (ceiling : ℕ) (f : Figures) (raw : RawHour) (tree : Outcome Figures) → tree ≡ accepted f → warmth_broken age.warmth ≡ false →
-    period_out header (f.f1 + f.f4) ≡ false → header.days ≤ 366 → ceiling_out ceiling ≡ false → lacks_ceiling ceiling (ozone_of raw.ozone) ≡ false →
-    checked (Record.Hour (hour_of raw f.measure)) ≡ accepted tt →
-    stand_for tree age header.first header.last ceiling (hour_of raw f.measure) ≡ accepted (stand_of f age header.first header.last ceiling)
-unfolding hour_of
-frame-stand header age ceiling f raw tree e warm period most within has passed =
-    stand-is _ age header.first header.last ceiling _ f e warm (days-in header f period most) within has
-    (checked-fit f.measure _ (own-measure f.measure raw.soil) passed)
+    (header : Header) (age : Age) (ceiling : ℕ) (f : Figures) (raw : RawHour) (ps : Parameters) →
+    tree_of ps header.tree ≡ accepted f → warmth_broken age.warmth ≡ false →
+    period_out header (f.f1 + f.f4) ≡ false → header.days ≤ 366 → ceiling_out ceiling ≡ false →
+    lacks_ceiling ceiling (ozone_of raw.ozone) ≡ false → checked (Record.Hour (hour_of raw f.measure)) ≡ accepted tt →
+    stand_for ps header.tree age header.first header.last ceiling (hour_of raw f.measure)
+    ≡ accepted (stand_of f age header.first header.last ceiling)
+unfolding hour_of stand_for
+frame-stand header age ceiling f raw ps e warm period most within has passed =
+    let named = figures-named ps header.tree f e in
+    let fit = checked-fit f.measure (hour_of raw f.measure) (own-measure f.measure raw.soil) passed in
+    rw (within, named.passed, warm, named.chosen)
+    (stand-is f age header.first header.last ceiling _ (days-in header f period most) has fit)

@@ -19,7 +19,7 @@ use Rattle.flux_spec.specs.declared.Age.{Age}
 use Rattle.flux_spec.specs.declared.Stand.{Stand}
 use Rattle.flux_spec.specs.Dose.{flux_at, dose_at, NotAbove, NotBelow}
 use Rattle.flux_spec.specs.Pair.{lower_of, upper_of, hour_pair}
-use Rattle.flux_spec.specs.HourDose.{stand_of, added_pair, hour_dose_of, tree_of}
+use Rattle.flux_spec.specs.HourDose.{stand_of, age_by, added_pair, hour_dose_of, tree_of}
 
 -- nmol m⁻² in an hour at most, by its kind: 530000 for the six trees, 795000 where the pressure is read
 abbrev pub most_dose : ℕ → Air → ℕ
@@ -84,9 +84,9 @@ pub record MeasuredLimited (f : Figures) : Type 0 where
 pub record Answered (ps : Parameters) (age : Age) (tree first last ceiling : ℕ) (h : Hour) (pair : Bounds) : Type 0 where
   pub figures : Figures
   pub named : tree_of ps tree ≡ accepted figures
-  pub is : pair ≡ added_pair (stand_of figures age first last ceiling) h
-  pub enclosed : HourEnclosed (stand_of figures age first last ceiling) h
-  pub filled : PairEnclosed (stand_of figures age first last ceiling) h
+  pub is : pair ≡ added_pair (stand_of figures (age_by tree age) first last ceiling) h
+  pub enclosed : HourEnclosed (stand_of figures (age_by tree age) first last ceiling) h
+  pub filled : PairEnclosed (stand_of figures (age_by tree age) first last ceiling) h
 
 pub record Enclosure : Type 0 where
   pub trees : (tree : ℕ) (f : Figures) → figures_of tree ≡ Some f → Limited f
@@ -94,5 +94,6 @@ pub record Enclosure : Type 0 where
   pub hour : (stand : Stand) → Sound stand.figures → (h : Hour) → checked (Record.Hour h) ≡ accepted tt → HourEnclosed stand h
   pub ozone : (stand : Stand) (h : Hour) → OzoneGrows stand h
   pub pair : (stand : Stand) → Sound stand.figures → stand.ceiling ≤ 5000 → (h : Hour) → checked (Record.Hour h) ≡ accepted tt → PairEnclosed stand h
-  pub answer : (ps : Parameters) (age : Age) (tree first last ceiling : ℕ) (h : Hour) (pair : Bounds) → hour_dose_of (tree_of ps tree) age first last ceiling h ≡ accepted pair
-      → Answered ps age tree first last ceiling h pair
+  pub answer :
+      (ps : Parameters) (age : Age) (tree first last ceiling : ℕ) (h : Hour) (pair : Bounds) →
+      hour_dose_of ps tree age first last ceiling h ≡ accepted pair → Answered ps age tree first last ceiling h pair

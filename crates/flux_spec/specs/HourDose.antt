@@ -1,14 +1,16 @@
--- What an hour adds to POD1, as two whole numbers; rows 24, 5, 25, 7, 17, 18 and 10, in that order, for parameters of tree 7 that are out, a number that is no tree,
--- warmth that is out, days that are no period, a ceiling out of range, a missing ozone with none and readings out of range.
+-- What an hour adds to POD1, as two whole numbers; rows 17, 24, 25, 5, 7, 18 and 10, in that order, for a
+-- ceiling out of range, tree 7's parameters or warmth that are out, a number that is no tree, days that are no
+-- period, a missing ozone with no ceiling and readings out of range.
 use Rattle.std.specs.Prelude.{ℕ, ◌+◌, Bool, true, false, cond, ◌&&◌, ◌||◌, eqb}
 use Rattle.exact.specs.declared.Bounds.{Bounds}
 use Rattle.trees.specs.declared.Measure.{Measure}
 use Rattle.trees.specs.declared.Figures.{Figures}
 use Rattle.measured.specs.declared.Parameters.{Parameters}
 use Rattle.measured.specs.Figures.{figures_in}
+use Rattle.measured.specs.Warmth.{no_warmth}
 use Rattle.records.specs.declared.Soil.{Soil}
 use Rattle.records.specs.declared.Hour.{Hour}
-use Rattle.records.specs.Answers.{Outcome, accepted, refused, row, onward}
+use Rattle.records.specs.Answers.{Outcome, accepted, row, onward}
 use Rattle.records.specs.Parameters.{parameter_out}
 use Rattle.records.specs.Ranges.{on_tree, period_out, soil_out, hour_checked, ceiling_out, warmth_broken, lacks_ceiling}
 use Rattle.flux_spec.specs.declared.Age.{Age}
@@ -16,9 +18,13 @@ use Rattle.flux_spec.specs.declared.Stand.{Stand}
 use Rattle.flux_spec.specs.Dose.{is_counted}
 use Rattle.flux_spec.specs.Pair.{hour_pair}
 
--- the figures of the tree with a number, those of tree 7 by its parameters (W-212)
+-- the figures of the tree with a number, those of tree 7 by its parameters
 unfoldable pub tree_of : Parameters → ℕ → Outcome Figures
 tree_of ps tree = row 24 (eqb tree 7 && parameter_out ps) (on_tree (figures_in ps tree) (λ f. accepted f))
+
+-- leaf age by warmth is tree 7's: of any other tree what is given is not looked at, and its leaves age by the day
+abbrev pub age_by : ℕ → Age → Age
+age_by tree age = record { warmth = cond (eqb tree 7) age.warmth no_warmth; sum = age.sum }
 
 -- the tree's figures, leaf age by warmth, the first and the last day of the period, the ozone ceiling
 abbrev pub stand_of : Figures → Age → ℕ → ℕ → ℕ → Stand
@@ -39,21 +45,27 @@ other_measure Measure.Water (Soil.Water n) = false
 abbrev pub soil_unfit : Measure → Soil → Bool
 soil_unfit measure soil = soil_out soil || other_measure measure soil
 
--- what the dose goes by besides the hour, out of the tree's figures, leaf age, the first and the last day and the ceiling; row 10 names the first field out of
--- range, and so is a soil in the other measure
-unfoldable pub stand_for : Outcome Figures → Age → ℕ → ℕ → ℕ → Hour → Outcome Stand
-stand_for (accepted f) age first last ceiling h =
-    row 25 (warmth_broken age.warmth)
-    (row 7 (days_out f first last)
-    (row 17 (ceiling_out ceiling)
+-- what the dose goes by besides the hour, by the tree's figures; row 10 names the first field out of range, and
+-- so is a soil in the other measure
+unfoldable pub stand_by : Figures → Age → ℕ → ℕ → ℕ → Hour → Outcome Stand
+stand_by f age first last ceiling h =
+    row 7 (days_out f first last)
     (row 18 (lacks_ceiling ceiling h.ozone)
     (onward (hour_checked (soil_unfit f.measure h.soil) h) (λ _.
-    accepted (stand_of f age first last ceiling))))))
-stand_for (refused w) age first last ceiling h = refused w
+    accepted (stand_of f age first last ceiling))))
+
+-- by the tree's number and its parameters, with its own leaf age
+unfoldable pub stand_for : Parameters → ℕ → Age → ℕ → ℕ → ℕ → Hour → Outcome Stand
+stand_for ps tree age first last ceiling h =
+    row 17 (ceiling_out ceiling)
+    (row 24 (eqb tree 7 && parameter_out ps)
+    (row 25 (warmth_broken age.warmth)
+    (on_tree (figures_in ps tree) (λ f. stand_by f age first last ceiling h))))
 
 -- an hour that is not counted adds nothing
 abbrev pub added_pair : Stand → Hour → Bounds
 added_pair stand h = cond (is_counted h) (hour_pair stand h) (record { lower = 0; upper = 0 })
 
-unfoldable pub hour_dose_of : Outcome Figures → Age → ℕ → ℕ → ℕ → Hour → Outcome Bounds
-hour_dose_of tree age first last ceiling h = onward (stand_for tree age first last ceiling h) (λ stand. accepted (added_pair stand h))
+unfoldable pub hour_dose_of : Parameters → ℕ → Age → ℕ → ℕ → ℕ → Hour → Outcome Bounds
+hour_dose_of ps tree age first last ceiling h =
+    onward (stand_for ps tree (age_by tree age) first last ceiling h) (λ stand. accepted (added_pair stand h))
