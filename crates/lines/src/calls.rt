@@ -1,6 +1,6 @@
 // The lines of the other calls' answers.
 ghost use Rattle.std.specs.Prelude.{◌≡◌};
-ghost use Rattle.report_spec.specs.Steps.{text_in};
+ghost use Rattle.report_spec.specs.Text.{text_in};
 ghost use Rattle.lines.specs.Calls.{pair_line, none_yet_line, refused_line, header_refused_line, text_refused_line};
 
 use crate::line::{column_before, of_refusal, phrase_before, refused_at, word_before};

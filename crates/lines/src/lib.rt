@@ -11,7 +11,7 @@ ghost use Rattle.records.specs.Buffer.{Prints};
 ghost use Rattle.report_spec.specs.Line.{totals_line};
 ghost use Rattle.report_spec.specs.Months.{month_line};
 ghost use Rattle.report_spec.specs.Season.{refusal_line};
-ghost use Rattle.report_spec.specs.Steps.{text_in};
+ghost use Rattle.report_spec.specs.Text.{text_in};
 ghost use Rattle.lines.specs.Calls.{pair_line, none_yet_line, refused_line, header_refused_line, text_refused_line};
 
 use account_spec::{Sums, Totals};

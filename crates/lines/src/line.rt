@@ -1,11 +1,11 @@
 // The lines of the report: a season's figures, a month's, or the first refusal.
 ghost use Rattle.std.specs.Prelude.{◌≡◌, ◌+◌, ◌≤◌, [], ◌∷◌, ◌++◌, length};
 ghost use Rattle.walk_spec.specs.Lines.{line_feed};
-ghost use Rattle.report_spec.specs.Text.{decimal, space};
+ghost use Rattle.report_spec.specs.Text.{decimal, space, text_in};
 ghost use Rattle.report_spec.specs.Line.{totals_line};
 ghost use Rattle.report_spec.specs.Months.{month_line};
 ghost use Rattle.report_spec.specs.Season.{refusal_line};
-ghost use Rattle.report_spec.specs.Steps.{text_in, figures_before};
+ghost use Rattle.report_spec.specs.Steps.{figures_before};
 ghost use Rattle.lines.specs.Calls.{phrase, word_refused};
 
 use crate::text::{LINE_END, byte_before, number_before};

@@ -2,8 +2,7 @@
 ghost use Rattle.std.specs.Prelude.{◌≡◌, ◌+◌, ◌≤◌, ◌∷◌, ◌++◌};
 ghost use Rattle.records.specs.Answers.{accepted};
 ghost use Rattle.records.specs.Buffer.{Prints};
-ghost use Rattle.report_spec.specs.Text.{decimal};
-ghost use Rattle.report_spec.specs.Steps.{text_in};
+ghost use Rattle.report_spec.specs.Text.{decimal, text_in};
 
 use frames::Refusal;
 use report_spec::Text;

@@ -5,7 +5,7 @@ use mathlib.Core.List.{◌++◌}
 use lib.ListN.{length}
 use Rattle.std.specs.Iterator.Adapters.{rev_source}
 use Rattle.std.specs.Slice.Iter.{iter_rest}
-use Rattle.report_spec.specs.Steps.{text_in}
+use Rattle.report_spec.specs.Text.{text_in}
 use Rattle.lines.proofs.line.word_before.Given as goal
 
 abbrev pub invariant-loop-c : goal.invariant-loop-c
