@@ -1,6 +1,7 @@
 /* The POD1 season account as a library, proved: a season of hourly readings to a stomatal ozone dose with a verdict.
  *
- * ./part builds target/libpod1.a, for x86-64 Linux. It needs memcpy and memset and nothing else: no heap, no file, no variable of its own, so that threads may
+ * ./part builds target/libpod1.a, for Linux on any x86-64 processor. It needs memcpy and memset and
+ * nothing else: no heap, no file, no variable of its own, so that threads may
  * call it at once, each on its own buffers.
  *
  * A code is 0 where the call is accepted, else a row and a field: the row of docs/SPECIFICATION.md that refuses the call, and the reading that rows 10 and 26 name
