@@ -1,38 +1,32 @@
--- Demand 3 over runs that are tied by the contracts of `pod1_feed` and `pod1_read`, as they stand at the functions, and by nothing else.
+-- Demand 3 over calls that are tied by the contracts of the functions, as they stand there, and by nothing else.
 use Prim.Native.Nat.{ℕ}
-use mathlib.Core.Path.{◌≡◌}
-use mathlib.Core.List.{List, [], ◌∷◌}
+use mathlib.Core.List.{List, []}
 use denote.MutBor.{MutBor}
 use denote.Ref.{Bor}
-use Rattle.records.specs.Answers.{accepted}
 use Rattle.account_spec.specs.Account.{fresh_account}
 use Rattle.account_spec.specs.Promise.{SeasonPromise}
-use Rattle.stored.specs.Layout.{take_up_of}
-use Rattle.part_spec.specs.Promise.{Told, line_told, reading_told, BytesRun, stop, feeds, reads, SeasonTold, PartPromise}
+use Rattle.filling_spec.specs.Promise.{FillingPromise}
+use Rattle.floats_spec.specs.declared.FloatReadings.{FloatReadings}
+use Rattle.floats_spec.proofs.PromiseLaws.{float-promise}
+use Rattle.stored_list.proofs.RunLaws.{listed-promise}
+use Rattle.answers.specs.declared.Printed.{Printed}
+use Rattle.answers.specs.declared.Readout.{Readout}
+use Rattle.answers.specs.declared.Tried.{Tried}
+use Rattle.part_spec.specs.Calls.{Stores}
+use Rattle.part_spec.specs.Trials.{TakesBytes}
+use Rattle.part_spec.specs.Told.{Told, CallTold, Calls}
+use Rattle.part_spec.specs.Promise.{PartPromise}
+use Rattle.part_spec.proofs.FloatLaws.{float-bytes-promise}
+use Rattle.part_spec.proofs.TakenLaws.{trial-bytes-promise}
 use Rattle.part_spec.proofs.PromiseLaws.{part-promise}
+use Rattle.part.proofs.pod1_fresh.Reads as fresh-reads
 use Rattle.part.proofs.pod1_feed.Reads as feed-reads
 use Rattle.part.proofs.pod1_read.Reads as read-reads
-
--- a call: its arguments, its result and its arguments at exit, of which the contract holds
-record Called {Lifetimes : Type 0} {Args Result Exit : Lifetimes → Type 0} (Contract : (κs : Lifetimes) → Args κs → Result κs → Exit κs → Type 0) : Type 0 where
-  κs : Lifetimes
-  args : Args κs
-  result : Result κs
-  exit : Exit κs
-  holds : Contract κs args result exit
-
--- each call gets the bytes that the one before left
-data Tied : List ℕ → List Told → Type 0 where
-  done : {b : List ℕ} → Tied b []
-  by-feed : {ts : List Told} (c : Called feed-reads.Post) → Tied c.exit.0.now ts → Tied c.args.0.now (line_told c.args.1.0.now c.result ∷ ts)
-  by_read : {ts : List Told} (c : Called read-reads.Post) → Tied c.args.0.now ts → Tied c.args.0.now (reading_told c.result ∷ ts)
-
--- each contract says what `BytesRun` asks, no more and no less
-
-tied-run : {b : List ℕ} {ts : List Told} → Tied b ts → BytesRun b ts
-tied-run done = stop
-tied-run (by-feed c t) = feeds c.holds (tied-run t)
-tied-run (by_read c t) = reads c.holds (tied-run t)
+use Rattle.part.proofs.pod1_line.Reads as line-reads
+use Rattle.part.proofs.logger.pod1_feed_floats.Reads as floats-reads
+use Rattle.part.proofs.trials.pod1_trial.Reads as trial-reads
+use Rattle.part.proofs.trials.pod1_take.Reads as take-reads
+use Rattle.part.proofs.stand.pod1_feed_all.Reads as all-reads
 
 -- bytes lent for a call
 abbrev pub lent : List ℕ → Bor (List ℕ)
@@ -41,15 +35,68 @@ lent l = record { ref_ptr = (0, 0); now = l }
 abbrev pub lent-mut : List ℕ → MutBor (List ℕ)
 lent-mut l = record { ref_ptr = (0, 0); ghost_name = 0; now = l }
 
-run-tied : {b : List ℕ} {ts : List Told} → BytesRun b ts → Tied b ts
-run-tied stop = done
-run-tied (feeds {b = b} {l = l} {after = after} {code = code} k run) =
-    by-feed (record { κs = ([], ([], tt)); args = (lent-mut b, (lent l, tt)); result = code; exit = (lent-mut after, (lent l, tt)); holds = k }) (run-tied run)
-run-tied (reads {b = b} {r = r} k run) = by_read (record { κs = ([], tt); args = (lent b, tt); result = r; exit = (lent b, tt); holds = k }) (run-tied run)
+-- what a call of each promises
 
-module _ (season : SeasonPromise) where
-  tied-told : (b : List ℕ) (ts : List Told) → take_up_of b ≡ accepted fresh_account → Tied b ts → SeasonTold ts
-  tied-told b ts held t = (part-promise season).season b ts held (tied-run t)
+abbrev Begun : (room begun : List ℕ) → Type 0
+Begun room begun = fresh-reads.Post ([], tt) (lent-mut room, tt) 0 (lent-mut begun, tt)
 
-  pub part-cited : PartPromise
-  part-cited = record { season = λ b ts held run. tied-told b ts held (run-tied run) }
+abbrev Fed : (b line : List ℕ) → ℕ → List ℕ → Type 0
+Fed b line code after = feed-reads.Post ([], ([], tt)) (lent-mut b, (lent line, tt)) code (lent-mut after, (lent line, tt))
+
+abbrev FloatsFed : List ℕ → ℕ → ℕ → FloatReadings → ℕ → List ℕ → Type 0
+FloatsFed b day hour readings code after =
+    floats-reads.Post ([], tt) (lent-mut b, (day, (hour, (readings, tt)))) code (lent-mut after, (day, (hour, (readings, tt))))
+
+abbrev Tries : (b line buffer : List ℕ) → Tried → List ℕ → Type 0
+Tries b line buffer answer trial =
+    trial-reads.Post ([], ([], ([], tt))) (lent b, (lent line, (lent-mut buffer, tt))) answer (lent b, (lent line, (lent-mut trial, tt)))
+
+abbrev Takes : (b trial : List ℕ) → ℕ → List ℕ → Type 0
+Takes b trial code after = take-reads.Post ([], ([], tt)) (lent-mut b, (lent trial, tt)) code (lent-mut after, (lent trial, tt))
+
+abbrev FedAll : (b line : List ℕ) → ℕ → List ℕ → Type 0
+FedAll b line code after = all-reads.Post ([], ([], tt)) (lent-mut b, (lent line, tt)) code (lent-mut after, (lent line, tt))
+
+abbrev ReadTold : List ℕ → Readout → Type 0
+ReadTold b answer = read-reads.Post ([], tt) (lent b, tt) answer (lent b, tt)
+
+abbrev LineTold : (b buffer : List ℕ) → Printed → List ℕ → Type 0
+LineTold b buffer answer text = line-reads.Post ([], ([], tt)) (lent b, (lent-mut buffer, tt)) answer (lent b, (lent-mut text, tt))
+
+-- ---- a call as `CallTold` has it is one of which the contract holds, and the contract says all that `CallTold` asks
+
+call-tied : {b after : List ℕ} {t : Told} → CallTold b t after → CallTold b t after
+call-tied (CallTold.feeds b after {line} {code} k) = let call : Fed b line code after = k in CallTold.feeds b after call
+call-tied (CallTold.feeds_floats b after {day} {hour} {readings} {code} k) =
+    let call : FloatsFed b day hour readings code after = (k, (float-promise, float-bytes-promise)) in
+    CallTold.feeds_floats b after call.0
+call-tied (CallTold.tries b {line} {buffer} {trial} {answer} k) = let call : Tries b line buffer answer trial = k in CallTold.tries b call
+call-tied (CallTold.takes b after {trial} {code} k made) =
+    let call : Takes b trial code after = (k, trial-bytes-promise) in
+    CallTold.takes b after call.0 made
+call-tied (CallTold.feeds_all i b after {line} {code} k) =
+    let call : FedAll b line code after = (k, listed-promise) in
+    CallTold.feeds_all i b after call.0
+call-tied (CallTold.reads b {answer} k) = let call : ReadTold b answer = k in CallTold.reads b call
+call-tied (CallTold.prints b {buffer} {text} {answer} k) = let call : LineTold b buffer answer text = k in CallTold.prints b call
+
+calls-tied : {b left : List ℕ} {ts : List Told} → Calls b ts left → Calls b ts left
+calls-tied Calls.stop = Calls.stop
+calls-tied (Calls.call k calls) = Calls.call (call-tied k) (calls-tied calls)
+
+begun-tied : PartPromise → (room begun : List ℕ) → Stores fresh_account room 0 begun → Stores fresh_account room 0 begun
+begun-tied p room begun k = let call : Begun room begun = (k, p) in call.0
+
+takes-tied : (b trial after : List ℕ) → TakesBytes b trial 0 after → TakesBytes b trial 0 after
+takes-tied b trial after k = let call : Takes b trial 0 after = (k, trial-bytes-promise) in call.0
+
+pub calls-cited : PartPromise → PartPromise
+calls-cited p = record {
+  season = λ room begun left ts k calls. p.season room begun left ts (begun-tied p room begun k) (calls-tied calls);
+  forged = λ room begun b trial after ts k calls t.
+      p.forged room begun b trial after ts (begun-tied p room begun k) (calls-tied calls) (takes-tied b trial after t);
+  filling = p.filling;
+}
+
+pub part-cited : SeasonPromise → FillingPromise → PartPromise
+part-cited season filling = calls-cited (part-promise season filling)

@@ -25,4 +25,6 @@ pub trials-cited : TrialBytesPromise
 trials-cited = record {
   taken = λ tried line before trial made k z account same answer after t. made-taken tried line before trial made k z account same answer after (t, trial-bytes-promise);
   other = trial-bytes-promise.other;
+  none = trial-bytes-promise.none;
+  carries = trial-bytes-promise.carries;
 }

@@ -1,59 +1,104 @@
--- Demand 3 over runs of the exports, and the promise of trials, tied by the contracts of the exports as they stand at the functions, and by nothing else.
+-- Demand 3 over calls of the exports, and the promise of trials, tied by the contracts of the exports as they stand there, and by nothing else.
 use Prim.Native.Nat.{ℕ}
 use mathlib.Core.Path.{◌≡◌}
-use mathlib.Core.List.{List, [], ◌∷◌}
+use mathlib.Core.List.{List, []}
+use Rattle.account_spec.specs.Account.{fresh_account}
+use Rattle.floats_spec.specs.declared.FloatReadings.{FloatReadings}
+use Rattle.floats_spec.proofs.PromiseLaws.{float-promise}
+use Rattle.stored_list.proofs.RunLaws.{listed-promise}
 use Rattle.stored.specs.Layout.{take_up_of}
+use Rattle.answers.specs.declared.Printed.{Printed}
 use Rattle.answers.specs.declared.Readout.{Readout}
 use Rattle.answers.specs.declared.Tried.{Tried}
-use Rattle.part_spec.specs.Promise.{Told, line_told, reading_told, BytesRun, stop, feeds, reads, PartPromise}
-use Rattle.part_spec.specs.Trials.{TakenAsFed, TrialBytesPromise}
+use Rattle.part_spec.specs.Calls.{Stores}
+use Rattle.part_spec.specs.Trials.{TakesBytes, TakenAsFed, TrialBytesPromise}
+use Rattle.part_spec.specs.Told.{Told, CallTold, Calls}
+use Rattle.part_spec.specs.Promise.{PartPromise}
+use Rattle.part_spec.proofs.FloatLaws.{float-bytes-promise}
+use Rattle.part_spec.proofs.TakenLaws.{trial-bytes-promise}
 use Rattle.part.proofs.Cited.{lent, lent-mut}
+use Rattle.part_c.proofs.pod1_fresh.Reads as fresh-reads
 use Rattle.part_c.proofs.pod1_feed.Reads as feed-reads
 use Rattle.part_c.proofs.pod1_read.Reads as read-reads
+use Rattle.part_c.proofs.pod1_line.Reads as line-reads
+use Rattle.part_c.proofs.logger.pod1_feed_floats.Reads as floats-reads
 use Rattle.part_c.proofs.trials.pod1_trial.Reads as trial-reads
 use Rattle.part_c.proofs.trials.pod1_take.Reads as take-reads
+use Rattle.part_c.proofs.stand.pod1_feed_all.Reads as all-reads
 
--- what a call of each export promises
+-- what a call of each promises
 
-abbrev Fed : (b l : List ℕ) → ℕ → List ℕ → Type 0
-Fed b l code after = feed-reads.Post ([], ([], tt)) (lent-mut b, (lent l, tt)) code (lent-mut after, (lent l, tt))
+abbrev Begun : (room begun : List ℕ) → Type 0
+Begun room begun = fresh-reads.Post ([], tt) (lent-mut room, tt) 0 (lent-mut begun, tt)
+
+abbrev Fed : (b line : List ℕ) → ℕ → List ℕ → Type 0
+Fed b line code after = feed-reads.Post ([], ([], tt)) (lent-mut b, (lent line, tt)) code (lent-mut after, (lent line, tt))
+
+abbrev FloatsFed : List ℕ → ℕ → ℕ → FloatReadings → ℕ → List ℕ → Type 0
+FloatsFed b day hour readings code after =
+    floats-reads.Post ([], tt) (lent-mut b, (day, (hour, (readings, tt)))) code (lent-mut after, (day, (hour, (readings, tt))))
+
+abbrev Tries : (b line buffer : List ℕ) → Tried → List ℕ → Type 0
+Tries b line buffer answer trial =
+    trial-reads.Post ([], ([], ([], tt))) (lent b, (lent line, (lent-mut buffer, tt))) answer (lent b, (lent line, (lent-mut trial, tt)))
+
+abbrev Takes : (b trial : List ℕ) → ℕ → List ℕ → Type 0
+Takes b trial code after = take-reads.Post ([], ([], tt)) (lent-mut b, (lent trial, tt)) code (lent-mut after, (lent trial, tt))
+
+abbrev FedAll : (b line : List ℕ) → ℕ → List ℕ → Type 0
+FedAll b line code after = all-reads.Post ([], ([], tt)) (lent-mut b, (lent line, tt)) code (lent-mut after, (lent line, tt))
 
 abbrev ReadTold : List ℕ → Readout → Type 0
-ReadTold b r = read-reads.Post ([], tt) (lent b, tt) r (lent b, tt)
+ReadTold b answer = read-reads.Post ([], tt) (lent b, tt) answer (lent b, tt)
 
-abbrev Made : (account line before : List ℕ) → Tried → List ℕ → Type 0
-Made account line before made after = trial-reads.Post ([], ([], ([], tt))) (lent account, (lent line, (lent-mut before, tt))) made (lent account, (lent line, (lent-mut after, tt)))
+abbrev LineTold : (b buffer : List ℕ) → Printed → List ℕ → Type 0
+LineTold b buffer answer text = line-reads.Post ([], ([], tt)) (lent b, (lent-mut buffer, tt)) answer (lent b, (lent-mut text, tt))
 
-abbrev Taken : (account trial : List ℕ) → ℕ → List ℕ → Type 0
-Taken account trial answer after = take-reads.Post ([], ([], tt)) (lent-mut account, (lent trial, tt)) answer (lent-mut after, (lent trial, tt))
+-- ---- a call as `CallTold` has it is one of which the contract holds, and the contract says all that `CallTold` asks
 
--- each call gets the bytes that the one before left
-data Calls : List ℕ → List Told → Type 0 where
-  done : {b : List ℕ} → Calls b []
-  by-feed : {b l after : List ℕ} {code : ℕ} {ts : List Told} → Fed b l code after → Calls after ts → Calls b (line_told l code ∷ ts)
-  by_read : {b : List ℕ} {r : Readout} {ts : List Told} → ReadTold b r → Calls b ts → Calls b (reading_told r ∷ ts)
+call-tied : {b after : List ℕ} {t : Told} → CallTold b t after → CallTold b t after
+call-tied (CallTold.feeds b after {line} {code} k) = let call : Fed b line code after = k in CallTold.feeds b after call
+call-tied (CallTold.feeds_floats b after {day} {hour} {readings} {code} k) =
+    let call : FloatsFed b day hour readings code after = (k, (float-promise, float-bytes-promise)) in
+    CallTold.feeds_floats b after call.0
+call-tied (CallTold.tries b {line} {buffer} {trial} {answer} k) = let call : Tries b line buffer answer trial = k in CallTold.tries b call
+call-tied (CallTold.takes b after {trial} {code} k made) =
+    let call : Takes b trial code after = (k, trial-bytes-promise) in
+    CallTold.takes b after call.0 made
+call-tied (CallTold.feeds_all i b after {line} {code} k) =
+    let call : FedAll b line code after = (k, listed-promise) in
+    CallTold.feeds_all i b after call.0
+call-tied (CallTold.reads b {answer} k) = let call : ReadTold b answer = k in CallTold.reads b call
+call-tied (CallTold.prints b {buffer} {text} {answer} k) = let call : LineTold b buffer answer text = k in CallTold.prints b call
 
--- each contract says what `BytesRun` asks, no more and no less
+calls-tied : {b left : List ℕ} {ts : List Told} → Calls b ts left → Calls b ts left
+calls-tied Calls.stop = Calls.stop
+calls-tied (Calls.call k calls) = Calls.call (call-tied k) (calls-tied calls)
 
-calls-run : {b : List ℕ} {ts : List Told} → Calls b ts → BytesRun b ts
-calls-run done = stop
-calls-run (by-feed c calls) = feeds c (calls-run calls)
-calls-run (by_read c calls) = reads c (calls-run calls)
+begun-tied : PartPromise → (room begun : List ℕ) → Stores fresh_account room 0 begun → Stores fresh_account room 0 begun
+begun-tied p room begun k = let call : Begun room begun = (k, p) in call.0
 
-run-calls : {b : List ℕ} {ts : List Told} → BytesRun b ts → Calls b ts
-run-calls stop = done
-run-calls (feeds k run) = by-feed k (run-calls run)
-run-calls (reads k run) = by_read k (run-calls run)
+takes-tied : (b trial after : List ℕ) → TakesBytes b trial 0 after → TakesBytes b trial 0 after
+takes-tied b trial after k = let call : Takes b trial 0 after = (k, trial-bytes-promise) in call.0
 
 pub calls-cited : PartPromise → PartPromise
-calls-cited p = record { season = λ b ts held run. p.season b ts held (calls-run (run-calls run)) }
+calls-cited p = record {
+  season = λ room begun left ts k calls. p.season room begun left ts (begun-tied p room begun k) (calls-tied calls);
+  forged = λ room begun b trial after ts k calls t.
+      p.forged room begun b trial after ts (begun-tied p room begun k) (calls-tied calls) (takes-tied b trial after t);
+  filling = p.filling;
+}
 
-made-taken : TrialBytesPromise → (tried line before trial : List ℕ) (made : Tried) → Made tried line before made trial → made.code ≡ 0
-    → (account : List ℕ) → take_up_of account ≡ take_up_of tried → (answer : ℕ) (after : List ℕ) → Taken account trial answer after → TakenAsFed account line made answer after
+-- ---- trials
+
+made-taken : TrialBytesPromise → (tried line before trial : List ℕ) (made : Tried) → Tries tried line before made trial → made.code ≡ 0
+    → (account : List ℕ) → take_up_of account ≡ take_up_of tried → (answer : ℕ) (after : List ℕ) → Takes account trial answer after → TakenAsFed account line made answer after
 made-taken p tried line before trial made k z account same answer after t = p.taken tried line before trial made k z account same answer after t.0
 
 pub trials-cited : TrialBytesPromise → TrialBytesPromise
 trials-cited p = record {
   taken = λ tried line before trial made k z account same answer after t. made-taken p tried line before trial made k z account same answer after (t, p);
   other = p.other;
+  none = p.none;
+  carries = p.carries;
 }

@@ -1,5 +1,9 @@
 pub mod CallLaws
 pub mod FloatLaws
+pub mod HeldLaws
+pub mod PlaceLaws
+pub mod SaidLaws
+pub mod SeasonLaws
 pub mod PromiseLaws
-pub mod TrialLaws
 pub mod TakenLaws
+pub mod TrialLaws

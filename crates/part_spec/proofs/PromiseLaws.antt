@@ -1,54 +1,69 @@
--- A list of calls on bytes tells what a season of an account tells.
+-- A list of calls on the bytes of one account tells a season of it.
 use Prim.Native.Nat.{ℕ}
-use mathlib.Core.Path.{◌≡◌, refl}
-use mathlib.Core.List.{List, [], ◌∷◌}
-use native.Mathlib.Omega.{arith}
-use Rattle.records.specs.Answers.{Outcome, accepted}
+use mathlib.Core.Path.{◌≡◌, refl, ap, ◌∙◌}
+use mathlib.Core.List.{List, [], ◌++◌}
+use Rattle.records.specs.Answers.{accepted}
 use Rattle.account_spec.specs.declared.Account.{Account}
 use Rattle.account_spec.specs.Account.{fresh_account}
-use Rattle.account_spec.specs.Rules.{feed_of, left_by, left_of}
-use Rattle.account_spec.specs.Reading.{read_of}
-use Rattle.account_spec.specs.Runs.{Event, fed, taken, Run, Call, line, reading, calls_of}
+use Rattle.account_spec.specs.Runs.{Event}
 use Rattle.account_spec.specs.Promise.{SeasonPromise}
+use Rattle.filling_spec.specs.Promise.{FillingPromise}
 use Rattle.stored.specs.Layout.{take_up_of}
-use Rattle.part_spec.specs.Calls.{fed_in, FeedsBytes, read_in}
-use Rattle.part_spec.specs.Promise.{Told, line_told, reading_told, BytesRun, told_of, PartPromise}
+use Rattle.answers.specs.Code.{code_of}
+use Rattle.part_spec.specs.Calls.{Stores}
+use Rattle.part_spec.specs.Trials.{taken_from, taken_in, TakesBytes}
+use Rattle.part_spec.specs.Told.{Told, front, Calls}
+use Rattle.part_spec.specs.Promise.{account_now, Tellings, SeasonTold, ForgedTaken, PartPromise}
+use Rattle.part_spec.proofs.HeldLaws.{lent-held, front-held}
+use Rattle.part_spec.proofs.TakenLaws.{accepted-take}
+use Rattle.part_spec.proofs.SeasonLaws.{Begun, nothing-yet, run-kept, call-step}
 
-abbrev asked_in : List Told → List Call
-asked_in [] = []
-asked_in (line_told l code ∷ ts) = line l ∷ asked_in ts
-asked_in (reading_told r ∷ ts) = reading ∷ asked_in ts
+taken_is : (a : Account) (b : List ℕ) → take_up_of b ≡ accepted a → (trial : List ℕ) → taken_in b trial ≡ taken_from trial a
+unfolding taken_in
+taken_is a b held trial = rw held refl
 
-module _ (a : Account) (b : List ℕ) (held : take_up_of b ≡ accepted a) where
-  pub fed-is : (l : List ℕ) → fed_in b l ≡ feed_of a l
-  unfolding fed_in
-  fed-is l = rw held
+-- ---- call by call
 
-  pub read_is : read_in b ≡ read_of a
-  unfolding read_in
-  read_is = rw held
+record Told-on (done : List Event) (ts : List Told) (left : List ℕ) : Type 0 where
+  events : List Event
+  told : Tellings done ts events
+  begun : Begun events
+  holds : take_up_of left ≡ accepted (account_now events)
 
-  -- the bytes that a line leaves hold the account that it leaves
-  pub left-held : (l after : List ℕ) (code : ℕ) → FeedsBytes b l code after → (o : Outcome Account) → fed_in b l ≡ o → take_up_of after ≡ accepted (left_of a o)
-  left-held l after code k o e = grind (arith, k, held)
+calls-told : SeasonPromise → (done : List Event) → Begun done → (b left : List ℕ) (ts : List Told) → take_up_of b ≡ accepted (account_now done) → Calls b ts left → Told-on done ts left
+calls-told p done n b left ts held Calls.stop = record { events = done; told = Tellings.stop; begun = n; holds = held }
+calls-told p done n b left ts held (Calls.call {after = after} {t = t} {ts = rest} k calls) =
+    let one = call-step p done n b after t held k in
+    let all = calls-told p (done ++ one.more) one.next after left rest one.held calls in
+    record { events = all.events; told = Tellings.call one.telling all.told; begun = all.begun; holds = all.holds }
 
-told_same : (a : Account) (b : List ℕ) (es : List Event) (ts : List Told) → take_up_of b ≡ accepted a → Run a es → BytesRun b ts → calls_of es ≡ asked_in ts → told_of es ≡ ts
-told_same a b [] [] held Run.stop BytesRun.stop e = refl
-told_same a b [] (t ∷ ts) held Run.stop run e = grind arith
-told_same a b (x ∷ es) [] held more run e = grind arith
-told_same a b (fed m r ∷ es) (line_told l code ∷ ts) held (Run.feeds j more) (BytesRun.feeds {after = after} k run) e =
-    let next : take_up_of after ≡ accepted (left_by r) = grind (arith, j, k, held, fed-is, left-held) in
-    let rest : told_of es ≡ ts = told_same (left_by r) after es ts next more run cc in
-    grind (arith, j, k, held, fed-is, rest)
-told_same a b (fed m r ∷ es) (reading_told f ∷ ts) held more run e = grind arith
-told_same a b (taken r ∷ es) (line_told l code ∷ ts) held more run e = grind arith
-told_same a b (taken r ∷ es) (reading_told f ∷ ts) held (Run.reads j more) (BytesRun.reads k run) e =
-    let rest : told_of es ≡ ts = told_same a b es ts held more run cc in
-    grind (arith, j, k, held, read_is, rest)
+module _ (p : SeasonPromise) (filling : FillingPromise) (room begun : List ℕ) (stores : Stores fresh_account room 0 begun) where
+  season-told : (left : List ℕ) (ts : List Told) → Calls (front begun) ts left → SeasonTold ts left
+  season-told left ts calls =
+      let all = calls-told p [] nothing-yet (front begun) left ts (front-held begun fresh_account (stores.holds refl)) calls in
+      record { events = all.events; told = all.told; kept = run-kept p all.events all.begun; alone = filling.alone all.events all.begun.run; holds = all.holds }
 
-pub part-promise : SeasonPromise → PartPromise
-part-promise p = record {
-  season = λ b ts held run.
-      let all = p.exists (asked_in ts) in
-      record { events = all.events; run = all.run; kept = p.kept all.events all.run; same = told_same fresh_account b all.events ts held all.run run all.same };
+  -- ---- a trial that no line made
+
+  forged-taken : (lent trial after : List ℕ) (events : List Event) → take_up_of (front lent) ≡ accepted (account_now events) → TakesBytes lent trial 0 after → ForgedTaken events trial after
+  forged-taken lent trial after events first k =
+      let now = account_now events in
+      let is = taken_is now lent (lent-held lent now first) trial in
+      let a = accepted-take now trial (k.answers ∙ ap code_of is) in
+      record {
+        contents = a.contents;
+        holds = a.holds;
+        tried = a.tried;
+        accepts = a.accepts;
+        possible = a.possible;
+        left = k.holds a.contents.next (is ∙ a.taken);
+      }
+
+pub part-promise : SeasonPromise → FillingPromise → PartPromise
+part-promise p filling = record {
+  season = λ room begun left ts stores calls. season-told p filling room begun stores left ts calls;
+  forged = λ room begun lent trial after ts stores calls k.
+      let s = season-told p filling room begun stores (front lent) ts calls in
+      (s, forged-taken p filling room begun stores lent trial after s.events s.holds k);
+  filling = filling;
 }

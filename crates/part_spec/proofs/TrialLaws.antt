@@ -26,7 +26,7 @@ use Rattle.stored_trial.proofs.ContentsLaws.{contents-same}
 use Rattle.stored_trial.proofs.RoundTripLaws.{trial-length, fed-answer}
 use Rattle.part_spec.specs.Calls.{fed_in}
 use Rattle.part_spec.specs.Trials.{contents_by, tried_in, tried_of, trial_after, TriesBytes, taken_from}
-use Rattle.part_spec.proofs.PromiseLaws.{fed-is}
+use Rattle.part_spec.proofs.HeldLaws.{fed-is}
 
 refused-same : {v w : ℕ × ℕ} → ◌≡◌ {A = Outcome ℕ} (refused v) (refused w) → v ≡ w
 refused-same e = cc

@@ -1,40 +1,125 @@
--- Demand 3 for the part: one claim about every list of calls on bytes that hold a fresh account.
-use Rattle.std.specs.Prelude.{ℕ, ◌≡◌, List, [], ◌∷◌}
-use Rattle.records.specs.Answers.{accepted, outcome_of}
-use Rattle.account_spec.specs.Account.{fresh_account}
-use Rattle.account_spec.specs.Rules.{fed_as}
-use Rattle.account_spec.specs.Book.{empty_book}
-use Rattle.account_spec.specs.Runs.{Event, fed, taken, Run}
-use Rattle.account_spec.specs.Promise.{Kept}
+-- Demand 3 for the part: one claim about every list of calls of the exports on the bytes of one account, from `pod1_fresh` on.
+use Rattle.std.specs.Prelude.{ℕ, ◌<◌, ◌≡◌, false, List, [], ◌∷◌, ◌++◌, length, drop, Ok}
+use Rattle.records.specs.declared.Hour.{Hour}
+use Rattle.records.specs.declared.Record.{Record}
+use Rattle.records.specs.Answers.{accepted, refused}
+use Rattle.records.specs.Ranges.{checked}
+use Rattle.frames.specs.Layout.{air_kind, frame_line}
+use Rattle.account_spec.specs.declared.Account.{Account}
+use Rattle.account_spec.specs.declared.Totals.{Totals}
+use Rattle.account_spec.specs.Account.{fresh_account, impossible}
+use Rattle.account_spec.specs.Rules.{fed_as, Fed}
+use Rattle.account_spec.specs.Runs.{Event, fed, taken, account_after, TakesAll}
+use Rattle.filling_spec.specs.Promise.{accepted_lines, FillingPromise}
+use Rattle.list_spec.specs.Promise.{RunKept}
+use Rattle.report_spec.specs.Line.{totals_line}
+use Rattle.floats_spec.specs.declared.FloatReadings.{FloatReadings}
+use Rattle.floats_spec.specs.Numbers.{wholes_in}
+use Rattle.floats_spec.specs.Feeding.{feed_floats_of}
+use Rattle.floats_spec.specs.Promise.{AreWhole}
 use Rattle.stored.specs.Layout.{take_up_of}
+use Rattle.stored_trial.specs.Layout.{Contents, trial_width, trial_bytes, contents_in}
+use Rattle.stored_list.specs.Feeding.{fed_listed_of}
+use Rattle.answers.specs.declared.Printed.{Printed}
 use Rattle.answers.specs.declared.Readout.{Readout}
-use Rattle.answers.specs.Code.{code_of}
-use Rattle.answers.specs.Reading.{readout_of}
-use Rattle.part_spec.specs.Calls.{FeedsBytes, read_in}
+use Rattle.answers.specs.declared.Tried.{Tried}
+use Rattle.answers.specs.Code.{code_of, code_of_row}
+use Rattle.answers.specs.Reading.{readout_of, no_trial}
+use Rattle.part_spec.specs.Calls.{Stores, PrintsBytes}
+use Rattle.part_spec.specs.Trials.{contents_by, taken_from, TakesBytes}
+use Rattle.part_spec.specs.Told.{Told, line_told, floats_told, trial_told, take_told, list_told, reading_told, print_told, front, Calls}
 
--- what a maker sees: a line fed, with its code; what a reading gave
-pub data Told : Type 0 where
-  line_told : List ℕ → ℕ → Told
-  reading_told : Readout → Told
+-- ---- the account that the events so far left
 
--- each call gets the bytes that the one before left, and nothing else writes them; each answer is tied by what `pod1_feed` or `pod1_read` promises
-pub data BytesRun : List ℕ → List Told → Type 0 where
-  stop : {b : List ℕ} → BytesRun b []
-  feeds : {b l after : List ℕ} {code : ℕ} {ts : List Told} → FeedsBytes b l code after → BytesRun after ts → BytesRun b (line_told l code ∷ ts)
-  reads : {b : List ℕ} {r : Readout} {ts : List Told} → r ≡ readout_of (read_in b) → BytesRun b ts → BytesRun b (reading_told r ∷ ts)
+abbrev pub account_now : List Event → Account
+account_now done = account_after fresh_account done
 
--- what the events of an account tell
-abbrev pub told_of : List Event → List Told
-told_of [] = []
-told_of (fed l r ∷ es) = line_told l (code_of (fed_as r)) ∷ told_of es
-told_of (taken r ∷ es) = reading_told (readout_of (outcome_of r)) ∷ told_of es
+-- ---- what a call tells is what the season's next events say; `RunKept` is demand 3 of some events
 
-pub record SeasonTold (ts : List Told) : Type 0 where
+-- an hour of kind 02, in range or without ozone, whose numbers the floats are
+pub record SaysHour (day hour : ℕ) (readings : FloatReadings) (h : Hour) : Type 0 where
+  pub at_day : h.day ≡ day
+  pub at_hour : h.hour ≡ hour
+  pub numbers : AreWhole readings (wholes_in h)
+  pub kind : air_kind h.air ≡ 2
+  pub in_range : checked (Record.Hour h) ≡ accepted tt
+
+-- trying a line tells its answer and the reading after it, as if the season had gone on so; the trial is made of this account and line
+pub record TrialTold (done : List Event) (line buffer : List ℕ) (answer : Tried) (trial : List ℕ) : Type 0 where
+  pub fed_so : Fed
+  pub totals : Totals
+  pub kept : RunKept (done ++ fed line fed_so ∷ taken (Ok totals) ∷ [])
+  pub tells : answer ≡ record { code = 0; answer = code_of (fed_as fed_so); reading = readout_of (accepted totals) }
+  pub leaves : trial ≡ trial_bytes (contents_by (account_now done) line) ++ drop trial_width buffer
+  pub holds : contents_in trial ≡ accepted (contents_by (account_now done) line)
+
+-- a refused take of a trial that a line made of this account: that line's refusal
+pub record LineRefused (done : List Event) (line : List ℕ) (row : ℕ × ℕ) : Type 0 where
+  pub fed_so : Fed
+  pub kept : RunKept (done ++ fed line fed_so ∷ [])
+  pub answers : fed_as fed_so ≡ refused row
+
+-- the events so far, what the call told, the events that it adds
+pub data Telling (done : List Event) : Told → List Event → Type 0 where
+  line : {l : List ℕ} {code : ℕ} {r : Fed} → code ≡ code_of (fed_as r)
+      → Telling done (line_told l code) (fed l r ∷ [])
+  -- an hour of floats that is taken is its line of kind 02, taken; a refused one leaves the season, and the row is that of its numbers
+  floats : {day hour : ℕ} {readings : FloatReadings} {code : ℕ} {h : Hour} {a : Account} → SaysHour day hour readings h → code ≡ 0
+      → Telling done (floats_told day hour readings code) (fed (frame_line (Record.Hour h)) (Ok a) ∷ [])
+  floats_refused : {day hour : ℕ} {readings : FloatReadings} {code : ℕ} {row : ℕ × ℕ}
+      → feed_floats_of (account_now done) day hour readings ≡ refused row → code ≡ code_of_row row
+      → Telling done (floats_told day hour readings code) []
+  -- a trial leaves the season; row 12 where its buffer is too short
+  trial : {l buffer bytes : List ℕ} {answer : Tried} → TrialTold done l buffer answer bytes
+      → Telling done (trial_told l buffer answer bytes) []
+  trial_short : {l buffer bytes : List ℕ} {answer : Tried} → length buffer < trial_width → answer ≡ no_trial 12 → bytes ≡ buffer
+      → Telling done (trial_told l buffer answer bytes) []
+  -- a trial that is taken is its line, made of this account and taken; a refused one, whatever its bytes, leaves the season
+  take : {l bytes : List ℕ} {code : ℕ} {a : Account} → contents_in bytes ≡ accepted (contents_by (account_now done) l) → code ≡ 0
+      → Telling done (take_told bytes code) (fed l (Ok a) ∷ [])
+  take_refused : {bytes : List ℕ} {code : ℕ} {row : ℕ × ℕ} → taken_from bytes (account_now done) ≡ refused row → code ≡ code_of_row row
+      → ((l : List ℕ) → contents_in bytes ≡ accepted (contents_by (account_now done) l) → LineRefused done l row)
+      → Telling done (take_told bytes code) []
+  -- a line that several take is one that this account takes; refused by any it leaves the season
+  list : {lent l : List ℕ} {code : ℕ} {a : Account} → code ≡ 0 → Telling done (list_told lent l code) (fed l (Ok a) ∷ [])
+  list_refused : {lent l : List ℕ} {code : ℕ} {row : ℕ × ℕ} → fed_listed_of lent l ≡ refused row → code ≡ code_of_row row
+      → Telling done (list_told lent l code) []
+  reading : {answer : Readout} {t : Totals} → answer ≡ readout_of (accepted t)
+      → Telling done (reading_told answer) (taken (Ok t) ∷ [])
+  -- an account's line is the text of a reading
+  print : {buffer text : List ℕ} {answer : Printed} {t : Totals} → PrintsBytes (accepted (totals_line t)) buffer answer text
+      → Telling done (print_told buffer answer text) (taken (Ok t) ∷ [])
+
+-- call by call, from the events so far to all
+pub data Tellings : List Event → List Told → List Event → Type 0 where
+  stop : {done : List Event} → Tellings done [] done
+  call : {done more all : List Event} {t : Told} {ts : List Told} → Telling done t more → Tellings (done ++ more) ts all
+      → Tellings done (t ∷ ts) all
+
+-- ---- the whole list
+
+-- the calls tell a season: demand 3 of its events, whose accepted lines fed alone leave the same account, and the bytes left hold it
+pub record SeasonTold (ts : List Told) (left : List ℕ) : Type 0 where
   pub events : List Event
-  pub run : Run fresh_account events
-  pub kept : Kept fresh_account empty_book events
-  pub same : told_of events ≡ ts
+  pub told : Tellings [] ts events
+  pub kept : RunKept events
+  pub alone : TakesAll fresh_account (accepted_lines events) (account_now events)
+  pub holds : take_up_of left ≡ accepted (account_now events)
 
--- the answers of the part are those of a season of an account, of which `Kept` speaks
+-- an accepted trial, whatever made it: it held this account as the tried one, and the bytes now hold the account that it carried, which row 13 lets pass
+pub record ForgedTaken (events : List Event) (trial after : List ℕ) : Type 0 where
+  pub contents : Contents
+  pub holds : contents_in trial ≡ accepted contents
+  pub tried : contents.tried ≡ account_now events
+  pub accepts : contents.code ≡ 0
+  pub possible : impossible contents.next ≡ false
+  pub left : take_up_of after ≡ accepted contents.next
+
 pub record PartPromise : Type 0 where
-  pub season : (b : List ℕ) (ts : List Told) → take_up_of b ≡ accepted fresh_account → BytesRun b ts → SeasonTold ts
+  -- calls on the account's bytes, of which `pod1_fresh` left the first
+  pub season : (room begun left : List ℕ) (ts : List Told) → Stores fresh_account room 0 begun → Calls (front begun) ts left → SeasonTold ts left
+  -- a trial that no line made may be taken too: of what follows the book can say nothing, of the calls before it all that it says
+  pub forged : (room begun lent trial after : List ℕ) (ts : List Told) → Stores fresh_account room 0 begun → Calls (front begun) ts (front lent)
+      → TakesBytes lent trial 0 after → (s : SeasonTold ts (front lent)) × ForgedTaken s.events trial after
+  -- what filling brings, of the lines that a season's events took
+  pub filling : FillingPromise

@@ -1,5 +1,5 @@
 -- What trying a line on an account in bytes answers and leaves, and what taking the trial does (W-206).
-use Rattle.std.specs.Prelude.{ℕ, ◌≡◌, List, ◌++◌, ltb, length, drop}
+use Rattle.std.specs.Prelude.{ℕ, ◌≡◌, false, List, ◌++◌, ltb, length, drop}
 use Rattle.records.specs.Answers.{Outcome, accepted, refused, row, onward}
 use Rattle.account_spec.specs.declared.Account.{Account}
 use Rattle.account_spec.specs.Account.{impossible}
@@ -10,7 +10,7 @@ use Rattle.answers.specs.declared.Tried.{Tried}
 use Rattle.answers.specs.Code.{code_of, code_of_row}
 use Rattle.answers.specs.Reading.{readout_of, no_trial}
 use Rattle.trial_spec.specs.Trial.{next_of}
-use Rattle.trial_spec.specs.Taking.{take_with}
+use Rattle.trial_spec.specs.Taking.{answer_in, take_with}
 use Rattle.stored_trial.specs.Layout.{Contents, carried_by, trial_width, trial_bytes, contents_in}
 use Rattle.part_spec.specs.Calls.{LeavesBytes, fed_in, FeedsBytes, read_in}
 
@@ -70,3 +70,8 @@ pub record TrialBytesPromise : Type 0 where
   -- with any other account it is row 13, else row 16
   pub other : (account trial : List ℕ) (a : Account) (c : Contents) → take_up_of account ≡ accepted a → contents_in trial ≡ accepted c → (a ≡ c.tried → ⊥)
       → taken_in account trial ≡ row 13 (impossible a) (refused (16, 0))
+  -- bytes that hold no trial are row 13
+  pub none : (account trial : List ℕ) (w : ℕ × ℕ) → contents_in trial ≡ refused w → taken_in account trial ≡ refused (13, 0)
+  -- bytes made otherwise that hold this account as the tried one: the answer that they carry, or row 13 for an account in it that no season gives
+  pub carries : (account trial : List ℕ) (c : Contents) → take_up_of account ≡ accepted c.tried → contents_in trial ≡ accepted c
+      → impossible c.tried ≡ false → taken_in account trial ≡ answer_in (carried_by c)

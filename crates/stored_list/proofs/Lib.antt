@@ -2,4 +2,4 @@ mod PartLaws
 mod TakingLaws
 mod StoringLaws
 mod FeedingLaws
-mod RunLaws
+pub mod RunLaws

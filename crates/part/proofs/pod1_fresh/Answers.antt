@@ -4,7 +4,7 @@ use Rattle.part.proofs.Cited.{part-cited}
 use Rattle.part.proofs.pod1_fresh.Goals as goal
 
 pub returns-clause-season : goal.returns-clause-season
-returns-clause-season c = part-cited c.fresh.ensures.season
+returns-clause-season c = part-cited c.fresh.ensures.season c.fresh.ensures.filling
 
 pub returns-clause-stores : goal.returns-clause-stores
 returns-clause-stores c = stores _ _ _ _ (rw c.fresh.ensures.value at c.store.ensures.prints) (rw c.fresh.ensures.value at c.store.ensures.back) _ c.of_answer.ensures
