@@ -75,6 +75,13 @@ class RealCalls(Case):
         header = SEASON[:20].decode()
         for text in (SEASON[:-7], SEASON.replace(b"01F4", b"1389", 1), SEASON + b"030018\n", SEASON[:21]):
             self.assertEqual(answer("pod1_stand", self.write("text", text), header).decode(), report(text))
+        # what is passed over is a frame, once and in its turn
+        for text, said in (
+            (2 * SEASON[:21] + SEASON, b"refused 4 line 2\n"),
+            (b"01 this is no header\n07zz\n" + SEASON[21:], b"refused 2 line 1\n"),
+        ):
+            self.assertEqual(answer("pod1_stand", self.write("text", text), header), said)
+            self.assertEqual(report(text).encode(), said)
         self.assertEqual(answer("pod1_stand", self.write("text", b""), header), b"refused 11 line 1\n")
         self.assertEqual(answer("pod1_stand", self.write("text", SEASON), header, "0104"), b"refused 1 header 2\n")
         self.assertEqual(answer("pod1_stand", self.write("text", SEASON)), b"refused 22\n")

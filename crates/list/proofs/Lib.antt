@@ -3,3 +3,4 @@ pub mod ListLaws
 pub mod LineLaws
 pub mod TallyLaws
 pub mod FirstLaws
+pub mod TextLaws

@@ -1,20 +1,25 @@
 -- Serves the code's own steps; no reader need believe it.
 -- A list is seen account by account; what is known so far is a tally.
-use Rattle.std.specs.Prelude.{ℕ, ◌≡◌, Bool, true, false, not, cond, ◌||◌, List, [], ◌∷◌, Option, Some, None, is_none}
+use Rattle.std.specs.Prelude.{ℕ, ◌≡◌, Bool, true, false, not, cond, ◌||◌, List, [], ◌∷◌, drop}
+use Rattle.std.specs.Prelude.{Option, Some, None, is_none, Result, Ok, Err}
 use Rattle.trees.specs.declared.Measure.{Measure}
 use Rattle.records.specs.declared.Raw.{Raw}
 use Rattle.records.specs.declared.Record.{Record}
-use Rattle.records.specs.Answers.{Outcome, accepted, refused, row, onward, reply, outcome_of}
+use Rattle.records.specs.Answers.{Outcome, accepted, refused, row, onward, reply, outcome_of, row_of}
 use Rattle.records.specs.Numbers.{same_numbers}
 use Rattle.account_spec.specs.declared.Account.{Account}
 use Rattle.account_spec.specs.HourKinds.{kind_number}
 use Rattle.account_spec.specs.Account.{phase_number, impossible}
 use Rattle.account_spec.specs.Rules.{out_of_turn, turn_of, state_of, unread_row, feed_frame_of}
 use Rattle.account.specs.Entering.{NextBy}
+use Rattle.walk_spec.specs.declared.Stop.{Stop}
+use Rattle.walk_spec.specs.Lines.{lines_of}
 use Rattle.list_spec.specs.Alike.{common_numbers}
 use Rattle.list_spec.specs.Feeding.{size_out}
+use Rattle.list_spec.specs.Text.{TextFed, stopped_at, lines_fed, feed_text_of}
 use Rattle.list.specs.declared.alike.Common.{Common}
 use Rattle.list.specs.declared.tally.Tally.{Tally}
+use Rattle.list.specs.declared.place.Place.{Place}
 
 -- an account fed a line that is parsed already
 abbrev pub fed_by : Outcome Raw → Account → Outcome Account
@@ -90,7 +95,11 @@ abbrev pub seen_all : Outcome Raw → Tallied → List Account → Tallied
 seen_all parsed t [] = t
 seen_all parsed t (a ∷ xs) = seen_all parsed (seen_of parsed t a) xs
 
--- row 22, then 13 and 23, then the row of the line
+-- the rows of the list alone: 22, then 13 and 23
+abbrev pub fit_of : Tallied → Outcome Unit
+fit_of t = row 22 t.size_is_out (row 13 t.an_impossible (row 23 t.an_unlike (accepted tt)))
+
+-- these, then the row of the line
 abbrev pub settled_of : Tallied → Outcome Unit
 settled_of t = row 22 t.size_is_out (row 13 t.an_impossible (row 23 t.an_unlike (reply t.line)))
 
@@ -99,3 +108,14 @@ abbrev pub Keeps : Outcome Unit → Outcome Record → Account → Account → T
 Keeps (refused w) line a b = b ≡ a
 Keeps (accepted u) (refused w) a b = b ≡ a
 Keeps (accepted u) (accepted r) a b = NextBy a r b
+
+-- ---- a text
+
+-- what is left to feed of a text, past the frames that open its own account
+abbrev pub opened_as : List Account → List ℕ → Result Place Stop → TextFed
+opened_as xs text (Ok p) = lines_fed xs p.line (lines_of (drop p.at text))
+opened_as xs text (Err s) = stopped_at xs (row_of s.refusal) s.line
+
+-- whatever the list
+abbrev pub Opens : List ℕ → Result Place Stop → Type 0
+Opens text r = (xs : List Account) → opened_as xs text r ≡ feed_text_of xs text

@@ -1,7 +1,7 @@
 // What is known of a list of accounts and a line after some of them are seen, and the answer once all are.
 ghost use Rattle.records.specs.Answers.{outcome_of};
-ghost use Rattle.std.specs.Prelude.{◌≡◌};
-ghost use Rattle.list.specs.Steps.{common_as, tallied_as, start_of, first_common, next_line, line_of, seen_of, settled_of};
+ghost use Rattle.std.specs.Prelude.{◌≡◌, length};
+ghost use Rattle.list.specs.Steps.{common_as, tallied_as, start_of, first_common, next_line, line_of, seen_of, seen_all, fit_of, settled_of};
 
 use crate::MOST;
 use crate::alike::{Common, alike, common_of};
@@ -21,7 +21,7 @@ pub(crate) struct Tally {
     pub(crate) line: Result<Record, Refusal>,
 }
 
-pub(crate) fn start(n: usize) -> Tally
+fn start(n: usize) -> Tally
     ensures { tallied_as result ≡ start_of n }
 {
     Tally {
@@ -69,7 +69,7 @@ fn line_after(
     }
 }
 
-pub(crate) fn tried(seen: Tally, account: Account, parsed: Result<Raw, Refusal>) -> Tally
+fn tried(seen: Tally, account: Account, parsed: Result<Raw, Refusal>) -> Tally
     ensures { tallied_as result ≡ seen_of (outcome_of parsed) (tallied_as seen) account }
 {
     let own = common_of(account);
@@ -83,9 +83,21 @@ pub(crate) fn tried(seen: Tally, account: Account, parsed: Result<Raw, Refusal>)
     }
 }
 
-// Row 22, then 13 and 23, then the row of the line.
-pub(crate) fn answer(seen: Tally) -> Result<(), Refusal>
-    ensures { outcome_of result ≡ settled_of (tallied_as seen) }
+// Of a whole list and a line.
+pub(crate) fn of(accounts: &[Account], parsed: Result<Raw, Refusal>) -> Tally
+    ensures { tallied_as result
+        ≡ seen_all (outcome_of parsed) (start_of (length accounts.now)) accounts.now }
+{
+    let mut seen = start(accounts.len());
+    for account in accounts.iter() {
+        seen = tried(seen, *account, parsed);
+    }
+    seen
+}
+
+// The rows of the list alone: 22, then 13 and 23.
+pub(crate) fn fit(seen: Tally) -> Result<(), Refusal>
+    ensures { outcome_of result ≡ fit_of (tallied_as seen) }
 {
     if seen.outside {
         return Err(Refusal::ListSize);
@@ -96,6 +108,14 @@ pub(crate) fn answer(seen: Tally) -> Result<(), Refusal>
     if seen.unlike {
         return Err(Refusal::UnlikeAccounts);
     }
+    Ok(())
+}
+
+// These, then the row of the line.
+pub(crate) fn answer(seen: Tally) -> Result<(), Refusal>
+    ensures { outcome_of result ≡ settled_of (tallied_as seen) }
+{
+    fit(seen)?;
     seen.line?;
     Ok(())
 }

@@ -3,7 +3,6 @@
 #![tactic(auto)]
 
 mod headers;
-mod season;
 mod stopped;
 
 use account::Account;
@@ -37,12 +36,14 @@ fn print_stopped(rt: &impl Print, stopped: Stopped) {
 }
 
 // An account for each header, fed the text.
+// A text longer than what is read of it: no account takes more lines than a book does, so the first that is refused, with
+// the three lines that may be passed over before it, stands within what is read.
 fn feed(rt: &impl Env, text: &[u8], accounts: &mut [Account]) -> Result<(), Stopped> {
     if accounts.is_empty() {
         return Err(Stopped::Call(Refusal::ListSize));
     }
     headers::open_all(rt, accounts)?;
-    season::feed_all(text, accounts)
+    list::feed_text(accounts, text).map_err(Stopped::Line)
 }
 
 fn print_stand(rt: &(impl Env + Print), text: &[u8], count: usize) {

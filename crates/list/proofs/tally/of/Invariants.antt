@@ -1,0 +1,10 @@
+-- `list::tally::of`: the tally and what is left to see make the whole list's tally.
+use Rattle.records.specs.Answers.{outcome_of}
+use Rattle.std.proofs.Common.{◌≡◌, drop, length}
+use Rattle.list.specs.Steps.{tallied_as, start_of, seen_all}
+use Rattle.list.proofs.tally.of.Given as goal
+
+abbrev pub invariant-loop-account : goal.invariant-loop-account
+invariant-loop-account l =
+    seen_all (outcome_of l.parsed) (tallied_as l.seen) (drop l.account-index l.accounts)
+    ≡ seen_all (outcome_of l.parsed) (start_of (length l.accounts)) l.accounts
