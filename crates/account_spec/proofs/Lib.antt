@@ -14,3 +14,4 @@ pub mod VerdictLaws
 pub mod ReadingLaws
 pub mod SeasonLaws
 pub mod RunLaws
+pub mod NextLaws

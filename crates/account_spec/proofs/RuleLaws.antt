@@ -15,6 +15,7 @@ use Rattle.records.specs.declared.Record.{Record}
 use Rattle.records.specs.declared.Refusal.{Refusal}
 use Rattle.records.specs.Answers.{accepted, refused, row_of, outcome_of}
 use Rattle.measured.specs.declared.Parameters.{Parameters}
+use Rattle.records.proofs.AnswerLaws.{row-passed, onward-passed}
 use Rattle.records.specs.Parameters.{parameter_out}
 use Rattle.records.specs.Ranges.{checked, lacks_ceiling, ramps_out}
 use Rattle.frames.specs.Layout.{ozone_of}
@@ -126,3 +127,14 @@ module _ (a : Account) (l : List ℕ) (p : Result Raw Refusal) (parsed : outcome
 
   pub unread-feeds : (s r : Refusal) → p ≡ Err s → row_of r ≡ unread_row a (row_of s) → Feeds a l (Err (r, a))
   unread-feeds s r e k = unread-by (impossible a) s r refl e k
+
+-- a line that is fed has a frame
+pub fed-parsed :
+    (a : Account) (l : List ℕ) (next : Account) → feed_of a l ≡ accepted next →
+    (frame : Raw) × (parsed_of l ≡ accepted frame)
+unfolding feed_of answer_of
+fed-parsed a l next e =
+    let passed = row-passed (impossible a) _ _ next e in
+    let record_is = onward-passed _ _ next passed.1 in
+    let frame_is = onward-passed (parsed_of l) _ record_is.0 record_is.1 in
+    (frame_is.0, frame_is.1)

@@ -10,18 +10,18 @@ ghost use Rattle.flux.specs.Given.{Sound-prop};
 use flux_spec::Stand;
 use frames::Hour;
 
-// By a tree's sound figures, which have f_temp of their curve's table, and a ceiling in range.
+/// By a tree's sound figures, which have f_temp of their curve's table, and a ceiling in range.
 #[derive(Clone, Copy)]
-pub(crate) struct Dosing {
+pub struct Dosing {
     pub stand: Stand,
     pub ghost sound: { Sound stand.figures } by { Sound-prop stand.figures },
     pub ghost tabled: { HasTable stand.figures },
     pub ghost few: { stand.ceiling ≤ 5000 },
 }
 
-// An hour that row 10 lets pass.
+/// An hour that row 10 lets pass.
 #[derive(Clone, Copy)]
-pub(crate) struct Passed {
+pub struct Passed {
     pub hour: Hour,
     pub ghost passes: { checked (Record.Hour hour) ≡ accepted tt },
 }

@@ -2,18 +2,15 @@
 #![tactic(auto)]
 
 mod boundary;
+mod counted;
 mod decay;
 mod dose;
-mod feed;
 mod given;
 mod hour;
 mod light;
-mod line;
-mod next;
 mod ozone;
 mod remembered;
 mod rows;
-mod run;
 mod scale;
 mod share;
 mod vapour;
@@ -26,12 +23,11 @@ ghost use Rattle.flux_spec.specs.Facts.{HourFacts};
 ghost use Rattle.flux_spec.specs.HourDose.{tree_of, age_by, stand_by, added_pair, hour_dose_of};
 
 use exact::Bounds;
-pub use feed::{feed_hours, feed_remembering};
-pub use flux_spec::Age;
-use flux_spec::Stand;
+pub use counted::pair_of;
+pub use flux_spec::{Age, Stand};
 use frames::{Hour, Parameters, Refusal};
-use given::{Dosing, Passed};
-pub use remembered::{Memory, no_memory};
+pub use given::{Dosing, Passed};
+pub use remembered::{Memory, no_memory, prepare};
 use trees::Figures;
 
 // The figures of the tree with a number, those of tree 7 by its parameters: rows 24 and 5.
@@ -72,7 +68,7 @@ fn dose_by(dosing: Dosing, h: Hour) -> Result<Bounds, Refusal>
         return Err(Refusal::NoCeiling);
     }
     records::check_hour(h, rows::soil_unfit(figures.measure, h.soil))?;
-    Ok(run::pair_alone(dosing, Passed { hour: h }))
+    Ok(counted::pair_alone(dosing, Passed { hour: h }))
 }
 
 /// What an hour adds to POD1: its pair where it is counted, else 0 and 0. It goes by the tree with a number, the first

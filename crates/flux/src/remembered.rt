@@ -3,42 +3,91 @@
 // Kept: no heap, so 8 bytes of the stack for each temperature; a struct of two `u32` would take as many, and still hold f_temp's numbers added up and say none
 // by 0.
 // Kept for speed: trees 1 to 6 are remembered too; a year took 2 to 3 percent longer where their tables were read at each hour.
-ghost use Rattle.std.specs.Prelude.{None, Some, ◌≡◌, ◌-◌, ◌/◌, ◌%◌, ◌<◌, ◌≤◌};
-ghost use Rattle.flux.specs.Remembered.{remembered_of, Remembers, RemembersTree, RemembersTree-prop};
+ghost use Rattle.std.specs.Prelude.{None, Some, true, ◌≡◌, ◌-◌, ◌/◌, ◌%◌, ◌<◌, ◌≤◌};
+ghost use Rattle.std.specs.Result.{result_unwrap_or};
+ghost use Rattle.records.specs.Answers.{outcome_of};
+ghost use Rattle.flux.specs.Remembered.{remembered_of, Remembers, Remembers-prop, IsOf, IsOf-prop, stand_with};
 
 use crate::given::Dosing;
 use exact::Bounds;
-use frames::Parameters;
+use flux_spec::{Age, Stand};
+use frames::{Parameters, Refusal};
 use trees::Source;
 
-// What is remembered for a tree, told by its number and its parameters: for each temperature a number, 0 where none has come up. It is kept from one run of hours
-// to the next.
+/// What hours are dosed by, and what is remembered of temperatures for its tree: for each one a
+/// number, 0 where none has come up. It is kept from one run of hours to the next.
 #[derive(Drop)]
 pub struct Memory {
+    // The tree's number and parameters; none before the first.
     pub of: Option<(u8, Parameters)>,
+    pub dosing: Dosing,
     pub(crate) cells: [u64; 1101],
-    pub ghost kept: { RemembersTree of cells } by { RemembersTree-prop of cells },
+    pub ghost own: { IsOf of dosing.stand.figures } by { IsOf-prop of dosing.stand.figures },
+    pub ghost kept: { Remembers dosing.stand.figures cells } by { Remembers-prop dosing.stand.figures cells },
 }
 
-// One that remembers nothing.
+/// One that remembers nothing, and is for no tree that was asked for.
 pub fn no_memory() -> Memory
     ensures { result.of ≡ None }
 {
+    let Ok(figures) = crate::tree_of(measured::no_parameters(), 1) else {
+        unreachable!()
+    };
+    let stand = Stand {
+        figures,
+        age: Age {
+            warmth: measured::no_warmth(),
+            sum: 0,
+        },
+        first: 1,
+        last: 366,
+        ceiling: 0,
+    };
     Memory {
         of: None,
+        dosing: Dosing { stand },
         cells: [0; 1101],
     }
 }
 
-// For the hours of a tree: emptied where it is of another one.
-pub(crate) fn made_for(memory: &mut Memory, tree: u8, parameters: Parameters)
-    ensures { memory.new.of ≡ Some (tree, parameters) }
+// It is of the tree with a number and parameters.
+fn is_of(of: Option<(u8, Parameters)>, tree: u8, parameters: Parameters) -> bool
+    ensures { result ≡ true → of ≡ Some (tree, parameters) }
 {
-    if memory.of == Some((tree, parameters)) {
-        return;
+    of == Some((tree, parameters))
+}
+
+/// A memory for the hours of a season: what they are dosed by, or row 24, 5 or 17. What was
+/// remembered of another tree goes.
+pub fn prepare(
+    memory: &mut Memory,
+    tree: u8,
+    parameters: Parameters,
+    age: Age,
+    first: u16,
+    last: u16,
+    ceiling: u16,
+) -> Result<Stand, Refusal>
+    ensures is { outcome_of result ≡ stand_with parameters tree age first last ceiling }
+    ensures memory { memory.new.dosing.stand ≡ result_unwrap_or result memory.old.dosing.stand }
+{
+    let figures = crate::tree_of(parameters, tree)?;
+    if records::ceiling_out(ceiling) {
+        return Err(Refusal::Ceiling);
     }
-    memory.of = Some((tree, parameters));
-    memory.cells = [0; 1101];
+    let stand = Stand {
+        figures,
+        age,
+        first,
+        last,
+        ceiling,
+    };
+    if !is_of(memory.of, tree, parameters) {
+        memory.of = Some((tree, parameters));
+        memory.cells = [0; 1101];
+    }
+    memory.dosing = Dosing { stand };
+    Ok(stand)
 }
 
 // The saturation pressure stands above f_temp's two numbers, which are added up.

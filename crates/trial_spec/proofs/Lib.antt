@@ -1,4 +1,3 @@
 pub mod SameLaws
-pub mod NextLaws
 pub mod TakeLaws
 pub mod TrialLaws

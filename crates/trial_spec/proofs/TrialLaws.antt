@@ -16,7 +16,7 @@ use Rattle.trial_spec.specs.Trial.{Tries}
 use Rattle.trial_spec.specs.Taking.{answer_in, take_with, take_of, TakesTrial}
 use Rattle.trial_spec.specs.Promise.{TrialPromise}
 use Rattle.trial_spec.proofs.SameLaws.{same-is}
-use Rattle.trial_spec.proofs.NextLaws.{next-possible}
+use Rattle.account_spec.proofs.NextLaws.{next-possible}
 
 -- ---- any trial
 

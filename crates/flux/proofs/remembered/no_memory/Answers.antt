@@ -1,6 +1,21 @@
--- `flux::remembered::no_memory` meets its contract. The answer does not go by there being no tree, so the edit that names one is refused by the contract.
-use Rattle.flux.proofs.RememberedLaws.{none_kept}
+-- `flux::remembered::no_memory` meets its contract: tree 1 has figures, and a memory of zeros
+-- remembers nothing. The answer does not go by there being no tree, so the edit that names one is
+-- refused by the contract.
+use Rattle.std.proofs.Common.{sym, ap, ◌∙◌, lit≤}
+use Rattle.records.specs.Answers.{outcome_of}
+use Rattle.records.proofs.ParameterLaws.{figures-in-tabled}
+use Rattle.flux_spec.proofs.EnclosureLaws.{tree-named}
+use Rattle.flux.proofs.RememberedLaws.{none-remembered, first-tree, none-of}
 use Rattle.flux.proofs.remembered.no_memory.Goals as goal
 
+pub unreachable-requires : goal.unreachable-requires
+unreachable-requires c =
+    first-tree _ _ (sym c.tree_of.ensures ∙ ap outcome_of c.in_default.is)
+
 pub invariant_of-result : goal.invariant_of-result
-invariant_of-result c = record { kept = none_kept _ 1101 }
+invariant_of-result c =
+    let tree = tree-named _ _ _ (sym c.tree_of.ensures ∙ ap outcome_of c.in-Ok.is) in
+    record { sound = tree.sound; tabled = figures-in-tabled _ _ _ tree.chosen; few = lit≤ tt }
+
+pub invariant_of-result-2 : goal.invariant_of-result-2
+invariant_of-result-2 c = record { own = none-of _; kept = none-remembered _ 1101 }
