@@ -108,6 +108,10 @@ module _ (stand : Stand) (n : ℕ) (h : Hour) where
   unfolding share_up opening_up phenology_in
   share_up-same = refl
 
+  share_at-same : (k : ℕ) → share_at k stand (with_ozone n h) ≡ share_at k stand h
+  unfolding share_at opening_at phenology_in
+  share_at-same k = refl
+
 module _ (stand : Stand) (h : Hour) {m n : ℕ} (more : m ≤ n) where
   lower_of-mono : lower_of stand (with_ozone m h) ≤ lower_of stand (with_ozone n h)
   unfolding lower_of
@@ -118,8 +122,7 @@ module _ (stand : Stand) (h : Hour) {m n : ℕ} (more : m ≤ n) where
   upper_of-mono = grind (arith, nat_tests, share_up-same, quotient-mono, concentration_up-mono)
 
   dose_at-more : (k : ℕ) → dose_at k stand (with_ozone m h) ≼ dose_at k stand (with_ozone n h)
-  unfolding share_at opening_at phenology_in
-  dose_at-more k = grind (arith, nat_tests, dose_at-is, dose-mono, concentration-mono, ≼_refl)
+  dose_at-more k = grind (arith, nat_tests, share_at-same, dose_at-is, dose-mono, concentration-mono, ≼_refl)
 
 pub ozone-grows : (stand : Stand) (h : Hour) → OzoneGrows stand h
 ozone-grows stand h = grind (arith, nat_tests, lower_of-mono, upper_of-mono, dose_at-more)

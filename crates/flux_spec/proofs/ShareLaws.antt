@@ -17,7 +17,7 @@ use Rattle.humidity_spec.specs.Pair.{entry_k}
 use Rattle.flux_spec.specs.declared.Stand.{Stand}
 use Rattle.flux_spec.specs.Light.{light_at, light_low, light_up}
 use Rattle.flux_spec.specs.Deficit.{HasVpd}
-use Rattle.flux_spec.specs.Conductance.{above_of, phenology_in, share_at}
+use Rattle.flux_spec.specs.Conductance.{above_of, phenology_in, opening_at, share_at}
 use Rattle.flux_spec.specs.Pair.{opening_low, opening_up, share_low, share_up}
 use Rattle.flux_spec.specs.Facts.{ShareFacts, HourFacts}
 use Rattle.flux_spec.proofs.BudgetLaws.{is_steep, width_in, near_in}
@@ -59,7 +59,7 @@ module _ (stand : Stand) (s : Sound stand.figures) (h : Hour) where
   -- f_light stands outside the floor f_min
   share-dark : (k : ℕ) → light_at k f h.ppfd ≼ natural 0 → share_at k stand h ≼ natural 0
   unfolding share_at
-  share-dark k dark = grind (arith, nat_tests)
+  share-dark k dark = ≼_trans (⊗-mono (⊗-mono (≼_refl phen) dark) (≼_refl (opening_at k f h))) (record { cross = omega arith })
 
   share_at-le : (k : ℕ) → light_at k f h.ppfd ≼ natural 1 → share_at k stand h ≼ natural 1
   unfolding share_at
