@@ -19,6 +19,7 @@ use Rattle.flux_spec.specs.Conductance.{phenology_in, opening_at, share_at}
 use Rattle.flux_spec.specs.Dose.{flux_at, dose_at}
 use Rattle.flux_spec.specs.Pair.{concentration_low, concentration_up, opening_low, opening_up, share_low, share_up, root_low, quotient, lower_of, upper_of}
 use Rattle.flux_spec.specs.Enclosure.{most_dose, gap_dose, OzoneGrows}
+use Rattle.flux_spec.proofs.ShareLaws.{share_at-is}
 use Rattle.flux_spec.proofs.BudgetLaws.{is_steep, near_in, step_in, gap_dose-is}
 use Rattle.flux_spec.proofs.BoundaryLaws.{root_up_at-anti, root_low-le, root_up_at-le}
 use Rattle.flux_spec.proofs.ConcentrationLaws.{
@@ -109,8 +110,8 @@ module _ (stand : Stand) (n : ℕ) (h : Hour) where
   share_up-same = refl
 
   share_at-same : (k : ℕ) → share_at k stand (with_ozone n h) ≡ share_at k stand h
-  unfolding share_at opening_at phenology_in
-  share_at-same k = refl
+  unfolding opening_at phenology_in
+  share_at-same k = rw (share_at-is stand (with_ozone n h) k, share_at-is stand h k) refl
 
 module _ (stand : Stand) (h : Hour) {m n : ℕ} (more : m ≤ n) where
   lower_of-mono : lower_of stand (with_ozone m h) ≤ lower_of stand (with_ozone n h)

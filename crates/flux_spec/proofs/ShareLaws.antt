@@ -2,11 +2,12 @@
 -- which is at most 5 apart, and 51 where f_VPD out of humidity is steep. What a law needs of f_light it takes as a premise.
 use Rattle.std.proofs.lemmas.Bool.Decides.{nat_tests}
 use Prim.Native.Nat.{ℕ, ◌+◌, ◌*◌, ◌^◌, ◌≤◌}
+use mathlib.Core.Path.{◌≡◌, refl}
 use mathlib.Core.Bool.{Bool}
 use native.Mathlib.Nat.{mul-le-mul}
 use native.Mathlib.Omega.{arith}
 use lib.Dec.{lit≤}
-use Rattle.exact.specs.Frac.{Frac, natural, ◌over◌, ◌≼◌}
+use Rattle.exact.specs.Frac.{Frac, natural, ◌over◌, ◌⊗◌, ◌≼◌}
 use Rattle.exact.specs.Rounding.{round_up, round_down, times_up, times_down}
 use Rattle.exact.proofs.FracLaws.{≼_refl, ≼_trans, ≼-antisym, ≈-le, ⊗-mono, ⊗-comm, ⊗-le-one}
 use Rattle.exact.proofs.RoundingLaws.{times_down_lem, times-up, product-down, product-up, over-gap, over-order, times-order, times-gap, times_down-le, times_up-le}
@@ -37,6 +38,13 @@ pair-le : (a b : ℕ) → a ≤ 10 ^ 9 → b ≤ 10 ^ 9 + 1 → round_up ((a * b
 unfolding round_up
 pair-le a b p q = omega (arith, mul-le-mul p q)
 
+-- other laws go by this equation, not by the definition's text
+pub share_at-is :
+    (stand : Stand) (h : Hour) (k : ℕ) →
+    share_at k stand h ≡ phenology_in stand h ⊗ light_at k stand.figures h.ppfd ⊗ opening_at k stand.figures h
+unfolding share_at
+share_at-is stand h k = refl
+
 module _ (stand : Stand) (s : Sound stand.figures) (h : Hour) where
   abbrev f : Figures
   f = stand.figures
@@ -62,34 +70,35 @@ module _ (stand : Stand) (s : Sound stand.figures) (h : Hour) where
   share-dark k dark = ≼_trans (⊗-mono (⊗-mono (≼_refl phen) dark) (≼_refl (opening_at k f h))) (record { cross = omega arith })
 
   share_at-le : (k : ℕ) → light_at k f h.ppfd ≼ natural 1 → share_at k stand h ≼ natural 1
-  unfolding share_at
-  share_at-le k light-le = ⊗-le-one (⊗-le-one phen-le light-le) (opening_at-le f s h k)
+  share_at-le k light-le = rw (share_at-is stand h k) (⊗-le-one (⊗-le-one phen-le light-le) (opening_at-le f s h k))
 
   module _ (has : HasVpd h.air (above_of h.temperature)) (light-mono : (k l : ℕ) → k ≤ l → light_at k f h.ppfd ≼ light_at l f h.ppfd) where
     pub share_at-mono : (k l : ℕ) → k ≤ l → share_at k stand h ≼ share_at l stand h
-    unfolding share_at
-    share_at-mono k l j = ⊗-mono (⊗-mono (≼_refl phen) (light-mono k l j)) (opening_at-mono f s h has j)
+    share_at-mono k l j =
+        rw (share_at-is stand h k, share_at-is stand h l) (⊗-mono (⊗-mono (≼_refl phen) (light-mono k l j)) (opening_at-mono f s h has j))
 
     -- ---- the pair encloses it
 
     pub share-low :
         (k₀ : ℕ) → light_low f h.ppfd over 10 ^ 9 ≼ light_at k₀ f h.ppfd →
         (k : ℕ) → 9 ≤ k → entry_k ≤ k → k₀ ≤ k → share_low stand h over 10 ^ 7 ≼ share_at k stand h
-    unfolding share_at share_low
+    unfolding share_low
     share-low k₀ light-low k i e j =
-        ≼_trans (product-down low (opening_low f h) (10 ^ 9) (10 ^ 9) (10 ^ 7) (10 ^ 11) (omega arith))
+        rw (share_at-is stand h k)
+        (≼_trans (product-down low (opening_low f h) (10 ^ 9) (10 ^ 9) (10 ^ 7) (10 ^ 11) (omega arith))
         (⊗-mono
         (≼_trans (times_down_lem (light_low f h.ppfd) (10 ^ 9) phen (≼_trans light-low (light-mono k₀ k j)) (≼_refl phen)) (⊗-comm (light_at k f h.ppfd) phen))
-        (opening-low f s h has k i e))
+        (opening-low f s h has k i e)))
 
   pub share-high :
       HasVpd h.air (above_of h.temperature) → ((k : ℕ) → light_at k f h.ppfd ≼ light_up f h.ppfd over 10 ^ 9) →
       (k : ℕ) → share_at k stand h ≼ share_up stand h over 10 ^ 7
-  unfolding share_at share_up
+  unfolding share_up
   share-high has light-high k =
-      ≼_trans
+      rw (share_at-is stand h k)
+      (≼_trans
       (⊗-mono (≼_trans (⊗-comm phen (light_at k f h.ppfd)) (times-up (light_up f h.ppfd) (10 ^ 9) phen (light-high k) (≼_refl phen))) (opening-high f s h has k))
-      (product-up up (opening_up f h) (10 ^ 9) (10 ^ 9) (10 ^ 7) (10 ^ 11) (omega arith))
+      (product-up up (opening_up f h) (10 ^ 9) (10 ^ 9) (10 ^ 7) (10 ^ 11) (omega arith)))
 
   -- ---- the pair
 
