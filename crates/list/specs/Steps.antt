@@ -5,7 +5,8 @@ use Rattle.std.specs.Prelude.{Option, Some, None, is_none, Result, Ok, Err}
 use Rattle.trees.specs.declared.Measure.{Measure}
 use Rattle.records.specs.declared.Raw.{Raw}
 use Rattle.records.specs.declared.Record.{Record}
-use Rattle.records.specs.Answers.{Outcome, accepted, refused, row, onward, reply, outcome_of, row_of}
+use Rattle.records.specs.Answers.{Outcome, accepted, refused, row, onward, reply}
+use Rattle.records.specs.Answers.{outcome_of, row_of}
 use Rattle.records.specs.Numbers.{same_numbers}
 use Rattle.account_spec.specs.declared.Account.{Account}
 use Rattle.account_spec.specs.HourKinds.{kind_number}

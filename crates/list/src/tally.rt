@@ -1,7 +1,8 @@
 // What is known of a list of accounts and a line after some of them are seen, and the answer once all are.
 ghost use Rattle.records.specs.Answers.{outcome_of};
 ghost use Rattle.std.specs.Prelude.{◌≡◌, length};
-ghost use Rattle.list.specs.Steps.{common_as, tallied_as, start_of, first_common, next_line, line_of, seen_of, seen_all, fit_of, settled_of};
+ghost use Rattle.list.specs.Steps.{common_as, tallied_as, start_of, first_common, next_line};
+ghost use Rattle.list.specs.Steps.{line_of, seen_of, seen_all, fit_of, settled_of};
 
 use crate::MOST;
 use crate::alike::{Common, alike, common_of};

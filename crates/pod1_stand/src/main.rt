@@ -36,8 +36,9 @@ fn print_stopped(rt: &impl Print, stopped: Stopped) {
 }
 
 // An account for each header, fed the text.
-// A text longer than what is read of it: no account takes more lines than a book does, so the first that is refused, with
-// the three lines that may be passed over before it, stands within what is read.
+// A text longer than what is read of it: no account takes more lines than a book does, so the first
+// that is refused, with the three lines that may be passed over before it, stands within what is
+// read.
 fn feed(rt: &impl Env, text: &[u8], accounts: &mut [Account]) -> Result<(), Stopped> {
     if accounts.is_empty() {
         return Err(Stopped::Call(Refusal::ListSize));
