@@ -41,15 +41,15 @@ form 'the evergreen dip is a match on the day with ranges' trees/src/phen.rt \
 form 'a tree is a match on its number' trees/src/lib.rt \
     'match tree \{\s*1 => Some\(.*\s6 => Some\(.*_ => None' \
     's/match tree \{/if tree == 1 {/'
-form 'a line loop over a digit loop, each with a label' walk/src/loops.rt \
-    "'lines: loop \{((?!'lines: loop).)*let mut end = at;\s*('digits|(//[^\n]*\s*)+'digits): loop \{" \
-    "s/'digits: loop \{/while end < text.len() {/"
+form 'a line loop over a digit loop, which begins at the line'"'"'s first character' walk/src/loops.rt \
+    "'lines: loop \{((?!\n    \}).)*let mut end = here\.at;\s*(//[^\n]*\s*)*'digits: loop \{" \
+    "s/let mut end = here\.at;/let mut end = past_hour(text, here.at);/"
 form 'a bad digit leaves the line loop by its label' walk/src/loops.rt \
     "'digits: loop \{((?!\n        \}).)*is_digit\(((?!\n        \}).)*break 'lines Err\(" \
-    "s/break 'lines Err\(/return Err(/g"
+    "s/break 'lines Err\(refused/return Err(refused/"
 form 'a refused line leaves the line loop by break with its refusal' walk/src/loops.rt \
-    "'lines: loop \{.*\n        \}\n.*break 'lines Err\(" \
-    "s/break 'lines Err\(/return Err(/g"
+    "'digits: loop \{.*\n        \}\n((?!\n    \}).)*Err\((\w+)\) => break 'lines Err\(\2\)" \
+    "s/=> break 'lines Err\(/=> return Err(/"
 for table in BOREAL_SPRUCE:592 BIRCH:545 CONTINENTAL_SPRUCE:303 BEECH:247 OAK:332 EVERGREEN:377; do
     name=${table%:*}
     form "the table of f_temp of $name is a constant array" tables/src/values.rt \
