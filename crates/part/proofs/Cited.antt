@@ -96,6 +96,7 @@ calls-cited p = record {
   forged = λ room begun b trial after ts k calls t.
       p.forged room begun b trial after ts (begun-tied p room begun k) (calls-tied calls) (takes-tied b trial after t);
   filling = p.filling;
+  shown = p.shown;
 }
 
 pub part-cited : SeasonPromise → FillingPromise → PartPromise

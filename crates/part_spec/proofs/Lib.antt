@@ -4,6 +4,7 @@ pub mod HeldLaws
 pub mod PlaceLaws
 pub mod SaidLaws
 pub mod SeasonLaws
+pub mod ShownLaws
 pub mod PromiseLaws
 pub mod TakenLaws
 pub mod TrialLaws

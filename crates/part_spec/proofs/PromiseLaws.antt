@@ -16,6 +16,7 @@ use Rattle.part_spec.specs.Told.{Told, front, Calls}
 use Rattle.part_spec.specs.Promise.{account_now, Tellings, SeasonTold, ForgedTaken, PartPromise}
 use Rattle.part_spec.proofs.HeldLaws.{lent-held, front-held}
 use Rattle.part_spec.proofs.TakenLaws.{accepted-take}
+use Rattle.part_spec.proofs.ShownLaws.{shown}
 use Rattle.part_spec.proofs.SeasonLaws.{Begun, nothing-yet, run-kept, call-step}
 
 taken_is : (a : Account) (b : List ℕ) → take_up_of b ≡ accepted a → (trial : List ℕ) → taken_in b trial ≡ taken_from trial a
@@ -66,4 +67,5 @@ part-promise p filling = record {
       let s = season-told p filling room begun stores (front lent) ts calls in
       (s, forged-taken p filling room begun stores lent trial after s.events s.holds k);
   filling = filling;
+  shown = shown;
 }

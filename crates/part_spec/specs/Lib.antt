@@ -2,6 +2,7 @@ pub mod Calls
 pub mod Floats
 pub mod Frames
 pub mod Told
+pub mod Shown
 pub mod Promise
 pub mod Stretch
 pub mod Lists

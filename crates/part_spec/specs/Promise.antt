@@ -1,5 +1,5 @@
 -- Demand 3 for the part: one claim about every list of calls of the exports on the bytes of one account, from `pod1_fresh` on.
-use Rattle.std.specs.Prelude.{ℕ, ◌<◌, ◌≡◌, false, List, [], ◌∷◌, ◌++◌, length, drop, Ok}
+use Rattle.std.specs.Prelude.{ℕ, ◌≤◌, ◌<◌, ◌≡◌, false, List, [], ◌∷◌, ◌++◌, length, drop, Ok}
 use Rattle.records.specs.declared.Hour.{Hour}
 use Rattle.records.specs.declared.Record.{Record}
 use Rattle.records.specs.Answers.{accepted, refused}
@@ -17,7 +17,7 @@ use Rattle.floats_spec.specs.declared.FloatReadings.{FloatReadings}
 use Rattle.floats_spec.specs.Numbers.{wholes_in}
 use Rattle.floats_spec.specs.Feeding.{feed_floats_of}
 use Rattle.floats_spec.specs.Promise.{AreWhole}
-use Rattle.stored.specs.Layout.{take_up_of}
+use Rattle.stored.specs.Layout.{account_width, take_up_of}
 use Rattle.stored_trial.specs.Layout.{Contents, trial_width, trial_bytes, contents_in}
 use Rattle.stored_list.specs.Feeding.{fed_listed_of}
 use Rattle.answers.specs.declared.Printed.{Printed}
@@ -28,6 +28,7 @@ use Rattle.answers.specs.Reading.{readout_of, no_trial}
 use Rattle.part_spec.specs.Calls.{Stores, PrintsBytes}
 use Rattle.part_spec.specs.Trials.{contents_by, taken_from, TakesBytes}
 use Rattle.part_spec.specs.Told.{Told, line_told, floats_told, trial_told, take_told, list_told, reading_told, print_told, front, Calls}
+use Rattle.part_spec.specs.Shown.{ShownRun}
 
 -- ---- the account that the events so far left
 
@@ -123,3 +124,6 @@ pub record PartPromise : Type 0 where
       → TakesBytes lent trial 0 after → (s : SeasonTold ts (front lent)) × ForgedTaken s.events trial after
   -- what filling brings, of the lines that a season's events took
   pub filling : FillingPromise
+  -- there are such calls: a small run of them
+  pub shown : (room buffer paper : List ℕ) → account_width ≤ length room → trial_width ≤ length buffer → 18 ≤ length paper
+      → ShownRun room buffer paper

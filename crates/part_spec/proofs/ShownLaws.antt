@@ -1,0 +1,272 @@
+-- The worked run is one.
+use Rattle.std.specs.Prelude.{Some, Ok}
+use Prim.Native.Nat.{ℕ, suc, ◌^◌, ◌≤◌}
+use borrow.Author.Tests.{ltb-true, le-ltb}
+use native.Mathlib.Omega.{arith}
+use lib.Seq.{take_at}
+use lib.Dec.{ltb}
+use lib.ListN.{length, get_or, drop}
+use mathlib.Core.Bool.{Bool, true, false, ◌&&◌}
+use mathlib.Core.Path.{◌≡◌, refl, sym, ap, subst, ◌∙◌}
+use mathlib.Core.List.{List, [], ◌∷◌, ◌++◌}
+use lib.IntN.{pos}
+use Rattle.records.specs.declared.Record.{Record}
+use Rattle.records.specs.Answers.{Outcome, accepted}
+use Rattle.records.specs.Temperature.{signed_of, complement_of, temperature_out}
+use Rattle.records.specs.Ranges.{checked}
+use Rattle.trees.specs.Figures.{figures_of}
+use Rattle.measured.specs.Figures.{figures_in}
+use Rattle.frames.specs.Digits.{is_digit, value_of, all_digits, byte_at, number_at, digit_of}
+use Rattle.frames.specs.Kinds.{among, length_of}
+use Rattle.frames.specs.Layout.{hour_of, frame_of, frame_at, frame_line}
+use Rattle.frames.specs.Frames.{parsed_of, sound_of, record_of}
+use Rattle.flux_spec.specs.HourDose.{tree_of}
+use Rattle.account_spec.specs.declared.Account.{Account}
+use Rattle.account_spec.specs.declared.HourKind.TheVariants.{Deficit}
+use Rattle.account_spec.specs.declared.Phase.TheVariants.{Open}
+use Rattle.account_spec.specs.Account.{fresh_account, impossible}
+use Rattle.account_spec.specs.Hours.{stand_in, none_carried, hour_sums}
+use Rattle.account_spec.specs.Rules.{due_of, turn_of, answer_of as line_answer_of, with_header, opened, entered, left_of, feed_of}
+use Rattle.records.proofs.AnswerLaws.{and_both, accepted-same}
+use Rattle.stored.specs.Packing.{FitFrom}
+use Rattle.stored.specs.Layout.{widths, account_width, account_numbers, account_bytes}
+use Rattle.stored.specs.RoundTrip.{TakenUp}
+use Rattle.stored.proofs.AccountLaws.{taken-up, account-length}
+use Rattle.answers.specs.declared.Readout.{Readout}
+use Rattle.answers.specs.Code.{code_of, is_code, answer_of}
+use Rattle.answers.specs.Reading.{readout_of}
+use Rattle.account_spec.specs.Reading.{verdict_of, read_of}
+use Rattle.report_spec.specs.Text.{digits_before, decimal}
+use Rattle.report_spec.specs.Line.{totals_line, format_of}
+use Rattle.floats_spec.specs.declared.FloatReadings.{FloatReadings}
+use Rattle.floats_spec.specs.Whole.{IsWhole}
+use Rattle.floats_spec.specs.Numbers.{wholes_in}
+use Rattle.floats_spec.specs.Feeding.{feed_floats_of}
+use Rattle.floats_spec.specs.Promise.{AreWhole}
+use Rattle.floats_spec.proofs.PromiseLaws.{float-promise}
+use Rattle.stored_trial.specs.Layout.{Contents, carried_by, trial_width, trial_bytes, contents_in}
+use Rattle.stored_trial.proofs.ContentsLaws.{contents-same}
+use Rattle.stored_trial.proofs.RoundTripLaws.{contents-back}
+use Rattle.trial_spec.proofs.TrialLaws.{take-fed}
+use Rattle.part_spec.specs.Floats.{floats_fed_in}
+use Rattle.part_spec.specs.Trials.{contents_by, tried_in, tried_of, trial_after, TriesBytes, taken_in}
+use Rattle.part_spec.proofs.HeldLaws.{fed-is, read_is}
+use Rattle.part_spec.specs.Calls.{Stores, bytes_after, LeavesBytes, fed_in, line_in}
+use Rattle.part_spec.specs.Told.{Told, line_told, floats_told, trial_told, take_told, reading_told, print_told, front, CallTold, Calls}
+use Rattle.part_spec.specs.Shown.{dark_header, dark_hour, float, dark_floats, dark_reading, dark_text, shown_told, ShownRun}
+
+-- the account after so many hours
+abbrev dark_account : ℕ → Account
+dark_account n = record {
+  phase = Open;
+  season = with_header dark_header;
+  kind = Some Deficit;
+  sums = record { hours = n; counted = 0; missing = 0; lower = 0; upper = 0; least = 0; most = 0 };
+  carried = none_carried;
+}
+
+begun-by : feed_of fresh_account (frame_line (Record.Header dark_header)) ≡ accepted (opened dark_header)
+unfolding feed_of line_answer_of turn_of due_of parsed_of record_of sound_of checked frame_at frame_of frame_line hour_of signed_of complement_of temperature_out is_digit value_of all_digits byte_at number_at digit_of among length_of figures_in figures_of impossible entered
+begun-by = refl
+
+first-hour : feed_of (opened dark_header) (frame_line (Record.Hour (dark_hour 0))) ≡ accepted (dark_account 1)
+unfolding feed_of line_answer_of turn_of due_of parsed_of record_of sound_of checked frame_at frame_of frame_line hour_of signed_of complement_of temperature_out is_digit value_of all_digits byte_at number_at digit_of among length_of figures_in figures_of impossible entered stand_in tree_of hour_sums
+first-hour = refl
+
+second-hour : feed_of (dark_account 1) (frame_line (Record.Hour (dark_hour 1))) ≡ accepted (dark_account 2)
+unfolding feed_of line_answer_of turn_of due_of parsed_of record_of sound_of checked frame_at frame_of frame_line hour_of signed_of complement_of temperature_out is_digit value_of all_digits byte_at number_at digit_of among length_of figures_in figures_of impossible entered stand_in tree_of hour_sums
+second-hour = refl
+
+-- ---- its bytes
+
+abbrev fits_from : ℕ → List ℕ → List ℕ → Bool
+fits_from k [] ns = true
+fits_from k (w ∷ ws) ns = ltb (get_or ns k 0) (256 ^ w) && fits_from (suc k) ws ns
+
+fits : (k : ℕ) (ws ns : List ℕ) → fits_from k ws ns ≡ true → FitFrom k ws ns
+fits k [] ns e = tt
+fits k (w ∷ ws) ns e =
+    let both = and_both (ltb (get_or ns k 0) (256 ^ w)) (fits_from (suc k) ws ns) e in
+    (ltb-true (get_or ns k 0) (256 ^ w) both.0, fits (suc k) ws ns both.1)
+
+by-fits : (a : Account) → fits_from 0 widths (account_numbers a) ≡ true → signed_of (complement_of a.carried.total) ≡ a.carried.total → TakenUp a
+by-fits a e f = taken-up a (record { numbers = fits 0 widths (account_numbers a) e; total = f })
+
+fresh-up : TakenUp fresh_account
+unfolding signed_of complement_of
+fresh-up = by-fits fresh_account refl refl
+
+opened-up : TakenUp (opened dark_header)
+unfolding signed_of complement_of
+opened-up = by-fits (opened dark_header) refl refl
+
+first-up : TakenUp (dark_account 1)
+unfolding signed_of complement_of
+first-up = by-fits (dark_account 1) refl refl
+
+second-up : TakenUp (dark_account 2)
+unfolding signed_of complement_of
+second-up = by-fits (dark_account 2) refl refl
+
+-- ---- calls on an account's bytes alone
+
+front-is : (a : Account) (rest : List ℕ) → front (account_bytes a ++ rest) ≡ account_bytes a
+front-is a rest = take_at (account_bytes a) rest account_width (account-length a)
+
+call-in : (a b : Account) (before after : List ℕ) (t : Told) → CallTold (front (account_bytes a ++ before)) t (front (account_bytes b ++ after))
+    → CallTold (account_bytes a) t (account_bytes b)
+call-in a b before after t k =
+    subst (λ (l : List ℕ). CallTold l t (account_bytes b)) (front-is a before)
+    (subst (λ (l : List ℕ). CallTold (front (account_bytes a ++ before)) t l) (front-is b after) k)
+
+module _ (a : Account) (up : TakenUp a) where
+  abbrev lent : List ℕ
+  lent = account_bytes a ++ []
+
+  module _ (b : Account) (next : TakenUp b) where
+    abbrev left : List ℕ
+    left = account_bytes b ++ drop account_width lent
+
+    leaves-next : (o : Outcome Account) → o ≡ accepted b → LeavesBytes lent o 0 left
+    leaves-next o e = record {
+      answers = ap code_of (sym e);
+      leaves = ap (bytes_after lent) (sym e);
+      holds = λ c f. next.back (drop account_width lent) ∙ sym e ∙ f;
+    }
+
+    fed-call : (l : List ℕ) → feed_of a l ≡ accepted b → CallTold (account_bytes a) (line_told l 0) (account_bytes b)
+    fed-call l e = call-in a b [] (drop account_width lent) (line_told l 0) (CallTold.feeds lent left (leaves-next (fed_in lent l) (fed-is a lent (up.back []) l ∙ e)))
+
+    floats-are : (day hour : ℕ) (r : FloatReadings) → feed_floats_of a day hour r ≡ accepted b → floats_fed_in lent day hour r ≡ accepted b
+    unfolding floats_fed_in
+    floats-are day hour r e = rw (up.back []) e
+
+    floats-call : (day hour : ℕ) (r : FloatReadings) → feed_floats_of a day hour r ≡ accepted b
+        → CallTold (account_bytes a) (floats_told day hour r 0) (account_bytes b)
+    floats-call day hour r e =
+        call-in a b [] (drop account_width lent) (floats_told day hour r 0)
+        (CallTold.feeds_floats lent left (leaves-next (floats_fed_in lent day hour r) (floats-are day hour r e)))
+
+    -- a trial of a line that the account takes
+
+    module _ (l : List ℕ) (e : feed_of a l ≡ accepted b) (buffer : List ℕ) (room : trial_width ≤ length buffer) where
+      abbrev contents : Contents
+      contents = record { code = 0; tried = a; next = b }
+
+      abbrev trial : List ℕ
+      trial = trial_bytes contents ++ drop trial_width buffer
+
+      same : contents_by a l ≡ contents
+      same = contents-same (ap code_of e) refl (ap (left_of a) e)
+
+      made : tried_in lent l (length buffer) ≡ accepted contents
+      unfolding tried_in
+      made = rw (up.back [], le-ltb (length buffer) trial_width room) (ap accepted same)
+
+      held : contents_in trial ≡ accepted contents
+      unfolding is_code
+      held = contents-back contents refl (omega arith) up next (drop trial_width buffer)
+
+      carried : carried_by contents ≡ fed_in lent l
+      unfolding answer_of
+      carried = sym (fed-is a lent (up.back []) l ∙ e)
+
+      tries : (reading : Readout) → readout_of (read_of b) ≡ reading → TriesBytes lent l buffer (record { code = 0; answer = 0; reading = reading }) trial
+      tries reading read = record {
+        answers = sym (ap tried_of made ∙ rw read refl);
+        leaves = sym (ap (trial_after buffer) made);
+        holds = λ c f. held ∙ sym made ∙ f;
+        carries = λ c f. ap carried_by (sym (accepted-same (sym made ∙ f))) ∙ carried;
+      }
+
+      trial-call : (reading : Readout) → readout_of (read_of b) ≡ reading
+          → CallTold (account_bytes a) (trial_told l buffer (record { code = 0; answer = 0; reading = reading }) trial) (account_bytes a)
+      trial-call reading read = call-in a a [] [] (trial_told l buffer (record { code = 0; answer = 0; reading = reading }) trial) (CallTold.tries lent (tries reading read))
+
+      -- and its take
+
+      taken : taken_in lent trial ≡ accepted b
+      unfolding taken_in
+      taken = rw (up.back [], held, carried, fed-is a lent (up.back []) l) (take-fed a l ∙ e)
+
+      take-call : CallTold (account_bytes a) (take_told trial 0) (account_bytes b)
+      take-call =
+          call-in a b [] (drop account_width lent) (take_told trial 0)
+          (CallTold.takes lent left (leaves-next (taken_in lent trial) taken) (λ z. record { tried = a; line = l; holds = held ∙ ap accepted (sym same) }))
+
+  -- a reading, and the account's line
+
+  reading-call : (reading : Readout) → readout_of (read_of a) ≡ reading → CallTold (account_bytes a) (reading_told reading) (account_bytes a)
+  reading-call reading e = call-in a a [] [] (reading_told reading) (CallTold.reads lent (sym (ap readout_of (read_is a lent (up.back [])) ∙ e)))
+
+  line-in : line_in lent ≡ format_of a
+  unfolding line_in
+  line-in = rw (up.back []) refl
+
+  print-call : (text paper : List ℕ) → format_of a ≡ accepted text → length text ≤ length paper
+      → CallTold (account_bytes a) (print_told paper (record { code = 0; length = length text }) (text ++ drop (length text) paper)) (account_bytes a)
+  print-call text paper e room =
+      let long = le-ltb (length paper) (length text) room in
+      let told = print_told paper (record { code = 0; length = length text }) (text ++ drop (length text) paper) in
+      call-in a a [] [] told
+      (CallTold.prints lent
+      (record { written = Ok (length text); prints = record { answers = rw (line-in, e, long) refl; leaves = rw (line-in, e, long) refl }; answers = refl }))
+
+-- ---- the run
+
+first-floats : feed_floats_of (opened dark_header) 1 0 dark_floats ≡ accepted (dark_account 1)
+unfolding checked temperature_out
+first-floats =
+    let at : (n : ℕ) → n ≤ 65535 → IsWhole (float n) (pos n) = float-promise.positive in
+    let are : AreWhole dark_floats (wholes_in (dark_hour 0)) =
+    record {
+      ozone = at 500 (omega arith);
+      ppfd = at 0 (omega arith);
+      radiation = at 0 (omega arith);
+      temperature = at 230 (omega arith);
+      vpd = at 1000 (omega arith);
+      wind = at 300 (omega arith);
+      soil = at 1000 (omega arith);
+    }
+    in
+    float-promise.line (opened dark_header) (dark_hour 0) dark_floats are refl (omega arith, omega arith) refl ∙ first-hour
+
+dark_read : readout_of (read_of (dark_account 2)) ≡ dark_reading 2
+unfolding read_of impossible checked figures_in figures_of verdict_of
+dark_read = refl
+
+dark_line : format_of (dark_account 2) ≡ accepted dark_text
+unfolding format_of read_of impossible checked figures_in figures_of verdict_of totals_line decimal digits_before
+dark_line = refl
+
+module _ (room : List ℕ) (long : account_width ≤ length room) where
+  abbrev begun : List ℕ
+  begun = account_bytes fresh_account ++ drop account_width room
+
+  fresh-stores : Stores fresh_account room 0 begun
+  fresh-stores =
+      let size = account-length fresh_account in
+      let test : ltb (length room) (length (account_bytes fresh_account)) ≡ false = le-ltb (length room) (length (account_bytes fresh_account)) (omega arith) in
+      record { answers = rw test refl; leaves = rw (test, size) refl; holds = λ none. fresh-up.back (drop account_width room) }
+
+  pub shown-run : (buffer paper : List ℕ) → trial_width ≤ length buffer → 18 ≤ length paper → ShownRun room buffer paper
+  shown-run buffer paper h k =
+      let l = frame_line (Record.Hour (dark_hour 1)) in
+      let a = dark_account 1 in
+      let b = dark_account 2 in
+      record {
+        begun = begun;
+        trial = trial a first-up b second-up l second-hour buffer h;
+        left = account_bytes b;
+        stores = fresh-stores;
+        calls = subst (λ (x : List ℕ). Calls x (shown_told buffer paper (trial a first-up b second-up l second-hour buffer h)) (account_bytes b)) (sym (front-is fresh_account (drop account_width room)))
+            (Calls.call (fed-call fresh_account fresh-up (opened dark_header) opened-up (frame_line (Record.Header dark_header)) begun-by)
+            (Calls.call (floats-call (opened dark_header) opened-up a first-up 1 0 dark_floats first-floats)
+            (Calls.call (trial-call a first-up b second-up l second-hour buffer h (dark_reading 2) dark_read)
+            (Calls.call (take-call a first-up b second-up l second-hour buffer h)
+            (Calls.call (reading-call b second-up (dark_reading 2) dark_read)
+            (Calls.call (print-call b second-up dark_text paper dark_line k) Calls.stop))))));
+      }
+
+pub shown : (room buffer paper : List ℕ) → account_width ≤ length room → trial_width ≤ length buffer → 18 ≤ length paper → ShownRun room buffer paper
+shown room buffer paper long h k = shown-run room long buffer paper h k
