@@ -3,6 +3,7 @@ pub mod WalkLaws
 pub mod AlikeLaws
 pub mod DueLaws
 pub mod RunLaws
+pub mod TextLaws
 pub mod RefusedLaws
 pub mod ContinuedLaws
 pub mod ListLaws

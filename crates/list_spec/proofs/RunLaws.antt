@@ -24,7 +24,7 @@ use Rattle.list_spec.proofs.TogetherLaws.{each_same, each-through, together-is}
 abbrev AllFed : List ℕ → List Account → List Account → Type 0
 AllFed l xs ys = Each (λ a b. feed_of a l ≡ accepted b) xs ys
 
-accepted-each : (xs ys : List Account) (l : List ℕ) → feed_all_of xs l ≡ accepted ys → AllFed l xs ys
+pub accepted-each : (xs ys : List Account) (l : List ℕ) → feed_all_of xs l ≡ accepted ys → AllFed l xs ys
 unfolding feed_all_of
 accepted-each xs ys l e =
     let all : together (λ a. feed_of a l) xs ≡ accepted ys = grind (arith, nat_tests) in

@@ -4,4 +4,5 @@ pub mod Feeding
 pub mod Text
 pub mod Runs
 pub mod Promise
+pub mod TextPromise
 pub mod Steps
