@@ -21,7 +21,14 @@ use Rattle.records.specs.Answers.{Outcome, accepted, outcome_of}
 use Rattle.records.specs.Ranges.{on_tree, hour_checked, ceiling_out, warmth_broken, lacks_ceiling}
 use Rattle.records.proofs.AnswerLaws.{accepted-same, refused-not-accepted, row-passed, onward-passed}
 use Rattle.flux_spec.specs.Dose.{is_counted, excess}
-use Rattle.flux_spec.specs.HourDose.{stand_of, days_out, soil_unfit, stand_by, stand_for, hour_dose_of}
+use Rattle.flux_spec.specs.HourDose.{
+  stand_of,
+  days_out,
+  soil_unfit,
+  stand_by,
+  stand_for,
+  hour_dose_of,
+}
 use Rattle.flux_spec.specs.declared.Age.{Age}
 use Rattle.flux_spec.specs.declared.Stand.{Stand}
 use Rattle.flux_spec.proofs.HourDoseLaws.{stand-passed}
@@ -56,8 +63,9 @@ module _ (w : Warmth) (m n first last ceiling : ℕ) (h : Hour) (stand : Stand) 
       let days = row-passed (days_out f first last) _ _ stand e in
       let has = row-passed (lacks_ceiling ceiling h.ozone) _ _ stand days.1 in
       let passed = onward-passed (hour_checked (soil_unfit f.measure h.soil) h) _ stand has.1 in
+      let same = accepted-same passed.2 in
       rw (days.0, has.0, passed.1)
-      (ap (λ (s : Stand). accepted (stand_of s.figures (age_of w n) first last ceiling)) (accepted-same passed.2))
+      (ap (λ (s : Stand). accepted (stand_of s.figures (age_of w n) first last ceiling)) same)
 
   apart-on :
       (choice : Option Figures) →
@@ -67,7 +75,8 @@ module _ (w : Warmth) (m n first last ceiling : ℕ) (h : Hour) (stand : Stand) 
   apart-on None e = refused-not-accepted e
 
   sum-apart :
-      (ps : Parameters) (tree : ℕ) → stand_for ps tree (age_of w m) first last ceiling h ≡ accepted stand →
+      (ps : Parameters) (tree : ℕ) →
+      stand_for ps tree (age_of w m) first last ceiling h ≡ accepted stand →
       stand_for ps tree (age_of w n) first last ceiling h ≡ after
   unfolding stand_for
   sum-apart ps tree e =
@@ -85,7 +94,8 @@ dose_of season c h =
 
 module _ (season : Season) (c : Carried) (h : Hour) where
   dose-is :
-      own_warmth season.header.tree season.warmth ≡ season.warmth → Dosable season h → is_counted h ≡ true →
+      own_warmth season.header.tree season.warmth ≡ season.warmth → Dosable season h →
+      is_counted h ≡ true →
       dose_of season c h ≡ accepted (pair_of (stand_in season) c h)
   unfolding hour_dose_of pair_of
   dose-is own dosable counted =
@@ -95,7 +105,8 @@ module _ (season : Season) (c : Carried) (h : Hour) where
 
   -- the season's pair, where no row refuses the hour and leaf age is the tree's own
   pub pair_is :
-      own_warmth season.header.tree season.warmth ≡ season.warmth → Dosable season h → is_counted h ≡ true →
+      own_warmth season.header.tree season.warmth ≡ season.warmth → Dosable season h →
+      is_counted h ≡ true →
       pair_by season c.sum h ≡ pair_of (stand_in season) c h
   unfolding pair_by
   pair_is own dosable counted = rw (dose-is own dosable counted) refl
@@ -124,19 +135,22 @@ module _ (season : Season) (c : Carried) (h : Hour) where
   unfolding hour_dose_of
   dose-own = rw (own-once season.header.tree season.warmth) refl
 
-  dose-dosable : (pair : Bounds) → dose_of season c h ≡ accepted pair → Dosable (own_season season) h
+  dose-dosable :
+      (pair : Bounds) → dose_of season c h ≡ accepted pair → Dosable (own_season season) h
   unfolding hour_dose_of
-  dose-dosable pair e = let p = onward-passed _ _ pair e in (_, sum-apart _ c.sum 0 _ _ _ h p.0 _ _ p.1)
+  dose-dosable pair e =
+      let p = onward-passed _ _ pair e in (_, sum-apart _ c.sum 0 _ _ _ h p.0 _ _ p.1)
 
   dose-small :
       is_counted h ≡ true → (pair : Bounds) → dose_of season c h ≡ accepted pair →
       (pair.lower ≤ most_hour season) × (pair.upper ≤ most_hour season)
   dose-small counted pair e =
       let owned = own_season season in
+      let once = own-once season.header.tree season.warmth in
       let dosable = dose-dosable pair e in
       let few = (stand-passed _ _ _ _ _ h dosable.0 dosable.1).within in
       let is = accepted-same
-      (sym e ∙ dose-own ∙ dose-is owned c h (own-once season.header.tree season.warmth) dosable counted) in
+      (sym e ∙ dose-own ∙ dose-is owned c h once dosable counted) in
       let sized : PairSized owned pair =
       subst (PairSized owned) (sym is) (pair-sized owned h few c (dosable-has owned h dosable)) in
       (le_trans sized.order sized.most, sized.most)
@@ -202,8 +216,11 @@ carried-is season c h dosable =
     let stand = dosable-stand season h dosable in
     rw (stand, (season-stand season dosable.0 stand).warmth) refl
 
-module _ (a : Account) (own : own_warmth a.season.header.tree a.season.warmth ≡ a.season.warmth) where
-  hour-by : (h : Hour) → Dosable a.season h → (t : Bool) → is_counted h ≡ t → hour_added a h ≡ with_hour a h
+module _
+    (a : Account) (own : own_warmth a.season.header.tree a.season.warmth ≡ a.season.warmth) where
+  hour-by :
+      (h : Hour) → Dosable a.season h → (t : Bool) → is_counted h ≡ t →
+      hour_added a h ≡ with_hour a h
   unfolding hour_added hour_sums
   hour-by h dosable true e =
       rw (

@@ -26,7 +26,8 @@ pair_in (refused row) = record { lower = 0; upper = 0 }
 
 unfoldable pub pair_by : Season → ℕ → Hour → Bounds
 pair_by season sum h =
-    pair_in (hour_dose_of season.parameters season.header.tree (record { warmth = season.warmth; sum = sum })
+    pair_in
+    (hour_dose_of season.parameters season.header.tree (record { warmth = season.warmth; sum = sum })
     season.header.first season.header.last season.ceiling h)
 
 abbrev pub carried_by : Warmth → Carried → Hour → Carried

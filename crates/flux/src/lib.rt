@@ -56,8 +56,8 @@ fn age_by(tree: u8, age: Age) -> Age
 // The dose of an hour by a stand: rows 7, 18 and 10.
 fn dose_by(dosing: Dosing, h: Hour) -> Result<Bounds, Refusal>
     ensures { let s = dosing.stand in
-        outcome_of result
-        ≡ onward (stand_by s.figures s.age s.first s.last s.ceiling h) (λ own. accepted (added_pair own h)) }
+        let own = stand_by s.figures s.age s.first s.last s.ceiling h in
+        outcome_of result ≡ onward own (λ t. accepted (added_pair t h)) }
 {
     let stand = dosing.stand;
     let figures = stand.figures;
@@ -71,12 +71,12 @@ fn dose_by(dosing: Dosing, h: Hour) -> Result<Bounds, Refusal>
     Ok(counted::pair_alone(dosing, Passed { hour: h }))
 }
 
-/// What an hour adds to POD1: its pair where it is counted, else 0 and 0. It goes by the tree with a number, the first
-/// and the last day of the period and the ozone ceiling (0: none); tree 7 goes by its parameters and by leaf age by
-/// warmth (all 0: by the day), which are not looked at for any other tree. Refused by rows 17, 24, 25, 5, 7, 18 and 10,
-/// in that order.
-// Kept: a struct of the first six would be a `Stand` with a tree's number for its figures, filled at each call and taken
-// apart in the promise.
+/// What an hour adds to POD1: its pair where it is counted, else 0 and 0. It goes by the tree with a
+/// number, the first and the last day of the period and the ozone ceiling (0: none); tree 7 goes by its
+/// parameters and by leaf age by warmth (all 0: by the day), which are not looked at for any other tree.
+/// Refused by rows 17, 24, 25, 5, 7, 18 and 10, in that order.
+// Kept: a struct of the first six would be a `Stand` with a tree's number for its figures, filled at
+// each call and taken apart in the promise.
 pub fn hour_dose(
     tree: u8,
     parameters: Parameters,

@@ -1,5 +1,5 @@
--- The root of leaf/wind, rounded up to k decimals, is the least that reaches it and never rises as k grows, nor as the
--- wind does; `root_low` and the next enclose it.
+-- The root of leaf/wind, rounded up to k decimals, is the least that reaches it and never rises as k grows,
+-- nor as the wind does; `root_low` and the next enclose it.
 use Rattle.std.proofs.lemmas.Bool.Decides.{nat_tests}
 use mathlib.Core.Path.{◌≡◌, ap, ◌∙◌}
 use Prim.Native.Nat.{ℕ, ◌+◌, ◌-◌, ◌*◌, ◌/◌, ◌^◌, ◌≤◌, ◌<◌}
@@ -53,19 +53,26 @@ wind-blows wind = omega arith
 
 -- ---- Rb as the wind rises
 
-root_up_at-falls : (k leaf wind wind' : ℕ) → 0 < wind → wind ≤ wind' → root_up_at k leaf wind' ≤ root_up_at k leaf wind
+root_up_at-falls :
+    (k leaf wind wind' : ℕ) → 0 < wind → wind ≤ wind' →
+    root_up_at k leaf wind' ≤ root_up_at k leaf wind
 root_up_at-falls k leaf wind wind' blows h =
     let r = root_up_at k leaf wind in
-    root_up_at-least k leaf wind' r (omega (arith, root_up_at-reaches k leaf wind blows, mul-le-mul_left (r * r) h))
+    root_up_at-least k leaf wind' r
+    (omega (arith, root_up_at-reaches k leaf wind blows, mul-le-mul_left (r * r) h))
 
 resistance_at-falls :
-    (leaf k wind wind' : ℕ) → wind ≤ wind' → resistance_at k leaf wind' ≼ resistance_at k leaf wind
+    (leaf k wind wind' : ℕ) → wind ≤ wind' →
+    resistance_at k leaf wind' ≼ resistance_at k leaf wind
 unfolding resistance_at
 resistance_at-falls leaf k wind wind' h =
-    let fewer = root_up_at-falls k leaf (wind_read wind) (wind_read wind') (wind-blows wind) (omega (arith, h)) in
-    ⊗-mono (≼_refl (natural 195)) (over-le (ten-pos k) (ten-pos k) (mul-le-mul_right (10 ^ k) fewer))
+    let read : wind_read wind ≤ wind_read wind' = omega (arith, h) in
+    let fewer = root_up_at-falls k leaf (wind_read wind) (wind_read wind') (wind-blows wind) read in
+    ⊗-mono (≼_refl (natural 195))
+    (over-le (ten-pos k) (ten-pos k) (mul-le-mul_right (10 ^ k) fewer))
 
-resistance_at-level : (leaf k wind : ℕ) → wind ≤ 10 → resistance_at k leaf wind ≡ resistance_at k leaf 10
+resistance_at-level :
+    (leaf k wind : ℕ) → wind ≤ 10 → resistance_at k leaf wind ≡ resistance_at k leaf 10
 unfolding resistance_at
 resistance_at-level leaf k wind h =
     let read : wind_read wind ≡ 10 = omega (arith, h) in rw read

@@ -47,9 +47,10 @@ measured-limited ps e = grind (arith, nat_tests, parameters-sound, most_dose-le)
 
 -- which row 24 lets pass
 pub named-sound :
-    (ps : Parameters) (tree : ℕ) → eqb tree 7 && parameter_out ps ≡ false → (f : Figures) → figures_in ps tree ≡ Some f →
-    Sound f
-named-sound ps tree passed f chosen = grind (arith, nat_tests, passed, chosen, figures-in-sound ps tree f)
+    (ps : Parameters) (tree : ℕ) → eqb tree 7 && parameter_out ps ≡ false →
+    (f : Figures) → figures_in ps tree ≡ Some f → Sound f
+named-sound ps tree passed f chosen =
+    grind (arith, nat_tests, passed, chosen, figures-in-sound ps tree f)
 
 pub record TreeNamed (ps : Parameters) (tree : ℕ) (f : Figures) : Type 0 where
   pub chosen : figures_in ps tree ≡ Some f
@@ -63,7 +64,8 @@ tree-named ps tree f e =
 
 answered :
     (ps : Parameters) (age : Age) (tree first last ceiling : ℕ) (h : Hour) (pair : Bounds) →
-    hour_dose_of ps tree age first last ceiling h ≡ accepted pair → Answered ps age tree first last ceiling h pair
+    hour_dose_of ps tree age first last ceiling h ≡ accepted pair →
+    Answered ps age tree first last ceiling h pair
 unfolding hour_dose_of
 answered ps age tree first last ceiling h pair e =
     let found = onward-passed (stand_for ps tree (age_by tree age) first last ceiling h) _ pair e in

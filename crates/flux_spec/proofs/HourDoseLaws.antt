@@ -59,7 +59,9 @@ pub record FiguresNamed (ps : Parameters) (tree : ℕ) (f : Figures) : Type 0 wh
   pub passed : eqb tree 7 && parameter_out ps ≡ false
   pub chosen : figures_in ps tree ≡ Some f
 
-pub figures-named : (ps : Parameters) (tree : ℕ) (f : Figures) → tree_of ps tree ≡ accepted f → FiguresNamed ps tree f
+pub figures-named :
+    (ps : Parameters) (tree : ℕ) (f : Figures) → tree_of ps tree ≡ accepted f →
+    FiguresNamed ps tree f
 unfolding tree_of
 figures-named ps tree f e =
     let within = row-passed (eqb tree 7 && parameter_out ps) _ _ f e in
@@ -69,31 +71,32 @@ figures-named ps tree f e =
 -- ---- refused, by each row before the tree's figures
 
 module _ (ps : Parameters) (tree : ℕ) (age : Age) (first last ceiling : ℕ) (h : Hour) where
-  pub ceiling-out-is : ceiling_out ceiling ≡ true → refused (17, 0) ≡ hour_dose_of ps tree age first last ceiling h
+  abbrev whole : Outcome Bounds
+  whole = hour_dose_of ps tree age first last ceiling h
+
+  pub ceiling-out-is : ceiling_out ceiling ≡ true → refused (17, 0) ≡ whole
   unfolding hour_dose_of stand_for
   ceiling-out-is out = rw out
 
   module _ (within : ceiling_out ceiling ≡ false) where
-    pub parameter-out-is :
-        eqb tree 7 && parameter_out ps ≡ true → refused (24, 0) ≡ hour_dose_of ps tree age first last ceiling h
+    pub parameter-out-is : eqb tree 7 && parameter_out ps ≡ true → refused (24, 0) ≡ whole
     unfolding hour_dose_of stand_for
     parameter-out-is out = rw (within, out)
 
     module _ (passed : eqb tree 7 && parameter_out ps ≡ false) where
-      pub warmth-out-is :
-          warmth_broken (age_by tree age).warmth ≡ true → refused (25, 0) ≡ hour_dose_of ps tree age first last ceiling h
+      pub warmth-out-is : warmth_broken (age_by tree age).warmth ≡ true → refused (25, 0) ≡ whole
       unfolding hour_dose_of stand_for
       warmth-out-is out = rw (within, passed, out)
 
       module _ (warm : warmth_broken (age_by tree age).warmth ≡ false) where
-        pub no-tree-is : figures_in ps tree ≡ None → refused (5, 0) ≡ hour_dose_of ps tree age first last ceiling h
+        pub no-tree-is : figures_in ps tree ≡ None → refused (5, 0) ≡ whole
         unfolding hour_dose_of stand_for
         no-tree-is e = rw (within, passed, warm, e)
 
         pub named-is :
             (f : Figures) → figures_in ps tree ≡ Some f → (o : Outcome Bounds) →
-            o ≡ onward (stand_by f (age_by tree age) first last ceiling h) (λ stand. accepted (added_pair stand h)) →
-            o ≡ hour_dose_of ps tree age first last ceiling h
+            o ≡ onward (stand_by f (age_by tree age) first last ceiling h) (λ s. accepted (added_pair s h)) →
+            o ≡ whole
         unfolding hour_dose_of stand_for
         named-is f e o is = rw (within, passed, warm, e) is
 
@@ -113,16 +116,21 @@ module _ (f : Figures) (age : Age) (first last ceiling : ℕ) (h : Hour) where
     lacks-ceiling-is lacks = rw (days, lacks)
 
     module _ (has : lacks_ceiling ceiling h.ozone ≡ false) where
-      pub reading-out-is : (row : ℕ × ℕ) → hour_checked (soil_unfit f.measure h.soil) h ≡ refused row → refused row ≡ dose
+      pub reading-out-is :
+          (row : ℕ × ℕ) → hour_checked (soil_unfit f.measure h.soil) h ≡ refused row →
+          refused row ≡ dose
       unfolding stand_by
       reading-out-is row out = rw (days, has, out)
 
       module _ (passed : hour_checked (soil_unfit f.measure h.soil) h ≡ accepted tt) where
-        pub stand-is : stand_by f age first last ceiling h ≡ accepted (stand_of f age first last ceiling)
+        pub stand-is :
+            stand_by f age first last ceiling h ≡ accepted (stand_of f age first last ceiling)
         unfolding stand_by
         stand-is = rw (days, has, passed)
 
-        pub dosed-is : (pair : Bounds) → pair ≡ added_pair (stand_of f age first last ceiling) h → accepted pair ≡ dose
+        pub dosed-is :
+            (pair : Bounds) → pair ≡ added_pair (stand_of f age first last ceiling) h →
+            accepted pair ≡ dose
         dosed-is pair p = rw (stand-is, p)
 
 -- ---- an hour that is not counted
@@ -148,7 +156,8 @@ checked-fit m h own e = grind arith
 
 -- ---- what an hour that no row refuses has passed
 
-pub record Passed (ps : Parameters) (tree : ℕ) (age : Age) (first last ceiling : ℕ) (h : Hour) (stand : Stand) : Type 0 where
+pub record Passed
+    (ps : Parameters) (tree : ℕ) (age : Age) (first last ceiling : ℕ) (h : Hour) (stand : Stand) : Type 0 where
   pub named : tree_of ps tree ≡ accepted stand.figures
   pub is : stand ≡ stand_of stand.figures age first last ceiling
   pub warm : warmth_broken age.warmth ≡ false
@@ -157,7 +166,8 @@ pub record Passed (ps : Parameters) (tree : ℕ) (age : Age) (first last ceiling
 
 pub stand-passed :
     {ps : Parameters} (tree : ℕ) (age : Age) (first last ceiling : ℕ) (h : Hour) (stand : Stand) →
-    stand_for ps tree age first last ceiling h ≡ accepted stand → Passed ps tree age first last ceiling h stand
+    stand_for ps tree age first last ceiling h ≡ accepted stand →
+    Passed ps tree age first last ceiling h stand
 unfolding stand_for stand_by
 stand-passed {ps} tree age first last ceiling h stand e =
     let within = row-passed (ceiling_out ceiling) _ _ stand e in
@@ -189,12 +199,14 @@ pub frame-stand :
     (header : Header) (age : Age) (ceiling : ℕ) (f : Figures) (raw : RawHour) (ps : Parameters) →
     tree_of ps header.tree ≡ accepted f → warmth_broken age.warmth ≡ false →
     period_out header (f.f1 + f.f4) ≡ false → header.days ≤ 366 → ceiling_out ceiling ≡ false →
-    lacks_ceiling ceiling (ozone_of raw.ozone) ≡ false → checked (Record.Hour (hour_of raw f.measure)) ≡ accepted tt →
+    lacks_ceiling ceiling (ozone_of raw.ozone) ≡ false →
+    checked (Record.Hour (hour_of raw f.measure)) ≡ accepted tt →
     stand_for ps header.tree age header.first header.last ceiling (hour_of raw f.measure)
     ≡ accepted (stand_of f age header.first header.last ceiling)
 unfolding hour_of stand_for
 frame-stand header age ceiling f raw ps e warm period most within has passed =
     let named = figures-named ps header.tree f e in
-    let fit = checked-fit f.measure (hour_of raw f.measure) (own-measure f.measure raw.soil) passed in
+    let own = own-measure f.measure raw.soil in
+    let fit = checked-fit f.measure (hour_of raw f.measure) own passed in
     rw (within, named.passed, warm, named.chosen)
     (stand-is f age header.first header.last ceiling _ (days-in header f period most) has fit)

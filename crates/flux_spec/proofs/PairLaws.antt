@@ -123,7 +123,8 @@ module _ (stand : Stand) (h : Hour) {m n : ℕ} (more : m ≤ n) where
   upper_of-mono = grind (arith, nat_tests, share_up-same, quotient-mono, concentration_up-mono)
 
   dose_at-more : (k : ℕ) → dose_at k stand (with_ozone m h) ≼ dose_at k stand (with_ozone n h)
-  dose_at-more k = grind (arith, nat_tests, share_at-same, dose_at-is, dose-mono, concentration-mono, ≼_refl)
+  dose_at-more k =
+      grind (arith, nat_tests, share_at-same, dose_at-is, dose-mono, concentration-mono, ≼_refl)
 
 pub ozone-grows : (stand : Stand) (h : Hour) → OzoneGrows stand h
 ozone-grows stand h = grind (arith, nat_tests, lower_of-mono, upper_of-mono, dose_at-more)

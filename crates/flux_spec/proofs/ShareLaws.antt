@@ -7,7 +7,7 @@ use mathlib.Core.Bool.{Bool}
 use native.Mathlib.Nat.{mul-le-mul}
 use native.Mathlib.Omega.{arith}
 use lib.Dec.{lit≤}
-use Rattle.exact.specs.Frac.{Frac, natural, ◌over◌, ◌⊗◌, ◌≼◌}
+use Rattle.exact.specs.Frac.{Frac, natural, ◌over◌, ◌⊗◌, ◌≼◌, greater}
 use Rattle.exact.specs.Rounding.{round_up, round_down, times_up, times_down}
 use Rattle.exact.proofs.FracLaws.{≼_refl, ≼_trans, ≼-antisym, ≈-le, ⊗-mono, ⊗-comm, ⊗-le-one}
 use Rattle.exact.proofs.RoundingLaws.{times_down_lem, times-up, product-down, product-up, over-gap, over-order, times-order, times-gap, times_down-le, times_up-le}
@@ -18,7 +18,7 @@ use Rattle.humidity_spec.specs.Pair.{entry_k}
 use Rattle.flux_spec.specs.declared.Stand.{Stand}
 use Rattle.flux_spec.specs.Light.{light_at, light_low, light_up}
 use Rattle.flux_spec.specs.Deficit.{HasVpd}
-use Rattle.flux_spec.specs.Conductance.{above_of, phenology_in, opening_at, share_at}
+use Rattle.flux_spec.specs.Conductance.{above_of, phenology_in, limited_at, opening_at, shared, share_at}
 use Rattle.flux_spec.specs.Pair.{opening_low, opening_up, share_low, share_up}
 use Rattle.flux_spec.specs.Facts.{ShareFacts, HourFacts}
 use Rattle.flux_spec.proofs.BudgetLaws.{is_steep, width_in, near_in}
@@ -38,12 +38,21 @@ pair-le : (a b : ℕ) → a ≤ 10 ^ 9 → b ≤ 10 ^ 9 + 1 → round_up ((a * b
 unfolding round_up
 pair-le a b p q = omega (arith, mul-le-mul p q)
 
+shared-is :
+    (floor phen light limited : Frac) →
+    shared floor phen light limited ≡ phen ⊗ light ⊗ greater floor limited
+unfolding shared
+shared-is floor phen light limited = refl
+
 -- other laws go by this equation, not by the definition's text
 pub share_at-is :
     (stand : Stand) (h : Hour) (k : ℕ) →
-    share_at k stand h ≡ phenology_in stand h ⊗ light_at k stand.figures h.ppfd ⊗ opening_at k stand.figures h
-unfolding share_at
-share_at-is stand h k = refl
+    share_at k stand h
+    ≡ phenology_in stand h ⊗ light_at k stand.figures h.ppfd ⊗ opening_at k stand.figures h
+unfolding share_at opening_at
+share_at-is stand h k =
+    let f = stand.figures in
+    shared-is (f.fmin over 100) (phenology_in stand h) (light_at k f h.ppfd) (limited_at k f h)
 
 module _ (stand : Stand) (s : Sound stand.figures) (h : Hour) where
   abbrev f : Figures
@@ -66,16 +75,20 @@ module _ (stand : Stand) (s : Sound stand.figures) (h : Hour) where
 
   -- f_light stands outside the floor f_min
   share-dark : (k : ℕ) → light_at k f h.ppfd ≼ natural 0 → share_at k stand h ≼ natural 0
-  unfolding share_at
-  share-dark k dark = ≼_trans (⊗-mono (⊗-mono (≼_refl phen) dark) (≼_refl (opening_at k f h))) (record { cross = omega arith })
+  share-dark k dark =
+      rw (share_at-is stand h k)
+      (≼_trans (⊗-mono (⊗-mono (≼_refl phen) dark) (≼_refl (opening_at k f h)))
+      (record { cross = omega arith }))
 
   share_at-le : (k : ℕ) → light_at k f h.ppfd ≼ natural 1 → share_at k stand h ≼ natural 1
-  share_at-le k light-le = rw (share_at-is stand h k) (⊗-le-one (⊗-le-one phen-le light-le) (opening_at-le f s h k))
+  share_at-le k light-le =
+      rw (share_at-is stand h k) (⊗-le-one (⊗-le-one phen-le light-le) (opening_at-le f s h k))
 
   module _ (has : HasVpd h.air (above_of h.temperature)) (light-mono : (k l : ℕ) → k ≤ l → light_at k f h.ppfd ≼ light_at l f h.ppfd) where
     pub share_at-mono : (k l : ℕ) → k ≤ l → share_at k stand h ≼ share_at l stand h
     share_at-mono k l j =
-        rw (share_at-is stand h k, share_at-is stand h l) (⊗-mono (⊗-mono (≼_refl phen) (light-mono k l j)) (opening_at-mono f s h has j))
+        rw (share_at-is stand h k, share_at-is stand h l)
+        (⊗-mono (⊗-mono (≼_refl phen) (light-mono k l j)) (opening_at-mono f s h has j))
 
     -- ---- the pair encloses it
 
@@ -85,7 +98,8 @@ module _ (stand : Stand) (s : Sound stand.figures) (h : Hour) where
     unfolding share_low
     share-low k₀ light-low k i e j =
         rw (share_at-is stand h k)
-        (≼_trans (product-down low (opening_low f h) (10 ^ 9) (10 ^ 9) (10 ^ 7) (10 ^ 11) (omega arith))
+        (≼_trans
+        (product-down low (opening_low f h) (10 ^ 9) (10 ^ 9) (10 ^ 7) (10 ^ 11) (omega arith))
         (⊗-mono
         (≼_trans (times_down_lem (light_low f h.ppfd) (10 ^ 9) phen (≼_trans light-low (light-mono k₀ k j)) (≼_refl phen)) (⊗-comm (light_at k f h.ppfd) phen))
         (opening-low f s h has k i e)))

@@ -17,11 +17,16 @@ abbrev pub above_of : ℤ → ℕ
 above_of (pos n) = n + 500
 above_of (negsuc n) = 499 - n
 
+-- f_temp·f_VPD·f_SW
+abbrev pub limited_at : ℕ → Figures → Hour → Frac
+limited_at k f h =
+    temperature_at k f (above_of h.temperature)
+    ⊗ deficit_at k f h.air (above_of h.temperature)
+    ⊗ soil_water_of f (soil_number h.soil)
+
 -- max(f_min, f_temp·f_VPD·f_SW)
 unfoldable pub opening_at : ℕ → Figures → Hour → Frac
-opening_at k f h =
-    greater (f.fmin over 100)
-    (temperature_at k f (above_of h.temperature) ⊗ deficit_at k f h.air (above_of h.temperature) ⊗ soil_water_of f (soil_number h.soil))
+opening_at k f h = greater (f.fmin over 100) (limited_at k f h)
 
 -- f_phen, the same at every k: by the temperature sum where a frame of warmth stands (W-213)
 unfoldable pub phenology_in : Stand → Hour → Frac
@@ -30,9 +35,14 @@ phenology_in stand h =
     (by_warmth stand.figures stand.age.warmth stand.age.sum)
     (phenology_of stand.figures stand.first stand.last h.day (above_of h.temperature))
 
--- f_phen × f_light × max(..)
+-- f_phen × f_light × max(f_min, ..): f_light stands outside the floor f_min
+unfoldable pub shared : Frac → Frac → Frac → Frac → Frac
+shared floor phen light limited = phen ⊗ light ⊗ greater floor limited
+
 unfoldable pub share_at : ℕ → Stand → Hour → Frac
-share_at k stand h = phenology_in stand h ⊗ light_at k stand.figures h.ppfd ⊗ opening_at k stand.figures h
+share_at k stand h =
+    shared (stand.figures.fmin over 100) (phenology_in stand h) (light_at k stand.figures h.ppfd)
+    (limited_at k stand.figures h)
 
 -- gmax × that / 41000, in m/s
 abbrev pub conductance : ℕ → Frac → Frac

@@ -96,4 +96,5 @@ pub record Enclosure : Type 0 where
   pub pair : (stand : Stand) → Sound stand.figures → stand.ceiling ≤ 5000 → (h : Hour) → checked (Record.Hour h) ≡ accepted tt → PairEnclosed stand h
   pub answer :
       (ps : Parameters) (age : Age) (tree first last ceiling : ℕ) (h : Hour) (pair : Bounds) →
-      hour_dose_of ps tree age first last ceiling h ≡ accepted pair → Answered ps age tree first last ceiling h pair
+      hour_dose_of ps tree age first last ceiling h ≡ accepted pair →
+      Answered ps age tree first last ceiling h pair

@@ -1,5 +1,5 @@
--- The facts of ozone's concentration, of f_light, of the share of gmax and of the boundary layer's resistance, for any
--- sound figures, period and hour.
+-- The facts of ozone's concentration, of f_light, of the share of gmax and of the boundary layer's
+-- resistance, for any sound figures, period and hour.
 use Rattle.std.specs.Prelude.{ℕ, ◌+◌, ◌*◌, ◌≤◌, ◌≡◌, pos}
 use Rattle.exact.specs.Frac.{natural, ◌over◌, ◌⊗◌, ◌≼◌, ◌≈◌, Between}
 use Rattle.trees.specs.declared.Figures.{Figures}
@@ -46,7 +46,8 @@ pub record ShareFacts (stand : Stand) (h : Hour) : Type 0 where
 -- Rb, for a leaf in mm and a wind in cm/s, worked out at k
 pub record BoundaryFacts (leaf : ℕ) : Type 0 where
   -- it falls as the wind rises
-  pub falls : (k wind wind' : ℕ) → wind ≤ wind' → resistance_at k leaf wind' ≼ resistance_at k leaf wind
+  pub falls :
+      (k wind wind' : ℕ) → wind ≤ wind' → resistance_at k leaf wind' ≼ resistance_at k leaf wind
   -- a wind under 10 cm/s is read as 10
   pub level : (k wind : ℕ) → wind ≤ 10 → resistance_at k leaf wind ≡ resistance_at k leaf 10
 

@@ -1,6 +1,6 @@
--- What an hour adds to POD1, as two whole numbers; rows 17, 24, 25, 5, 7, 18 and 10, in that order, for a
--- ceiling out of range, tree 7's parameters or warmth that are out, a number that is no tree, days that are no
--- period, a missing ozone with no ceiling and readings out of range.
+-- What an hour adds to POD1, as two whole numbers; rows 17, 24, 25, 5, 7, 18 and 10, in that order, for
+-- a ceiling out of range, tree 7's parameters or warmth that are out, a number that is no tree, days that
+-- are no period, a missing ozone with no ceiling and readings out of range.
 use Rattle.std.specs.Prelude.{ℕ, ◌+◌, Bool, true, false, cond, ◌&&◌, ◌||◌, eqb}
 use Rattle.exact.specs.declared.Bounds.{Bounds}
 use Rattle.trees.specs.declared.Measure.{Measure}
@@ -22,7 +22,8 @@ use Rattle.flux_spec.specs.Pair.{hour_pair}
 unfoldable pub tree_of : Parameters → ℕ → Outcome Figures
 tree_of ps tree = row 24 (eqb tree 7 && parameter_out ps) (on_tree (figures_in ps tree) (λ f. accepted f))
 
--- leaf age by warmth is tree 7's: of any other tree what is given is not looked at, and its leaves age by the day
+-- leaf age by warmth is tree 7's: of any other tree what is given is not looked at, and its leaves age by
+-- the day
 abbrev pub age_by : ℕ → Age → Age
 age_by tree age = record { warmth = cond (eqb tree 7) age.warmth no_warmth; sum = age.sum }
 
@@ -45,8 +46,8 @@ other_measure Measure.Water (Soil.Water n) = false
 abbrev pub soil_unfit : Measure → Soil → Bool
 soil_unfit measure soil = soil_out soil || other_measure measure soil
 
--- what the dose goes by besides the hour, by the tree's figures; row 10 names the first field out of range, and
--- so is a soil in the other measure
+-- what the dose goes by besides the hour, by the tree's figures; row 10 names the first field out of range,
+-- and so is a soil in the other measure
 unfoldable pub stand_by : Figures → Age → ℕ → ℕ → ℕ → Hour → Outcome Stand
 stand_by f age first last ceiling h =
     row 7 (days_out f first last)
@@ -68,4 +69,4 @@ added_pair stand h = cond (is_counted h) (hour_pair stand h) (record { lower = 0
 
 unfoldable pub hour_dose_of : Parameters → ℕ → Age → ℕ → ℕ → ℕ → Hour → Outcome Bounds
 hour_dose_of ps tree age first last ceiling h =
-    onward (stand_for ps tree (age_by tree age) first last ceiling h) (λ stand. accepted (added_pair stand h))
+    onward (stand_for ps tree (age_by tree age) first last ceiling h) (λ s. accepted (added_pair s h))

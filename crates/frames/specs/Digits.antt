@@ -13,8 +13,8 @@ is_digit c = within 48 57 c || within 65 70 c
 unfoldable pub value_of : ℕ → ℕ
 value_of c = cond (within 48 57 c) (c - 48) (cond (within 65 70 c) (c - 55) 0)
 
--- the low four bits of a character, with 9 more for each 64 in it: a digit's value, and of a character that is no
--- digit a number below 16 that says nothing
+-- the low four bits of a character, with 9 more for each 64 in it: a digit's value, and of a character that
+-- is no digit a number below 16 that says nothing
 unfoldable pub bits_of : ℕ → ℕ
 bits_of c = (c % 16 + 9 * (c / 64)) % 16
 

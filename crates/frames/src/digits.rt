@@ -15,8 +15,8 @@ pub fn is_digit(c: u8) -> bool
     (48 <= c) & (c <= 57) | (65 <= c) & (c <= 70)
 }
 
-/// The value of a digit: its low four bits, for 0 is the byte 48, and 9 more for a letter, for A is the byte 65.
-/// No test comes before it, so it is taken of any character.
+/// The value of a digit: its low four bits, for 0 is the byte 48, and 9 more for a letter, for A is the
+/// byte 65. No test comes before it, so it is taken of any character.
 #[tactic(auto, unfolding(crate::specs::Digits::bits_of))]
 pub fn digit_value(c: u8) -> u8
     ensures value { is_digit c ≡ true → result ≡ value_of c }

@@ -45,12 +45,14 @@ module _ (f : Figures) (first last : ℕ) (fits : first + f.f1 + f.f4 ≤ last) 
 
   -- where the rise ends f_phen is 1, and so is the line; and so where the fall begins
   ramps-rising :
-      (day : ℕ) → first ≤ day → day ≤ first + f.f1 → by_ramps f first last day ≈ straight f.a 100 (day - first) f.f1
+      (day : ℕ) → first ≤ day → day ≤ first + f.f1 →
+      by_ramps f first last day ≈ straight f.a 100 (day - first) f.f1
   unfolding by_ramps
   ramps-rising day p q = grind (arith, nat_tests, straight-end)
 
   ramps-falling :
-      (day : ℕ) → last ≤ day + f.f4 → day ≤ last → by_ramps f first last day ≈ straight f.e 100 (last - day) f.f4
+      (day : ℕ) → last ≤ day + f.f4 → day ≤ last →
+      by_ramps f first last day ≈ straight f.e 100 (last - day) f.f4
   unfolding by_ramps
   ramps-falling day p q = grind (arith, nat_tests, straight-end)
 
@@ -86,7 +88,8 @@ module _ (f : Figures) (s : Sound f) where
   ramp-facts :
       f.phenology ≡ Ramps → (first last x : ℕ) → first + f.f1 + f.f4 ≤ last → RampFacts f first last (λ day. phenology_of f first last day x)
   unfolding phenology_of by_ramps
-  ramp-facts e first last x fits = rw e (grind (arith, ramps-first, ramps-rising, ramps-between, ramps-falling, ramps-last))
+  ramp-facts e first last x fits =
+      rw e (grind (arith, ramps-first, ramps-rising, ramps-between, ramps-falling, ramps-last))
 
   dip-facts : f.phenology ≡ Dip → (first last x : ℕ) → DipFacts (λ day. phenology_of f first last day x)
   unfolding phenology_of by_dip straight

@@ -1,5 +1,5 @@
--- The factor facts, for any sound figures: each factor's limits, its values at the ends of its pieces, and
--- which way it goes with its reading. A temperature x is in tenths of a degree above -50.0 °C.
+-- The factor facts, for any sound figures: each factor's limits, its values at the ends of its pieces,
+-- and which way it goes with its reading. A temperature x is in tenths of a degree above -50.0 °C.
 use Rattle.std.specs.Prelude.{ℕ, ◌+◌, ◌-◌, ◌*◌, ◌^◌, ◌≤◌, ◌<◌, ◌≡◌}
 use Rattle.trees.specs.declared.Measure.TheVariants.{Suction, Water}
 use Rattle.trees.specs.declared.Phenology.TheVariants.{Ramps, Dip, Temperature}
@@ -17,11 +17,13 @@ use Rattle.exact.specs.Frac.{Frac, ◌over◌, natural, ◌⊕◌, ◌⊗◌, st
 pub record RampFacts (f : Figures) (first last : ℕ) (on : ℕ → Frac) : Type 0 where
   -- a at A, where there is a first ramp, and straight to 1
   pub starts : 0 < f.f1 → on first ≈ f.a over 100
-  pub rising : (day : ℕ) → first ≤ day → day ≤ first + f.f1 → on day ≈ straight f.a 100 (day - first) f.f1
+  pub rising :
+      (day : ℕ) → first ≤ day → day ≤ first + f.f1 → on day ≈ straight f.a 100 (day - first) f.f1
   -- 1 from A+f1 to E-f4, both included: a ramp of 0 days is none
   pub between : (day : ℕ) → first + f.f1 ≤ day → day + f.f4 ≤ last → on day ≈ natural 1
   -- straight to e, at E, where there is a last ramp
-  pub falling : (day : ℕ) → last ≤ day + f.f4 → day ≤ last → on day ≈ straight f.e 100 (last - day) f.f4
+  pub falling :
+      (day : ℕ) → last ≤ day + f.f4 → day ≤ last → on day ≈ straight f.e 100 (last - day) f.f4
   pub ends : 0 < f.f4 → on last ≈ f.e over 100
 
 -- each piece with both its ends, so that the pieces meet on days 80, 210, 260 and 320

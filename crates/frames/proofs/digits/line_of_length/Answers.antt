@@ -15,7 +15,8 @@ loop-i-init c = (search rules, read_none _)
 pub loop-i-preserved : goal.loop-i-preserved
 loop-i-preserved c = let l = c.args.s.now in (
   rw c.is_digit-digits.ensures (sym (all-step c.loop-i.digits l c.loop-i.i (omega arith)) ∙ c.loop-i.invariant.0),
-  rw c.digit_value.ensures.of_any (read_more l c.loop-i.i c.loop-i.values (omega arith) c.loop-i.invariant.1),
+  rw c.digit_value.ensures.of_any
+      (read_more l c.loop-i.i c.loop-i.values (omega arith) c.loop-i.invariant.1),
 )
 
 pub returns : goal.returns
