@@ -27,11 +27,14 @@ fn pair_by(dosing: Dosing, passed: Passed, cells: &mut [u64]) -> Bounds
 /// The pair of an hour by the stand that a memory is for, whether the hour is counted or not.
 #[inline(always)]
 pub fn pair_of(memory: &mut Memory, passed: Passed) -> Bounds
-    ensures is { result ≡ hour_pair memory.old.dosing.stand passed.hour }
-    ensures stand { memory.new.dosing.stand ≡ memory.old.dosing.stand }
+    ensures is { result ≡ hour_pair memory.old.stand passed.hour }
+    ensures stand { memory.new.stand ≡ memory.old.stand }
     ensures tree { memory.new.of ≡ memory.old.of }
 {
-    pair_by(memory.dosing, passed, &mut memory.cells)
+    let dosing = Dosing {
+        stand: memory.stand,
+    };
+    pair_by(dosing, passed, &mut memory.cells)
 }
 
 // What an hour adds by itself: its pair where G > 50, else 0 and 0. A memory of one remembers no

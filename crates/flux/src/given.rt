@@ -10,9 +10,9 @@ ghost use Rattle.flux.specs.Given.{Sound-prop};
 use flux_spec::Stand;
 use frames::Hour;
 
-/// By a tree's sound figures, which have f_temp of their curve's table, and a ceiling in range.
+// By a tree's sound figures, which have f_temp of their curve's table, and a ceiling in range.
 #[derive(Clone, Copy)]
-pub struct Dosing {
+pub(crate) struct Dosing {
     pub stand: Stand,
     pub ghost sound: { Sound stand.figures } by { Sound-prop stand.figures },
     pub ghost tabled: { HasTable stand.figures },

@@ -22,11 +22,12 @@ ghost use Rattle.flux_spec.specs.Enclosure.{Enclosure};
 ghost use Rattle.flux_spec.specs.Facts.{HourFacts};
 ghost use Rattle.flux_spec.specs.HourDose.{tree_of, age_by, stand_by, added_pair, hour_dose_of};
 
-use exact::Bounds;
 pub use counted::pair_of;
+use exact::Bounds;
 pub use flux_spec::{Age, Stand};
 use frames::{Hour, Parameters, Refusal};
-pub use given::{Dosing, Passed};
+use given::Dosing;
+pub use given::Passed;
 pub use remembered::{Memory, no_memory, prepare};
 use trees::Figures;
 

@@ -5,7 +5,10 @@
 // Kept for speed: trees 1 to 6 are remembered too; a year took 2 to 3 percent longer where their tables were read at each hour.
 ghost use Rattle.std.specs.Prelude.{None, Some, true, ◌≡◌, ◌-◌, ◌/◌, ◌%◌, ◌<◌, ◌≤◌};
 ghost use Rattle.std.specs.Result.{result_unwrap_or};
+ghost use Rattle.trees.specs.Sound.{Sound};
+ghost use Rattle.trees.specs.Steps.{HasTable};
 ghost use Rattle.records.specs.Answers.{outcome_of};
+ghost use Rattle.flux.specs.Given.{Sound-prop};
 ghost use Rattle.flux.specs.Remembered.{remembered_of, Remembers, Remembers-prop, IsOf, IsOf-prop, stand_with};
 
 use crate::given::Dosing;
@@ -20,10 +23,13 @@ use trees::Source;
 pub struct Memory {
     // The tree's number and parameters; none before the first.
     pub of: Option<(u8, Parameters)>,
-    pub dosing: Dosing,
+    pub stand: Stand,
     pub(crate) cells: [u64; 1101],
-    pub ghost own: { IsOf of dosing.stand.figures } by { IsOf-prop of dosing.stand.figures },
-    pub ghost kept: { Remembers dosing.stand.figures cells } by { Remembers-prop dosing.stand.figures cells },
+    pub ghost sound: { Sound stand.figures } by { Sound-prop stand.figures },
+    pub ghost few: { stand.ceiling ≤ 5000 },
+    ghost tabled: { HasTable stand.figures },
+    ghost own: { IsOf of stand.figures } by { IsOf-prop of stand.figures },
+    ghost kept: { Remembers stand.figures cells } by { Remembers-prop stand.figures cells },
 }
 
 /// One that remembers nothing, and is for no tree that was asked for.
@@ -45,7 +51,7 @@ pub fn no_memory() -> Memory
     };
     Memory {
         of: None,
-        dosing: Dosing { stand },
+        stand,
         cells: [0; 1101],
     }
 }
@@ -69,7 +75,7 @@ pub fn prepare(
     ceiling: u16,
 ) -> Result<Stand, Refusal>
     ensures is { outcome_of result ≡ stand_with parameters tree age first last ceiling }
-    ensures memory { memory.new.dosing.stand ≡ result_unwrap_or result memory.old.dosing.stand }
+    ensures memory { memory.new.stand ≡ result_unwrap_or result memory.old.stand }
 {
     let figures = crate::tree_of(parameters, tree)?;
     if records::ceiling_out(ceiling) {
@@ -86,7 +92,7 @@ pub fn prepare(
         memory.of = Some((tree, parameters));
         memory.cells = [0; 1101];
     }
-    memory.dosing = Dosing { stand };
+    memory.stand = stand;
     Ok(stand)
 }
 

@@ -15,7 +15,10 @@ unreachable-requires c =
 pub invariant_of-result : goal.invariant_of-result
 invariant_of-result c =
     let tree = tree-named _ _ _ (sym c.tree_of.ensures ∙ ap outcome_of c.in-Ok.is) in
-    record { sound = tree.sound; tabled = figures-in-tabled _ _ _ tree.chosen; few = lit≤ tt }
-
-pub invariant_of-result-2 : goal.invariant_of-result-2
-invariant_of-result-2 c = record { own = none-of _; kept = none-remembered _ 1101 }
+    record {
+      sound = tree.sound;
+      few = lit≤ tt;
+      tabled = figures-in-tabled _ _ _ tree.chosen;
+      own = none-of _;
+      kept = none-remembered _ 1101;
+    }
