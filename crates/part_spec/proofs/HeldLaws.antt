@@ -1,4 +1,5 @@
--- Bytes that hold an account: what a line and a reading answer, what an answer leaves, and the account's own bytes among those lent.
+-- Bytes that hold an account: what a line and a reading answer, what an answer leaves, and the
+-- account's own bytes among those lent.
 use Prim.Native.Nat.{ℕ, ◌≤◌}
 use mathlib.Core.Path.{◌≡◌, sym, ap, ◌∙◌}
 use mathlib.Core.List.{List}
@@ -24,7 +25,8 @@ module _ (a : Account) (b : List ℕ) (held : take_up_of b ≡ accepted a) where
   read_is = rw held
 
   -- the bytes that an answer leaves hold the account that it leaves
-  pub left-held : (o p : Outcome Account) → o ≡ p → (after : List ℕ) (code : ℕ) → LeavesBytes b o code after → take_up_of after ≡ accepted (left_of a p)
+  pub left-held : (o p : Outcome Account) → o ≡ p → (after : List ℕ) (code : ℕ)
+      → LeavesBytes b o code after → take_up_of after ≡ accepted (left_of a p)
   left-held o (accepted n) e after code k = k.holds n e
   left-held o (refused w) e after code k = ap take_up_of (k.leaves ∙ ap (bytes_after b) e) ∙ held
 
@@ -33,7 +35,8 @@ module _ (a : Account) (b : List ℕ) (held : take_up_of b ≡ accepted a) where
 module _ (lent : List ℕ) (a : Account) where
   pub lent-held : take_up_of (front lent) ≡ accepted a → take_up_of lent ≡ accepted a
   lent-held e =
-      let room : account_width ≤ length lent = omega (arith, taken-room (front lent) a e, length-take account_width lent) in
+      let room : account_width ≤ length lent =
+      omega (arith, taken-room (front lent) a e, length-take account_width lent) in
       sym (front-taken lent room) ∙ e
 
   pub front-held : take_up_of lent ≡ accepted a → take_up_of (front lent) ≡ accepted a

@@ -19,7 +19,8 @@ use Rattle.part_spec.proofs.TakenLaws.{accepted-take}
 use Rattle.part_spec.proofs.ShownLaws.{shown}
 use Rattle.part_spec.proofs.SeasonLaws.{Begun, nothing-yet, run-kept, call-step}
 
-taken_is : (a : Account) (b : List ℕ) → take_up_of b ≡ accepted a → (trial : List ℕ) → taken_in b trial ≡ taken_from trial a
+taken_is : (a : Account) (b : List ℕ) → take_up_of b ≡ accepted a → (trial : List ℕ)
+    → taken_in b trial ≡ taken_from trial a
 unfolding taken_in
 taken_is a b held trial = rw held refl
 
@@ -31,22 +32,31 @@ record Told-on (done : List Event) (ts : List Told) (left : List ℕ) : Type 0 w
   begun : Begun events
   holds : take_up_of left ≡ accepted (account_now events)
 
-calls-told : SeasonPromise → (done : List Event) → Begun done → (b left : List ℕ) (ts : List Told) → take_up_of b ≡ accepted (account_now done) → Calls b ts left → Told-on done ts left
-calls-told p done n b left ts held Calls.stop = record { events = done; told = Tellings.stop; begun = n; holds = held }
+calls-told : SeasonPromise → (done : List Event) → Begun done → (b left : List ℕ) (ts : List Told)
+    → take_up_of b ≡ accepted (account_now done) → Calls b ts left → Told-on done ts left
+calls-told p done n b left ts held Calls.stop =
+    record { events = done; told = Tellings.stop; begun = n; holds = held }
 calls-told p done n b left ts held (Calls.call {after = after} {t = t} {ts = rest} k calls) =
     let one = call-step p done n b after t held k in
     let all = calls-told p (done ++ one.more) one.next after left rest one.held calls in
-    record { events = all.events; told = Tellings.call one.telling all.told; begun = all.begun; holds = all.holds }
+    record
+    { events = all.events; told = Tellings.call one.telling all.told; begun = all.begun; holds = all.holds }
 
-module _ (p : SeasonPromise) (filling : FillingPromise) (room begun : List ℕ) (stores : Stores fresh_account room 0 begun) where
+module _ (p : SeasonPromise) (filling : FillingPromise) (room begun : List ℕ)
+    (stores : Stores fresh_account room 0 begun) where
   season-told : (left : List ℕ) (ts : List Told) → Calls (front begun) ts left → SeasonTold ts left
   season-told left ts calls =
-      let all = calls-told p [] nothing-yet (front begun) left ts (front-held begun fresh_account (stores.holds refl)) calls in
-      record { events = all.events; told = all.told; kept = run-kept p all.events all.begun; alone = filling.alone all.events all.begun.run; holds = all.holds }
+      let all =
+      calls-told p [] nothing-yet (front begun) left ts
+      (front-held begun fresh_account (stores.holds refl)) calls in
+      record
+      { events = all.events; told = all.told; kept = run-kept p all.events all.begun; alone = filling.alone all.events all.begun.run; holds = all.holds }
 
   -- ---- a trial that no line made
 
-  forged-taken : (lent trial after : List ℕ) (events : List Event) → take_up_of (front lent) ≡ accepted (account_now events) → TakesBytes lent trial 0 after → ForgedTaken events trial after
+  forged-taken : (lent trial after : List ℕ) (events : List Event)
+      → take_up_of (front lent) ≡ accepted (account_now events) → TakesBytes lent trial 0 after
+      → ForgedTaken events trial after
   forged-taken lent trial after events first k =
       let now = account_now events in
       let is = taken_is now lent (lent-held lent now first) trial in

@@ -1,4 +1,5 @@
--- An hour of floats that an account takes is an hour of kind 02 that says them, and the account takes its line.
+-- An hour of floats that an account takes is an hour of kind 02 that says them, and the account
+-- takes its line.
 use Rattle.std.proofs.lemmas.Bool.Decides.{nat_tests}
 use Prim.Native.Nat.{ℕ, zero, suc, ◌+◌, ◌*◌, ◌/◌, ◌%◌, ◌<◌}
 use mathlib.Core.Path.{◌≡◌, refl, sym, subst, ◌∙◌}
@@ -16,7 +17,8 @@ use Rattle.records.specs.declared.Raw.{Raw}
 use Rattle.records.specs.declared.Record.{Record}
 use Rattle.records.specs.Answers.{Outcome, accepted}
 use Rattle.records.specs.Ranges.{checked, lacks_ceiling}
-use Rattle.records.proofs.AnswerLaws.{refused-not-accepted, accepted-same, row-passed, onward-passed, on_tree-passed}
+use Rattle.records.proofs.AnswerLaws.{refused-not-accepted, accepted-same, row-passed}
+use Rattle.records.proofs.AnswerLaws.{onward-passed, on_tree-passed}
 use Rattle.frames.specs.Layout.{ozone_of, frame_line, hour_of}
 use Rattle.frames.specs.Frames.{sound_of, record_of}
 use Rattle.frames.proofs.RangeLaws.{period-le, checked-passed}
@@ -27,7 +29,8 @@ use Rattle.account_spec.specs.declared.Phase.{Phase}
 use Rattle.account_spec.specs.declared.Phase.TheVariants.{Fresh, Open, Closed}
 use Rattle.account_spec.specs.HourKinds.{is_mixed}
 use Rattle.account_spec.specs.Account.{is_begun, impossible}
-use Rattle.account_spec.specs.Rules.{turn_in, out_of_turn, is_due, due_of, turn_of, state_of, feed_of, feed_frame_of}
+use Rattle.account_spec.specs.Rules.{turn_in, out_of_turn, is_due, due_of, turn_of, state_of}
+use Rattle.account_spec.specs.Rules.{feed_of, feed_frame_of}
 use Rattle.account_spec.specs.Timely.{timely_of}
 use Rattle.account_spec.proofs.PossibleLaws.{Possible, possible-is}
 use Rattle.floats_spec.specs.declared.FloatReadings.{FloatReadings}
@@ -50,7 +53,9 @@ broken-not-whole e = let n : ◌≡◌ {A = ℕ} 0 1 = cc in absurd (omega arith
 remainder-broken : (x : Wholeness) {z : ℤ} (r : ℕ) → cond (eqb (suc r) 0) x broken ≡ whole z → ⊥
 remainder-broken x r e = grind (arith, nat_tests)
 
-by-rest : (s : Bool) (v d r : ℕ) (z : ℤ) → v % d ≡ r → cond (eqb r 0) (whole (signed s (v / d))) broken ≡ whole z → (n : ℕ) × (v ≡ n * d) × (signed s n ≡ z)
+by-rest : (s : Bool) (v d r : ℕ) (z : ℤ) → v % d ≡ r
+    → cond (eqb r 0) (whole (signed s (v / d))) broken ≡ whole z
+    → (n : ℕ) × (v ≡ n * d) × (signed s n ≡ z)
 by-rest s v d zero z e f = (v / d, divided-back v d e, whole-same f)
 by-rest s v d (suc r) z e f = absurd (remainder-broken _ r f)
 
@@ -60,10 +65,12 @@ whole-back nan z e = broken-not-whole e
 whole-back (inf s) z e = broken-not-whole e
 whole-back (fin s m e) z f = by-rest s (m * up e) (down e) (m * up e % down e) z refl f
 
-field-passed : {A : Type 0} (f : ℕ) (x : Float) (next : ℤ → Outcome A) (a : A) → in_field f (whole_of x) next ≡ accepted a → (z : ℤ) × IsWhole x z × (next z ≡ accepted a)
+field-passed : {A : Type 0} (f : ℕ) (x : Float) (next : ℤ → Outcome A) (a : A)
+    → in_field f (whole_of x) next ≡ accepted a → (z : ℤ) × IsWhole x z × (next z ≡ accepted a)
 field-passed f x next a e = by (whole_of x) refl e
   where
-    by : (o : Wholeness) → whole_of x ≡ o → in_field f o next ≡ accepted a → (z : ℤ) × IsWhole x z × (next z ≡ accepted a)
+    by : (o : Wholeness) → whole_of x ≡ o → in_field f o next ≡ accepted a
+        → (z : ℤ) × IsWhole x z × (next z ≡ accepted a)
     by (whole z) is e = (z, whole-back x z is, e)
     by broken is e = refused-not-accepted e
 
@@ -77,7 +84,8 @@ wholes-back r w e =
     let f = field-passed 5 r.vpd _ w d.2 in
     let g = field-passed 6 r.wind _ w f.2 in
     let h = field-passed 7 r.soil _ w g.2 in
-    subst (AreWhole r) (accepted-same h.2) (record { ozone = a.1; ppfd = b.1; radiation = c.1; temperature = d.1; vpd = f.1; wind = g.1; soil = h.1 })
+    subst (AreWhole r) (accepted-same h.2)
+    (record { ozone = a.1; ppfd = b.1; radiation = c.1; temperature = d.1; vpd = f.1; wind = g.1; soil = h.1 })
 
 -- ---- the frame that the account takes
 
@@ -93,16 +101,19 @@ not-false : (t : Bool) → not t ≡ false → t ≡ true
 not-false t e = grind arith
 
 -- an hour comes in an open season
-hour-begun : (p : Phase) (s : State) (raw : RawHour) → turn_in p s (Raw.Hour raw) ≡ false → is_begun p ≡ true
+hour-begun : (p : Phase) (s : State) (raw : RawHour) → turn_in p s (Raw.Hour raw) ≡ false
+    → is_begun p ≡ true
 hour-begun Fresh s raw e = absurd (true≢false e)
 hour-begun Open s raw e = refl
 hour-begun Closed s raw e = absurd (true≢false e)
 
-due-is : (s : State) (raw : RawHour) → is_due s raw ≡ true → (raw.day ≡ s.season.header.first + s.hours / 24) × (raw.hour ≡ s.hours % 24)
+due-is : (s : State) (raw : RawHour) → is_due s raw ≡ true
+    → (raw.day ≡ s.season.header.first + s.hours / 24) × (raw.hour ≡ s.hours % 24)
 due-is s raw e = grind (arith, nat_tests)
 
 -- it is at most the last day of a year, whose hours are 24
-due-width : (a : Account) → Possible a → checked (Record.Header a.season.header) ≡ accepted tt → (day hour : ℕ) → day ≡ a.season.header.first + a.sums.hours / 24
+due-width : (a : Account) → Possible a → checked (Record.Header a.season.header) ≡ accepted tt
+    → (day hour : ℕ) → day ≡ a.season.header.first + a.sums.hours / 24
     → hour ≡ a.sums.hours % 24 → (day < 65536) × (hour < 256)
 due-width a p passed day hour e f =
     let header = checked-passed (Record.Header a.season.header) passed in
@@ -115,7 +126,8 @@ record Taken (a : Account) (day hour : ℕ) (w : Wholes) : Type 0 where
   measure : Measure
   ranges : ranges_of measure w ≡ accepted tt
 
-frame-taken : (a b : Account) (day hour : ℕ) (w : Wholes) → feed_frame_of a (Raw.Hour (raw_of day hour w)) ≡ accepted b → Taken a day hour w
+frame-taken : (a b : Account) (day hour : ℕ) (w : Wholes)
+    → feed_frame_of a (Raw.Hour (raw_of day hour w)) ≡ accepted b → Taken a day hour w
 unfolding feed_frame_of turn_of due_of record_of sound_of
 frame-taken a b day hour w e =
     let raw = raw_of day hour w in
@@ -127,11 +139,14 @@ frame-taken a b day hour w e =
     let due = row-passed (not (is_due s raw)) _ _ read.0 mixed.1 in
     let has = row-passed (lacks_ceiling s.season.ceiling (ozone_of raw.ozone)) _ _ read.0 due.1 in
     let tree = on_tree-passed (figures_in no_parameters s.season.header.tree) _ read.0 has.1 in
-    let sound = onward-passed (checked (Record.Hour (hour_of raw tree.0.measure))) _ read.0 tree.2 in
+    let sound =
+    onward-passed (checked (Record.Hour (hour_of raw tree.0.measure))) _ read.0 tree.2 in
     let p = possible-is a possible.0 in
     let at = due-is s raw (not-false (is_due s raw) due.0) in
     record {
-      width = due-width a p (p.header (hour-begun a.phase s raw turn.0)) day hour (sym (raw-day day hour w) ∙ at.0) (sym (raw-hour day hour w) ∙ at.1);
+      width =
+          due-width a p (p.header (hour-begun a.phase s raw turn.0)) day hour
+          (sym (raw-day day hour w) ∙ at.0) (sym (raw-hour day hour w) ∙ at.1);
       measure = tree.0.measure;
       ranges = sym (float-promise.ranges day hour w tree.0.measure) ∙ sound.1;
     }
@@ -139,17 +154,20 @@ frame-taken a b day hour w e =
 -- ---- the hour
 
 module _ (a b : Account) (day hour : ℕ) (r : FloatReadings) where
-  by-wholes : (w : Wholes) → AreWhole r w → (h : Hour) → SaidBy day hour w h → (day < 65536) × (hour < 256) → feed_floats_of a day hour r ≡ accepted b
+  by-wholes : (w : Wholes) → AreWhole r w → (h : Hour) → SaidBy day hour w h
+      → (day < 65536) × (hour < 256) → feed_floats_of a day hour r ≡ accepted b
       → SaysHour day hour r h × (feed_of a (frame_line (Record.Hour h)) ≡ accepted b)
   by-wholes w are h s width e =
       let numbers : AreWhole r (wholes_in h) = subst (AreWhole r) (sym s.numbers) are in
       let fits : InWidth (Record.Hour h) = (rw s.at_day width.0, rw s.at_hour width.1) in
       let fed : feed_floats_of a h.day h.hour r ≡ accepted b = rw (s.at_day, s.at_hour) e in (
-        record { at_day = s.at_day; at_hour = s.at_hour; numbers = numbers; kind = s.kind; in_range = s.in_range },
+        record
+            { at_day = s.at_day; at_hour = s.at_hour; numbers = numbers; kind = s.kind; in_range = s.in_range },
         sym (float-promise.line a h r numbers s.kind fits s.in_range) ∙ fed,
       )
 
-  pub floats-said : feed_floats_of a day hour r ≡ accepted b → (h : Hour) × SaysHour day hour r h × (feed_of a (frame_line (Record.Hour h)) ≡ accepted b)
+  pub floats-said : feed_floats_of a day hour r ≡ accepted b
+      → (h : Hour) × SaysHour day hour r h × (feed_of a (frame_line (Record.Hour h)) ≡ accepted b)
   unfolding feed_floats_of
   floats-said e =
       let timely = onward-passed (timely_of a (hour_at day hour)) _ b e in

@@ -26,7 +26,8 @@ use Rattle.account_spec.specs.declared.HourKind.TheVariants.{Deficit}
 use Rattle.account_spec.specs.declared.Phase.TheVariants.{Open}
 use Rattle.account_spec.specs.Account.{fresh_account, impossible}
 use Rattle.account_spec.specs.Hours.{stand_in, none_carried, hour_sums}
-use Rattle.account_spec.specs.Rules.{due_of, turn_of, answer_of as line_answer_of, with_header, opened, entered, left_of, feed_of}
+use Rattle.account_spec.specs.Rules.{due_of, turn_of, answer_of as line_answer_of, with_header}
+use Rattle.account_spec.specs.Rules.{opened, entered, left_of, feed_of}
 use Rattle.records.proofs.AnswerLaws.{and_both, accepted-same}
 use Rattle.stored.specs.Packing.{FitFrom}
 use Rattle.stored.specs.Layout.{widths, account_width, account_numbers, account_bytes}
@@ -49,11 +50,14 @@ use Rattle.stored_trial.proofs.ContentsLaws.{contents-same}
 use Rattle.stored_trial.proofs.RoundTripLaws.{contents-back}
 use Rattle.trial_spec.proofs.TrialLaws.{take-fed}
 use Rattle.part_spec.specs.Floats.{floats_fed_in}
-use Rattle.part_spec.specs.Trials.{contents_by, tried_in, tried_of, trial_after, TriesBytes, taken_in}
+use Rattle.part_spec.specs.Trials.{contents_by, tried_in, tried_of, trial_after, TriesBytes}
+use Rattle.part_spec.specs.Trials.{taken_in}
 use Rattle.part_spec.proofs.HeldLaws.{fed-is, read_is}
 use Rattle.part_spec.specs.Calls.{Stores, bytes_after, LeavesBytes, fed_in, line_in}
-use Rattle.part_spec.specs.Told.{Told, line_told, floats_told, trial_told, take_told, reading_told, print_told, front, CallTold, Calls}
-use Rattle.part_spec.specs.Shown.{dark_header, dark_hour, float, dark_floats, dark_reading, dark_text, shown_told, ShownRun}
+use Rattle.part_spec.specs.Told.{Told, line_told, floats_told, trial_told, take_told, reading_told}
+use Rattle.part_spec.specs.Told.{print_told, front, CallTold, Calls}
+use Rattle.part_spec.specs.Shown.{dark_header, dark_hour, float, dark_floats, dark_reading}
+use Rattle.part_spec.specs.Shown.{dark_text, shown_told, ShownRun}
 
 -- the account after so many hours
 abbrev dark_account : ℕ → Account
@@ -65,15 +69,18 @@ dark_account n = record {
   carried = none_carried;
 }
 
-begun-by : feed_of fresh_account (frame_line (Record.Header dark_header)) ≡ accepted (opened dark_header)
+begun-by : feed_of fresh_account (frame_line (Record.Header dark_header)) ≡ accepted
+    (opened dark_header)
 unfolding feed_of line_answer_of turn_of due_of parsed_of record_of sound_of checked frame_at frame_of frame_line hour_of signed_of complement_of temperature_out is_digit value_of all_digits byte_at number_at digit_of among length_of figures_in figures_of impossible entered
 begun-by = refl
 
-first-hour : feed_of (opened dark_header) (frame_line (Record.Hour (dark_hour 0))) ≡ accepted (dark_account 1)
+first-hour : feed_of (opened dark_header) (frame_line (Record.Hour (dark_hour 0))) ≡ accepted
+    (dark_account 1)
 unfolding feed_of line_answer_of turn_of due_of parsed_of record_of sound_of checked frame_at frame_of frame_line hour_of signed_of complement_of temperature_out is_digit value_of all_digits byte_at number_at digit_of among length_of figures_in figures_of impossible entered stand_in tree_of hour_sums
 first-hour = refl
 
-second-hour : feed_of (dark_account 1) (frame_line (Record.Hour (dark_hour 1))) ≡ accepted (dark_account 2)
+second-hour : feed_of (dark_account 1) (frame_line (Record.Hour (dark_hour 1))) ≡ accepted
+    (dark_account 2)
 unfolding feed_of line_answer_of turn_of due_of parsed_of record_of sound_of checked frame_at frame_of frame_line hour_of signed_of complement_of temperature_out is_digit value_of all_digits byte_at number_at digit_of among length_of figures_in figures_of impossible entered stand_in tree_of hour_sums
 second-hour = refl
 
@@ -89,7 +96,8 @@ fits k (w ∷ ws) ns e =
     let both = and_both (ltb (get_or ns k 0) (256 ^ w)) (fits_from (suc k) ws ns) e in
     (ltb-true (get_or ns k 0) (256 ^ w) both.0, fits (suc k) ws ns both.1)
 
-by-fits : (a : Account) → fits_from 0 widths (account_numbers a) ≡ true → signed_of (complement_of a.carried.total) ≡ a.carried.total → TakenUp a
+by-fits : (a : Account) → fits_from 0 widths (account_numbers a) ≡ true
+    → signed_of (complement_of a.carried.total) ≡ a.carried.total → TakenUp a
 by-fits a e f = taken-up a (record { numbers = fits 0 widths (account_numbers a) e; total = f })
 
 fresh-up : TakenUp fresh_account
@@ -113,7 +121,8 @@ second-up = by-fits (dark_account 2) refl refl
 front-is : (a : Account) (rest : List ℕ) → front (account_bytes a ++ rest) ≡ account_bytes a
 front-is a rest = take_at (account_bytes a) rest account_width (account-length a)
 
-call-in : (a b : Account) (before after : List ℕ) (t : Told) → CallTold (front (account_bytes a ++ before)) t (front (account_bytes b ++ after))
+call-in : (a b : Account) (before after : List ℕ) (t : Told)
+    → CallTold (front (account_bytes a ++ before)) t (front (account_bytes b ++ after))
     → CallTold (account_bytes a) t (account_bytes b)
 call-in a b before after t k =
     subst (λ (l : List ℕ). CallTold l t (account_bytes b)) (front-is a before)
@@ -134,10 +143,14 @@ module _ (a : Account) (up : TakenUp a) where
       holds = λ c f. next.back (drop account_width lent) ∙ sym e ∙ f;
     }
 
-    fed-call : (l : List ℕ) → feed_of a l ≡ accepted b → CallTold (account_bytes a) (line_told l 0) (account_bytes b)
-    fed-call l e = call-in a b [] (drop account_width lent) (line_told l 0) (CallTold.feeds lent left (leaves-next (fed_in lent l) (fed-is a lent (up.back []) l ∙ e)))
+    fed-call : (l : List ℕ) → feed_of a l ≡ accepted b
+        → CallTold (account_bytes a) (line_told l 0) (account_bytes b)
+    fed-call l e =
+        call-in a b [] (drop account_width lent) (line_told l 0)
+        (CallTold.feeds lent left (leaves-next (fed_in lent l) (fed-is a lent (up.back []) l ∙ e)))
 
-    floats-are : (day hour : ℕ) (r : FloatReadings) → feed_floats_of a day hour r ≡ accepted b → floats_fed_in lent day hour r ≡ accepted b
+    floats-are : (day hour : ℕ) (r : FloatReadings) → feed_floats_of a day hour r ≡ accepted b
+        → floats_fed_in lent day hour r ≡ accepted b
     unfolding floats_fed_in
     floats-are day hour r e = rw (up.back []) e
 
@@ -149,7 +162,8 @@ module _ (a : Account) (up : TakenUp a) where
 
     -- a trial of a line that the account takes
 
-    module _ (l : List ℕ) (e : feed_of a l ≡ accepted b) (buffer : List ℕ) (room : trial_width ≤ length buffer) where
+    module _ (l : List ℕ) (e : feed_of a l ≡ accepted b) (buffer : List ℕ)
+        (room : trial_width ≤ length buffer) where
       abbrev contents : Contents
       contents = record { code = 0; tried = a; next = b }
 
@@ -171,7 +185,8 @@ module _ (a : Account) (up : TakenUp a) where
       unfolding answer_of
       carried = sym (fed-is a lent (up.back []) l ∙ e)
 
-      tries : (reading : Readout) → readout_of (read_of b) ≡ reading → TriesBytes lent l buffer (record { code = 0; answer = 0; reading = reading }) trial
+      tries : (reading : Readout) → readout_of (read_of b) ≡ reading
+          → TriesBytes lent l buffer (record { code = 0; answer = 0; reading = reading }) trial
       tries reading read = record {
         answers = sym (ap tried_of made ∙ rw read refl);
         leaves = sym (ap (trial_after buffer) made);
@@ -180,8 +195,13 @@ module _ (a : Account) (up : TakenUp a) where
       }
 
       trial-call : (reading : Readout) → readout_of (read_of b) ≡ reading
-          → CallTold (account_bytes a) (trial_told l buffer (record { code = 0; answer = 0; reading = reading }) trial) (account_bytes a)
-      trial-call reading read = call-in a a [] [] (trial_told l buffer (record { code = 0; answer = 0; reading = reading }) trial) (CallTold.tries lent (tries reading read))
+          → CallTold (account_bytes a)
+          (trial_told l buffer (record { code = 0; answer = 0; reading = reading }) trial)
+          (account_bytes a)
+      trial-call reading read =
+          call-in a a [] []
+          (trial_told l buffer (record { code = 0; answer = 0; reading = reading }) trial)
+          (CallTold.tries lent (tries reading read))
 
       -- and its take
 
@@ -196,18 +216,25 @@ module _ (a : Account) (up : TakenUp a) where
 
   -- a reading, and the account's line
 
-  reading-call : (reading : Readout) → readout_of (read_of a) ≡ reading → CallTold (account_bytes a) (reading_told reading) (account_bytes a)
-  reading-call reading e = call-in a a [] [] (reading_told reading) (CallTold.reads lent (sym (ap readout_of (read_is a lent (up.back [])) ∙ e)))
+  reading-call : (reading : Readout) → readout_of (read_of a) ≡ reading
+      → CallTold (account_bytes a) (reading_told reading) (account_bytes a)
+  reading-call reading e =
+      call-in a a [] [] (reading_told reading)
+      (CallTold.reads lent (sym (ap readout_of (read_is a lent (up.back [])) ∙ e)))
 
   line-in : line_in lent ≡ format_of a
   unfolding line_in
   line-in = rw (up.back []) refl
 
   print-call : (text paper : List ℕ) → format_of a ≡ accepted text → length text ≤ length paper
-      → CallTold (account_bytes a) (print_told paper (record { code = 0; length = length text }) (text ++ drop (length text) paper)) (account_bytes a)
+      → CallTold (account_bytes a)
+      (print_told paper (record { code = 0; length = length text }) (text ++ drop (length text) paper))
+      (account_bytes a)
   print-call text paper e room =
       let long = le-ltb (length paper) (length text) room in
-      let told = print_told paper (record { code = 0; length = length text }) (text ++ drop (length text) paper) in
+      let told =
+      print_told paper (record { code = 0; length = length text })
+      (text ++ drop (length text) paper) in
       call-in a a [] [] told
       (CallTold.prints lent
       (record { written = Ok (length text); prints = record { answers = rw (line-in, e, long) refl; leaves = rw (line-in, e, long) refl }; answers = refl }))
@@ -229,7 +256,8 @@ first-floats =
       soil = at 1000 (omega arith);
     }
     in
-    float-promise.line (opened dark_header) (dark_hour 0) dark_floats are refl (omega arith, omega arith) refl ∙ first-hour
+    float-promise.line (opened dark_header) (dark_hour 0) dark_floats are refl
+    (omega arith, omega arith) refl ∙ first-hour
 
 dark_read : readout_of (read_of (dark_account 2)) ≡ dark_reading 2
 unfolding read_of impossible checked figures_in figures_of verdict_of
@@ -246,10 +274,13 @@ module _ (room : List ℕ) (long : account_width ≤ length room) where
   fresh-stores : Stores fresh_account room 0 begun
   fresh-stores =
       let size = account-length fresh_account in
-      let test : ltb (length room) (length (account_bytes fresh_account)) ≡ false = le-ltb (length room) (length (account_bytes fresh_account)) (omega arith) in
-      record { answers = rw test refl; leaves = rw (test, size) refl; holds = λ none. fresh-up.back (drop account_width room) }
+      let test : ltb (length room) (length (account_bytes fresh_account)) ≡ false =
+      le-ltb (length room) (length (account_bytes fresh_account)) (omega arith) in
+      record
+      { answers = rw test refl; leaves = rw (test, size) refl; holds = λ none. fresh-up.back (drop account_width room) }
 
-  pub shown-run : (buffer paper : List ℕ) → trial_width ≤ length buffer → 18 ≤ length paper → ShownRun room buffer paper
+  pub shown-run : (buffer paper : List ℕ) → trial_width ≤ length buffer → 18 ≤ length paper
+      → ShownRun room buffer paper
   shown-run buffer paper h k =
       let l = frame_line (Record.Hour (dark_hour 1)) in
       let a = dark_account 1 in
@@ -259,7 +290,10 @@ module _ (room : List ℕ) (long : account_width ≤ length room) where
         trial = trial a first-up b second-up l second-hour buffer h;
         left = account_bytes b;
         stores = fresh-stores;
-        calls = subst (λ (x : List ℕ). Calls x (shown_told buffer paper (trial a first-up b second-up l second-hour buffer h)) (account_bytes b)) (sym (front-is fresh_account (drop account_width room)))
+        calls =
+            subst
+            (λ (x : List ℕ). Calls x (shown_told buffer paper (trial a first-up b second-up l second-hour buffer h)) (account_bytes b))
+            (sym (front-is fresh_account (drop account_width room)))
             (Calls.call (fed-call fresh_account fresh-up (opened dark_header) opened-up (frame_line (Record.Header dark_header)) begun-by)
             (Calls.call (floats-call (opened dark_header) opened-up a first-up 1 0 dark_floats first-floats)
             (Calls.call (trial-call a first-up b second-up l second-hour buffer h (dark_reading 2) dark_read)
@@ -268,5 +302,6 @@ module _ (room : List ℕ) (long : account_width ≤ length room) where
             (Calls.call (print-call b second-up dark_text paper dark_line k) Calls.stop))))));
       }
 
-pub shown : (room buffer paper : List ℕ) → account_width ≤ length room → trial_width ≤ length buffer → 18 ≤ length paper → ShownRun room buffer paper
+pub shown : (room buffer paper : List ℕ) → account_width ≤ length room → trial_width ≤ length buffer
+    → 18 ≤ length paper → ShownRun room buffer paper
 shown room buffer paper long h k = shown-run room long buffer paper h k

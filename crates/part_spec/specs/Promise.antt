@@ -1,4 +1,5 @@
--- Demand 3 for the part: one claim about every list of calls of the exports on the bytes of one account, from `pod1_fresh` on.
+-- The promise of the season, over the exports: one claim about every list of calls on the bytes of
+-- one account, from `pod1_fresh` on.
 use Rattle.std.specs.Prelude.{ℕ, ◌≤◌, ◌<◌, ◌≡◌, false, List, [], ◌∷◌, ◌++◌, length, drop, Ok}
 use Rattle.records.specs.declared.Hour.{Hour}
 use Rattle.records.specs.declared.Record.{Record}
@@ -27,7 +28,8 @@ use Rattle.answers.specs.Code.{code_of, code_of_row}
 use Rattle.answers.specs.Reading.{readout_of, no_trial}
 use Rattle.part_spec.specs.Calls.{Stores, PrintsBytes}
 use Rattle.part_spec.specs.Trials.{contents_by, taken_from, TakesBytes}
-use Rattle.part_spec.specs.Told.{Told, line_told, floats_told, trial_told, take_told, list_told, reading_told, print_told, front, Calls}
+use Rattle.part_spec.specs.Told.{Told, line_told, floats_told, trial_told, take_told, list_told}
+use Rattle.part_spec.specs.Told.{reading_told, print_told, front, Calls}
 use Rattle.part_spec.specs.Shown.{ShownRun}
 
 -- ---- the account that the events so far left
@@ -35,7 +37,7 @@ use Rattle.part_spec.specs.Shown.{ShownRun}
 abbrev pub account_now : List Event → Account
 account_now done = account_after fresh_account done
 
--- ---- what a call tells is what the season's next events say; `RunKept` is demand 3 of some events
+-- ---- what a call tells is what the season's next events say; `RunKept`: some events keep the book
 
 -- an hour of kind 02, in range or without ozone, whose numbers the floats are
 pub record SaysHour (day hour : ℕ) (readings : FloatReadings) (h : Hour) : Type 0 where
@@ -45,12 +47,16 @@ pub record SaysHour (day hour : ℕ) (readings : FloatReadings) (h : Hour) : Typ
   pub kind : air_kind h.air ≡ 2
   pub in_range : checked (Record.Hour h) ≡ accepted tt
 
--- trying a line tells its answer and the reading after it, as if the season had gone on so; the trial is made of this account and line
-pub record TrialTold (done : List Event) (line buffer : List ℕ) (answer : Tried) (trial : List ℕ) : Type 0 where
+-- trying a line tells its answer and the reading after it, as if the season had gone on so; the
+-- trial is made of this account and line
+pub record TrialTold (done : List Event) (line buffer : List ℕ) (answer : Tried) (trial : List ℕ)
+    : Type 0 where
   pub fed_so : Fed
   pub totals : Totals
   pub kept : RunKept (done ++ fed line fed_so ∷ taken (Ok totals) ∷ [])
-  pub tells : answer ≡ record { code = 0; answer = code_of (fed_as fed_so); reading = readout_of (accepted totals) }
+  pub code : answer.code ≡ 0
+  pub tells : answer.answer ≡ code_of (fed_as fed_so)
+  pub reads : answer.reading ≡ readout_of (accepted totals)
   pub leaves : trial ≡ trial_bytes (contents_by (account_now done) line) ++ drop trial_width buffer
   pub holds : contents_in trial ≡ accepted (contents_by (account_now done) line)
 
@@ -64,42 +70,54 @@ pub record LineRefused (done : List Event) (line : List ℕ) (row : ℕ × ℕ) 
 pub data Telling (done : List Event) : Told → List Event → Type 0 where
   line : {l : List ℕ} {code : ℕ} {r : Fed} → code ≡ code_of (fed_as r)
       → Telling done (line_told l code) (fed l r ∷ [])
-  -- an hour of floats that is taken is its line of kind 02, taken; a refused one leaves the season, and the row is that of its numbers
-  floats : {day hour : ℕ} {readings : FloatReadings} {code : ℕ} {h : Hour} {a : Account} → SaysHour day hour readings h → code ≡ 0
-      → Telling done (floats_told day hour readings code) (fed (frame_line (Record.Hour h)) (Ok a) ∷ [])
+  -- an hour of floats that is taken is its line of kind 02, taken; a refused one leaves the season,
+  -- and the row is that of its numbers
+  floats : {day hour : ℕ} {readings : FloatReadings} {code : ℕ} {h : Hour} {a : Account}
+      → SaysHour day hour readings h → code ≡ 0
+      → Telling done (floats_told day hour readings code)
+      (fed (frame_line (Record.Hour h)) (Ok a) ∷ [])
   floats_refused : {day hour : ℕ} {readings : FloatReadings} {code : ℕ} {row : ℕ × ℕ}
       → feed_floats_of (account_now done) day hour readings ≡ refused row → code ≡ code_of_row row
       → Telling done (floats_told day hour readings code) []
   -- a trial leaves the season; row 12 where its buffer is too short
   trial : {l buffer bytes : List ℕ} {answer : Tried} → TrialTold done l buffer answer bytes
       → Telling done (trial_told l buffer answer bytes) []
-  trial_short : {l buffer bytes : List ℕ} {answer : Tried} → length buffer < trial_width → answer ≡ no_trial 12 → bytes ≡ buffer
+  trial_short : {l buffer bytes : List ℕ} {answer : Tried}
+      → length buffer < trial_width → answer ≡ no_trial 12 → bytes ≡ buffer
       → Telling done (trial_told l buffer answer bytes) []
-  -- a trial that is taken is its line, made of this account and taken; a refused one, whatever its bytes, leaves the season
-  take : {l bytes : List ℕ} {code : ℕ} {a : Account} → contents_in bytes ≡ accepted (contents_by (account_now done) l) → code ≡ 0
+  -- a trial that is taken is its line, made of this account and taken; a refused one, whatever its
+  -- bytes, leaves the season
+  take : {l bytes : List ℕ} {code : ℕ} {a : Account}
+      → contents_in bytes ≡ accepted (contents_by (account_now done) l) → code ≡ 0
       → Telling done (take_told bytes code) (fed l (Ok a) ∷ [])
-  take_refused : {bytes : List ℕ} {code : ℕ} {row : ℕ × ℕ} → taken_from bytes (account_now done) ≡ refused row → code ≡ code_of_row row
-      → ((l : List ℕ) → contents_in bytes ≡ accepted (contents_by (account_now done) l) → LineRefused done l row)
+  take_refused : {bytes : List ℕ} {code : ℕ} {row : ℕ × ℕ}
+      → taken_from bytes (account_now done) ≡ refused row → code ≡ code_of_row row
+      → ((l : List ℕ) → contents_in bytes ≡ accepted (contents_by (account_now done) l)
+      → LineRefused done l row)
       → Telling done (take_told bytes code) []
   -- a line that several take is one that this account takes; refused by any it leaves the season
-  list : {lent l : List ℕ} {code : ℕ} {a : Account} → code ≡ 0 → Telling done (list_told lent l code) (fed l (Ok a) ∷ [])
-  list_refused : {lent l : List ℕ} {code : ℕ} {row : ℕ × ℕ} → fed_listed_of lent l ≡ refused row → code ≡ code_of_row row
+  list : {lent l : List ℕ} {code : ℕ} {a : Account} → code ≡ 0
+      → Telling done (list_told lent l code) (fed l (Ok a) ∷ [])
+  list_refused : {lent l : List ℕ} {code : ℕ} {row : ℕ × ℕ}
+      → fed_listed_of lent l ≡ refused row → code ≡ code_of_row row
       → Telling done (list_told lent l code) []
   reading : {answer : Readout} {t : Totals} → answer ≡ readout_of (accepted t)
       → Telling done (reading_told answer) (taken (Ok t) ∷ [])
   -- an account's line is the text of a reading
-  print : {buffer text : List ℕ} {answer : Printed} {t : Totals} → PrintsBytes (accepted (totals_line t)) buffer answer text
+  print : {buffer text : List ℕ} {answer : Printed} {t : Totals}
+      → PrintsBytes (accepted (totals_line t)) buffer answer text
       → Telling done (print_told buffer answer text) (taken (Ok t) ∷ [])
 
 -- call by call, from the events so far to all
 pub data Tellings : List Event → List Told → List Event → Type 0 where
   stop : {done : List Event} → Tellings done [] done
-  call : {done more all : List Event} {t : Told} {ts : List Told} → Telling done t more → Tellings (done ++ more) ts all
-      → Tellings done (t ∷ ts) all
+  call : {done more all : List Event} {t : Told} {ts : List Told}
+      → Telling done t more → Tellings (done ++ more) ts all → Tellings done (t ∷ ts) all
 
 -- ---- the whole list
 
--- the calls tell a season: demand 3 of its events, whose accepted lines fed alone leave the same account, and the bytes left hold it
+-- the calls tell a season: its events keep the book, their accepted lines fed alone leave the same
+-- account, and the bytes left hold it
 pub record SeasonTold (ts : List Told) (left : List ℕ) : Type 0 where
   pub events : List Event
   pub told : Tellings [] ts events
@@ -107,7 +125,8 @@ pub record SeasonTold (ts : List Told) (left : List ℕ) : Type 0 where
   pub alone : TakesAll fresh_account (accepted_lines events) (account_now events)
   pub holds : take_up_of left ≡ accepted (account_now events)
 
--- an accepted trial, whatever made it: it held this account as the tried one, and the bytes now hold the account that it carried, which row 13 lets pass
+-- an accepted trial, whatever made it: it held this account as the tried one, and the bytes now
+-- hold the account that it carried, which row 13 lets pass
 pub record ForgedTaken (events : List Event) (trial after : List ℕ) : Type 0 where
   pub contents : Contents
   pub holds : contents_in trial ≡ accepted contents
@@ -118,12 +137,16 @@ pub record ForgedTaken (events : List Event) (trial after : List ℕ) : Type 0 w
 
 pub record PartPromise : Type 0 where
   -- calls on the account's bytes, of which `pod1_fresh` left the first
-  pub season : (room begun left : List ℕ) (ts : List Told) → Stores fresh_account room 0 begun → Calls (front begun) ts left → SeasonTold ts left
-  -- a trial that no line made may be taken too: of what follows the book can say nothing, of the calls before it all that it says
-  pub forged : (room begun lent trial after : List ℕ) (ts : List Told) → Stores fresh_account room 0 begun → Calls (front begun) ts (front lent)
-      → TakesBytes lent trial 0 after → (s : SeasonTold ts (front lent)) × ForgedTaken s.events trial after
+  pub season : (room begun left : List ℕ) (ts : List Told) → Stores fresh_account room 0 begun
+      → Calls (front begun) ts left → SeasonTold ts left
+  -- a trial that no line made may be taken too: of what follows the book can say nothing, of the
+  -- calls before it all that it says
+  pub forged : (room begun lent trial after : List ℕ) (ts : List Told)
+      → Stores fresh_account room 0 begun → Calls (front begun) ts (front lent)
+      → TakesBytes lent trial 0 after
+      → (s : SeasonTold ts (front lent)) × ForgedTaken s.events trial after
   -- what filling brings, of the lines that a season's events took
   pub filling : FillingPromise
   -- there are such calls: a small run of them
-  pub shown : (room buffer paper : List ℕ) → account_width ≤ length room → trial_width ≤ length buffer → 18 ≤ length paper
-      → ShownRun room buffer paper
+  pub shown : (room buffer paper : List ℕ) → account_width ≤ length room
+      → trial_width ≤ length buffer → 18 ≤ length paper → ShownRun room buffer paper

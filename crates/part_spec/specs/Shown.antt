@@ -1,4 +1,5 @@
--- A run that shows the promise: a header's line, an hour of floats, the next hour tried and taken, a reading, the account's line.
+-- A run that shows the promise: a header's line, an hour of floats, the next hour tried and taken,
+-- a reading, the account's line.
 use Rattle.std.specs.Prelude.{ℕ, List, [], ◌∷◌, ◌++◌, drop, pos, Some, Float}
 use Rattle.std.specs.Float.{binary32}
 use Rattle.std.specs.Float.Ieee.{of_int}
@@ -11,8 +12,10 @@ use Rattle.frames.specs.Layout.{frame_line}
 use Rattle.account_spec.specs.Account.{fresh_account}
 use Rattle.floats_spec.specs.declared.FloatReadings.{FloatReadings}
 use Rattle.answers.specs.declared.Readout.{Readout}
+use Rattle.answers.specs.declared.Tried.{Tried}
 use Rattle.part_spec.specs.Calls.{Stores}
-use Rattle.part_spec.specs.Told.{Told, line_told, floats_told, trial_told, take_told, reading_told, print_told, front, Calls}
+use Rattle.part_spec.specs.Told.{Told, line_told, floats_told, trial_told, take_told}
+use Rattle.part_spec.specs.Told.{reading_told, print_told, front, Calls}
 
 -- ---- an evergreen day in the dark
 
@@ -20,18 +23,46 @@ abbrev pub dark_header : Header
 dark_header = record { tree = 6; days = 365; first = 1; last = 1; level = 520 }
 
 abbrev pub dark_hour : ℕ → Hour
-dark_hour hour = record { day = 1; hour = hour; ozone = Some 500; ppfd = 0; radiation = 0; temperature = pos 230; air = Air.Deficit 1000; wind = 300; soil = Soil.Suction 1000 }
+dark_hour hour = record {
+  day = 1;
+  hour = hour;
+  ozone = Some 500;
+  ppfd = 0;
+  radiation = 0;
+  temperature = pos 230;
+  air = Air.Deficit 1000;
+  wind = 300;
+  soil = Soil.Suction 1000;
+}
 
 abbrev pub float : ℕ → Float
 float n = of_int binary32 (pos n)
 
 abbrev pub dark_floats : FloatReadings
-dark_floats = record { ozone = float 500; ppfd = float 0; radiation = float 0; temperature = float 230; vpd = float 1000; wind = float 300; soil = float 1000 }
+dark_floats = record {
+  ozone = float 500;
+  ppfd = float 0;
+  radiation = float 0;
+  temperature = float 230;
+  vpd = float 1000;
+  wind = float 300;
+  soil = float 1000;
+}
 
 -- ---- what the calls tell
 
 abbrev pub dark_reading : ℕ → Readout
-dark_reading hours = record { code = 0; verdict = 3; hours = hours; counted = 0; missing = 0; least = 0; most = 0; lower = 0; upper = 0 }
+dark_reading hours = record {
+  code = 0;
+  verdict = 3;
+  hours = hours;
+  counted = 0;
+  missing = 0;
+  least = 0;
+  most = 0;
+  lower = 0;
+  upper = 0;
+}
 
 -- `2 0 0 0 0 0 below` and a line feed: 18 bytes
 abbrev pub dark_text : List ℕ
@@ -39,11 +70,14 @@ dark_text =
     50 ∷ 32 ∷ 48 ∷ 32 ∷ 48 ∷ 32 ∷ 48 ∷ 32 ∷ 48 ∷ 32 ∷ 48 ∷ 32
     ∷ 98 ∷ 101 ∷ 108 ∷ 111 ∷ 119 ∷ 10 ∷ []
 
+abbrev pub dark_trial : Tried
+dark_trial = record { code = 0; answer = 0; reading = dark_reading 2 }
+
 abbrev pub shown_told : (buffer paper trial : List ℕ) → List Told
 shown_told buffer paper trial =
     line_told (frame_line (Record.Header dark_header)) 0
     ∷ floats_told 1 0 dark_floats 0
-    ∷ trial_told (frame_line (Record.Hour (dark_hour 1))) buffer (record { code = 0; answer = 0; reading = dark_reading 2 }) trial
+    ∷ trial_told (frame_line (Record.Hour (dark_hour 1))) buffer dark_trial trial
     ∷ take_told trial 0
     ∷ reading_told (dark_reading 2)
     ∷ print_told paper (record { code = 0; length = 18 }) (dark_text ++ drop 18 paper)

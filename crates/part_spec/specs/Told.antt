@@ -14,7 +14,7 @@ use Rattle.part_spec.specs.Floats.{FloatsBytes}
 use Rattle.part_spec.specs.Lists.{FeedsAllBytes}
 use Rattle.part_spec.specs.Trials.{contents_by, TriesBytes, TakesBytes}
 
--- what was handed in beside the account, then what came back: a code, numbers, the bytes of a buffer
+-- what was handed in beside the account, then what came back: a code, numbers, a buffer's bytes
 pub data Told : Type 0 where
   line_told : (line : List ℕ) (code : ℕ) → Told
   floats_told : (day hour : ℕ) (readings : FloatReadings) (code : ℕ) → Told
@@ -43,26 +43,33 @@ pub record IsMade (trial : List ℕ) : Type 0 where
   pub line : List ℕ
   pub holds : contents_in trial ≡ accepted (contents_by tried line)
 
--- the account's bytes before it, what it told, the account's bytes after it: tied by what the export promises, and by nothing else. Any bytes are
--- handed in as a trial, but where the take is accepted: then a trial that was made (of others `PartPromise.forged` speaks).
+-- the account's bytes before it, what it told, the account's bytes after it: tied by what the
+-- export promises, and by nothing else. Any bytes are handed in as a trial, but where the take is
+-- accepted: then a trial that was made (of others `PartPromise.forged` speaks).
 pub data CallTold : List ℕ → Told → List ℕ → Type 0 where
   feeds : (lent after : List ℕ) {line : List ℕ} {code : ℕ} → FeedsBytes lent line code after
       → CallTold (front lent) (line_told line code) (front after)
-  feeds_floats : (lent after : List ℕ) {day hour : ℕ} {readings : FloatReadings} {code : ℕ} → FloatsBytes lent day hour readings code after
+  feeds_floats : (lent after : List ℕ) {day hour : ℕ} {readings : FloatReadings} {code : ℕ}
+      → FloatsBytes lent day hour readings code after
       → CallTold (front lent) (floats_told day hour readings code) (front after)
-  tries : (lent : List ℕ) {line buffer trial : List ℕ} {answer : Tried} → TriesBytes lent line buffer answer trial
+  tries : (lent : List ℕ) {line buffer trial : List ℕ} {answer : Tried}
+      → TriesBytes lent line buffer answer trial
       → CallTold (front lent) (trial_told line buffer answer trial) (front lent)
-  takes : (lent after : List ℕ) {trial : List ℕ} {code : ℕ} → TakesBytes lent trial code after → (code ≡ 0 → IsMade trial)
+  takes : (lent after : List ℕ) {trial : List ℕ} {code : ℕ}
+      → TakesBytes lent trial code after → (code ≡ 0 → IsMade trial)
       → CallTold (front lent) (take_told trial code) (front after)
-  feeds_all : (i : ℕ) (lent after : List ℕ) {line : List ℕ} {code : ℕ} → FeedsAllBytes lent line code after
+  feeds_all : (i : ℕ) (lent after : List ℕ) {line : List ℕ} {code : ℕ}
+      → FeedsAllBytes lent line code after
       → CallTold (at_place i lent) (list_told lent line code) (at_place i after)
   reads : (lent : List ℕ) {answer : Readout} → answer ≡ readout_of (read_in lent)
       → CallTold (front lent) (reading_told answer) (front lent)
-  prints : (lent : List ℕ) {buffer text : List ℕ} {answer : Printed} → PrintsBytes (line_in lent) buffer answer text
+  prints : (lent : List ℕ) {buffer text : List ℕ} {answer : Printed}
+      → PrintsBytes (line_in lent) buffer answer text
       → CallTold (front lent) (print_told buffer answer text) (front lent)
 
 -- ---- a list of calls: each gets the bytes that the one before left, and nothing else writes them
 
 pub data Calls : List ℕ → List Told → List ℕ → Type 0 where
   stop : {b : List ℕ} → Calls b [] b
-  call : {b after left : List ℕ} {t : Told} {ts : List Told} → CallTold b t after → Calls after ts left → Calls b (t ∷ ts) left
+  call : {b after left : List ℕ} {t : Told} {ts : List Told}
+      → CallTold b t after → Calls after ts left → Calls b (t ∷ ts) left

@@ -71,7 +71,10 @@ pub record TrialBytesPromise : Type 0 where
   pub other : (account trial : List ℕ) (a : Account) (c : Contents) → take_up_of account ≡ accepted a → contents_in trial ≡ accepted c → (a ≡ c.tried → ⊥)
       → taken_in account trial ≡ row 13 (impossible a) (refused (16, 0))
   -- bytes that hold no trial are row 13
-  pub none : (account trial : List ℕ) (w : ℕ × ℕ) → contents_in trial ≡ refused w → taken_in account trial ≡ refused (13, 0)
-  -- bytes made otherwise that hold this account as the tried one: the answer that they carry, or row 13 for an account in it that no season gives
-  pub carries : (account trial : List ℕ) (c : Contents) → take_up_of account ≡ accepted c.tried → contents_in trial ≡ accepted c
+  pub none : (account trial : List ℕ) (w : ℕ × ℕ) → contents_in trial ≡ refused w
+      → taken_in account trial ≡ refused (13, 0)
+  -- bytes made otherwise that hold this account as the tried one: the answer that they carry, or row
+  -- 13 for an account in it that no season gives
+  pub carries : (account trial : List ℕ) (c : Contents)
+      → take_up_of account ≡ accepted c.tried → contents_in trial ≡ accepted c
       → impossible c.tried ≡ false → taken_in account trial ≡ answer_in (carried_by c)
