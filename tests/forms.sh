@@ -42,8 +42,8 @@ form 'a tree is a match on its number' trees/src/lib.rt \
     'match tree \{\s*1 => Some\(.*\s6 => Some\(.*_ => None' \
     's/match tree \{/if tree == 1 {/'
 form 'a line loop over a digit loop, which begins at the line'"'"'s first character' walk/src/loops.rt \
-    "'lines: loop \{((?!\n    \}).)*let mut end = here\.at;\s*(//[^\n]*\s*)*'digits: loop \{" \
-    "s/let mut end = here\.at;/let mut end = past_hour(text, here.at);/"
+    "'lines: loop \{((?!\n    \}).)*let mut end = at;\s*(//[^\n]*\s*)*'digits: loop \{" \
+    "s/let mut end = at;/let mut end = past_hour(text, at);/"
 form 'a bad digit leaves the line loop by its label' walk/src/loops.rt \
     "'digits: loop \{((?!\n        \}).)*is_digit\(((?!\n        \}).)*break 'lines Err\(" \
     "s/break 'lines Err\(refused/return Err(refused/"

@@ -1,5 +1,5 @@
--- Demand 3 over calls that are tied by the contracts of the functions, as they stand there, and by
--- nothing else.
+-- The season's promise over calls that are tied by the contracts of the functions, as they stand
+-- there, and by nothing else.
 use Prim.Native.Nat.{ℕ}
 use mathlib.Core.List.{List, []}
 use denote.MutBor.{MutBor}

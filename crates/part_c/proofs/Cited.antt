@@ -1,5 +1,5 @@
--- Demand 3 over calls of the exports, and the promise of trials, tied by the contracts of the
--- exports as they stand there, and by nothing else.
+-- The season's promise over calls of the exports, and the promise of trials, tied by the contracts
+-- of the exports as they stand there, and by nothing else.
 use Prim.Native.Nat.{ℕ}
 use mathlib.Core.Path.{◌≡◌}
 use mathlib.Core.List.{List, []}
