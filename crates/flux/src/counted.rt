@@ -29,7 +29,6 @@ fn pair_by(dosing: Dosing, passed: Passed, cells: &mut [u64]) -> Bounds
 pub fn pair_of(memory: &mut Memory, passed: Passed) -> Bounds
     ensures is { result ≡ hour_pair memory.old.stand passed.hour }
     ensures stand { memory.new.stand ≡ memory.old.stand }
-    ensures tree { memory.new.of ≡ memory.old.of }
 {
     let dosing = Dosing {
         stand: memory.stand,

@@ -3,13 +3,14 @@
 // Kept: no heap, so 8 bytes of the stack for each temperature; a struct of two `u32` would take as many, and still hold f_temp's numbers added up and say none
 // by 0.
 // Kept for speed: trees 1 to 6 are remembered too; a year took 2 to 3 percent longer where their tables were read at each hour.
-ghost use Rattle.std.specs.Prelude.{None, Some, true, ◌≡◌, ◌-◌, ◌/◌, ◌%◌, ◌<◌, ◌≤◌};
+ghost use Rattle.std.specs.Prelude.{Some, true, ◌≡◌, ◌-◌, ◌/◌, ◌%◌, ◌<◌, ◌≤◌};
 ghost use Rattle.std.specs.Result.{result_unwrap_or};
+ghost use Rattle.measured.specs.Parameters.{no_parameters};
 ghost use Rattle.trees.specs.Sound.{Sound};
 ghost use Rattle.trees.specs.Steps.{HasTable};
-ghost use Rattle.records.specs.Answers.{outcome_of};
+ghost use Rattle.records.specs.Answers.{accepted, outcome_of};
 ghost use Rattle.flux.specs.Given.{Sound-prop};
-ghost use Rattle.flux.specs.Remembered.{remembered_of, Remembers, Remembers-prop, IsOf, IsOf-prop, stand_with};
+ghost use Rattle.flux.specs.Remembered.{remembered_of, Remembers, Remembers-prop, IsOf, IsOf-prop, by_day, stand_with};
 
 use crate::given::Dosing;
 use exact::Bounds;
@@ -22,7 +23,7 @@ use trees::Source;
 #[derive(Drop)]
 pub struct Memory {
     // The tree's number and parameters; none before the first.
-    pub of: Option<(u8, Parameters)>,
+    pub(crate) of: Option<(u8, Parameters)>,
     pub stand: Stand,
     pub(crate) cells: [u64; 1101],
     pub ghost sound: { Sound stand.figures } by { Sound-prop stand.figures },
@@ -32,19 +33,27 @@ pub struct Memory {
     ghost kept: { Remembers stand.figures cells } by { Remembers-prop stand.figures cells },
 }
 
-/// One that remembers nothing, and is for no tree that was asked for.
+// Leaves age by the day: no warmth, and no sum of it.
+fn day_age() -> Age
+    ensures { result ≡ by_day }
+{
+    Age {
+        warmth: measured::no_warmth(),
+        sum: 0,
+    }
+}
+
+/// One that remembers nothing, and is for no tree that was asked for: its stand is tree 1's, all year
+/// and without a ceiling.
 pub fn no_memory() -> Memory
-    ensures { result.of ≡ None }
+    ensures { accepted result.stand ≡ stand_with no_parameters 1 1 366 0 }
 {
     let Ok(figures) = crate::tree_of(measured::no_parameters(), 1) else {
         unreachable!()
     };
     let stand = Stand {
         figures,
-        age: Age {
-            warmth: measured::no_warmth(),
-            sum: 0,
-        },
+        age: day_age(),
         first: 1,
         last: 366,
         ceiling: 0,
@@ -63,27 +72,26 @@ fn is_of(of: Option<(u8, Parameters)>, tree: u8, parameters: Parameters) -> bool
     of == Some((tree, parameters))
 }
 
-/// A memory for the hours of a season: what they are dosed by, or row 24, 5 or 17. What was
-/// remembered of another tree goes.
+/// A memory for the hours of a season whose leaves age by the day: what they are dosed by, or row 17,
+/// 24 or 5, the first that refuses it. What was remembered of another tree goes.
 pub fn prepare(
     memory: &mut Memory,
     tree: u8,
     parameters: Parameters,
-    age: Age,
     first: u16,
     last: u16,
     ceiling: u16,
 ) -> Result<Stand, Refusal>
-    ensures is { outcome_of result ≡ stand_with parameters tree age first last ceiling }
+    ensures is { outcome_of result ≡ stand_with parameters tree first last ceiling }
     ensures memory { memory.new.stand ≡ result_unwrap_or result memory.old.stand }
 {
-    let figures = crate::tree_of(parameters, tree)?;
     if records::ceiling_out(ceiling) {
         return Err(Refusal::Ceiling);
     }
+    let figures = crate::tree_of(parameters, tree)?;
     let stand = Stand {
         figures,
-        age,
+        age: day_age(),
         first,
         last,
         ceiling,

@@ -1,9 +1,10 @@
--- `flux::remembered::no_memory` meets its contract: tree 1 has figures, and a memory of zeros
--- remembers nothing. The answer does not go by there being no tree, so the edit that names one is
--- refused by the contract.
-use Rattle.std.proofs.Common.{sym, ap, ◌∙◌, lit≤}
-use Rattle.records.specs.Answers.{outcome_of}
+-- `flux::remembered::no_memory` meets its contract: tree 1 has figures, which its stand is of, and a
+-- memory of zeros remembers nothing.
+use Rattle.std.proofs.Common.{◌≡◌, refl, sym, ap, ◌∙◌, lit≤}
+use Rattle.measured.specs.Parameters.{no_parameters}
+use Rattle.records.specs.Answers.{accepted, outcome_of}
 use Rattle.records.proofs.ParameterLaws.{figures-in-tabled}
+use Rattle.flux_spec.specs.HourDose.{tree_of}
 use Rattle.flux_spec.proofs.EnclosureLaws.{tree-named}
 use Rattle.flux.proofs.RememberedLaws.{none-remembered, first-tree, none-of}
 use Rattle.flux.proofs.remembered.no_memory.Goals as goal
@@ -22,3 +23,9 @@ invariant_of-result c =
       own = none-of _;
       kept = none-remembered _ 1101;
     }
+
+pub returns : goal.returns
+returns c =
+    let named : tree_of no_parameters 1 ≡ accepted c.in-Ok.figures =
+    rw c.no_parameters.ensures at (sym c.tree_of.ensures ∙ ap outcome_of c.in-Ok.is) in
+    rw (c.day_age.ensures, named) refl
