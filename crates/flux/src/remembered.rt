@@ -10,7 +10,8 @@ ghost use Rattle.trees.specs.Sound.{Sound};
 ghost use Rattle.trees.specs.Steps.{HasTable};
 ghost use Rattle.records.specs.Answers.{accepted, outcome_of};
 ghost use Rattle.flux.specs.Given.{Sound-prop};
-ghost use Rattle.flux.specs.Remembered.{remembered_of, Remembers, Remembers-prop, IsOf, IsOf-prop, by_day, stand_with};
+ghost use Rattle.flux.specs.Remembered.{remembered_of, Remembers, Remembers-prop, IsOf, IsOf-prop};
+ghost use Rattle.flux.specs.Remembered.{by_day, stand_with};
 
 use crate::given::Dosing;
 use exact::Bounds;
@@ -43,8 +44,8 @@ fn day_age() -> Age
     }
 }
 
-/// One that remembers nothing, and is for no tree that was asked for: its stand is tree 1's, all year
-/// and without a ceiling.
+/// One that remembers nothing, and is for no tree that was asked for: its stand is tree 1's, all
+/// year and without a ceiling.
 pub fn no_memory() -> Memory
     ensures { accepted result.stand ≡ stand_with no_parameters 1 1 366 0 }
 {
@@ -72,8 +73,8 @@ fn is_of(of: Option<(u8, Parameters)>, tree: u8, parameters: Parameters) -> bool
     of == Some((tree, parameters))
 }
 
-/// A memory for the hours of a season whose leaves age by the day: what they are dosed by, or row 17,
-/// 24 or 5, the first that refuses it. What was remembered of another tree goes.
+/// A memory for the hours of a season whose leaves age by the day: what they are dosed by, or row
+/// 17, 24 or 5, the first that refuses it. What was remembered of another tree goes.
 pub fn prepare(
     memory: &mut Memory,
     tree: u8,

@@ -1,5 +1,5 @@
--- `flux::remembered::no_memory` meets its contract: tree 1 has figures, which its stand is of, and a
--- memory of zeros remembers nothing.
+-- `flux::remembered::no_memory` meets its contract: tree 1 has figures, which its stand is of, and
+-- a memory of zeros remembers nothing.
 use Rattle.std.proofs.Common.{◌≡◌, refl, sym, ap, ◌∙◌, lit≤}
 use Rattle.measured.specs.Parameters.{no_parameters}
 use Rattle.records.specs.Answers.{accepted, outcome_of}
