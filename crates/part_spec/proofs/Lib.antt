@@ -5,6 +5,7 @@ pub mod PlaceLaws
 pub mod SaidLaws
 pub mod SeasonLaws
 pub mod ShownLaws
+pub mod Row13Laws
 pub mod PromiseLaws
 pub mod TakenLaws
 pub mod TrialLaws

@@ -1,5 +1,5 @@
 -- An hour of floats that an account takes is an hour of kind 02 that says them, and the account
--- takes its line.
+-- takes its line; whatever it answers to such an hour, it answers to the line.
 use Rattle.std.proofs.lemmas.Bool.Decides.{nat_tests}
 use Prim.Native.Nat.{ℕ, zero, suc, ◌+◌, ◌*◌, ◌/◌, ◌%◌, ◌<◌}
 use mathlib.Core.Path.{◌≡◌, refl, sym, subst, ◌∙◌}
@@ -22,7 +22,6 @@ use Rattle.records.proofs.AnswerLaws.{onward-passed, on_tree-passed}
 use Rattle.frames.specs.Layout.{ozone_of, frame_line, hour_of}
 use Rattle.frames.specs.Frames.{sound_of, record_of}
 use Rattle.frames.proofs.RangeLaws.{period-le, checked-passed}
-use Rattle.writer.specs.RoundTrip.{InWidth}
 use Rattle.account_spec.specs.declared.Account.{Account}
 use Rattle.account_spec.specs.declared.State.{State}
 use Rattle.account_spec.specs.declared.Phase.{Phase}
@@ -153,26 +152,33 @@ frame-taken a b day hour w e =
 
 -- ---- the hour
 
-module _ (a b : Account) (day hour : ℕ) (r : FloatReadings) where
-  by-wholes : (w : Wholes) → AreWhole r w → (h : Hour) → SaidBy day hour w h
-      → (day < 65536) × (hour < 256) → feed_floats_of a day hour r ≡ accepted b
-      → SaysHour day hour r h × (feed_of a (frame_line (Record.Hour h)) ≡ accepted b)
-  by-wholes w are h s width e =
-      let numbers : AreWhole r (wholes_in h) = subst (AreWhole r) (sym s.numbers) are in
-      let fits : InWidth (Record.Hour h) = (rw s.at_day width.0, rw s.at_hour width.1) in
-      let fed : feed_floats_of a h.day h.hour r ≡ accepted b = rw (s.at_day, s.at_hour) e in (
-        record
-            { at_day = s.at_day; at_hour = s.at_hour; numbers = numbers; kind = s.kind; in_range = s.in_range },
-        sym (float-promise.line a h r numbers s.kind fits s.in_range) ∙ fed,
-      )
+module _ (a : Account) (day hour : ℕ) (r : FloatReadings) where
+  -- it is the line that says it, for every account
+  pub floats-as : (h : Hour) → SaysHour day hour r h
+      → feed_floats_of a day hour r ≡ feed_of a (frame_line (Record.Hour h))
+  floats-as h s =
+      let at : feed_floats_of a h.day h.hour r ≡ feed_floats_of a day hour r =
+      rw (s.at_day, s.at_hour) refl in
+      sym at ∙ float-promise.line a h r s.numbers s.kind s.in_width s.in_range
 
-  pub floats-said : feed_floats_of a day hour r ≡ accepted b
+  says : (w : Wholes) → AreWhole r w → (h : Hour) → SaidBy day hour w h
+      → (day < 65536) × (hour < 256) → SaysHour day hour r h
+  says w are h s width = record {
+    at_day = s.at_day;
+    at_hour = s.at_hour;
+    numbers = subst (AreWhole r) (sym s.numbers) are;
+    kind = s.kind;
+    in_range = s.in_range;
+    in_width = (rw s.at_day width.0, rw s.at_hour width.1);
+  }
+
+  pub floats-said : (b : Account) → feed_floats_of a day hour r ≡ accepted b
       → (h : Hour) × SaysHour day hour r h × (feed_of a (frame_line (Record.Hour h)) ≡ accepted b)
   unfolding feed_floats_of
-  floats-said e =
+  floats-said b e =
       let timely = onward-passed (timely_of a (hour_at day hour)) _ b e in
       let wholes = onward-passed (wholes_of r) _ b timely.2 in
       let taken = frame-taken a b day hour wholes.0 wholes.2 in
       let said = float-promise.said day hour wholes.0 taken.measure taken.ranges in
-      let says = by-wholes wholes.0 (wholes-back r wholes.0 wholes.1) said.0 said.1 taken.width e in
-      (said.0, says.0, says.1)
+      let s = says wholes.0 (wholes-back r wholes.0 wholes.1) said.0 said.1 taken.width in
+      (said.0, s, sym (floats-as said.0 s) ∙ e)

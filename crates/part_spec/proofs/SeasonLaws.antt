@@ -3,7 +3,7 @@
 use Rattle.std.specs.Prelude.{Ok, Err}
 use Prim.Native.Nat.{ℕ}
 use mathlib.Core.Path.{◌≡◌, refl, sym, ap, subst, ◌∙◌}
-use mathlib.Core.Bool.{Bool, true, false}
+use mathlib.Core.Bool.{Bool, true, false, true≢false}
 use mathlib.Core.List.{List, [], ◌∷◌, ◌++◌, append-nil}
 use native.Mathlib.Omega.{arith}
 use borrow.Author.Tests.{ltb-true}
@@ -14,14 +14,14 @@ use Rattle.records.specs.declared.Record.{Record}
 use Rattle.records.specs.Answers.{Outcome, accepted, refused}
 use Rattle.frames.specs.Layout.{frame_line}
 use Rattle.account_spec.specs.declared.Account.{Account}
-use Rattle.account_spec.specs.Account.{fresh_account}
+use Rattle.account_spec.specs.Account.{fresh_account, impossible}
 use Rattle.account_spec.specs.Rules.{entered, feed_of, left_of, fed_as, left_by, Feeds, Fed}
 use Rattle.account_spec.specs.Reading.{totals_of, read_of}
 use Rattle.account_spec.specs.Book.{Book, empty_book, book_answer, book_next}
 use Rattle.account_spec.specs.Runs.{Event, fed, taken, Run, account_after}
 use Rattle.account_spec.specs.Promise.{SeasonPromise}
 use Rattle.account_spec.specs.Steps.{account_of, Proper}
-use Rattle.account_spec.proofs.BookLaws.{fresh-same}
+use Rattle.account_spec.proofs.BookLaws.{fresh-same, proper-possible}
 use Rattle.account_spec.proofs.RowLaws.{answer-row}
 use Rattle.account_spec.proofs.ReadingLaws.{read_of-is}
 use Rattle.account_spec.proofs.SeasonLaws.{feed_of-is, left_is, next-is-proper, fresh-proper}
@@ -38,6 +38,7 @@ use Rattle.answers.specs.declared.Readout.{Readout}
 use Rattle.answers.specs.declared.Tried.{Tried}
 use Rattle.answers.specs.Code.{code_of, answer_of}
 use Rattle.answers.specs.Reading.{readout_of}
+use Rattle.trial_spec.specs.Same.{is_same}
 use Rattle.trial_spec.specs.Trial.{next_of}
 use Rattle.trial_spec.specs.Taking.{take_with}
 use Rattle.trial_spec.proofs.SameLaws.{same-is}
@@ -52,7 +53,9 @@ use Rattle.part_spec.specs.Told.{reading_told, print_told, front, at_place, IsMa
 use Rattle.part_spec.specs.Promise.{account_now, TrialTold, LineRefused, Telling}
 use Rattle.part_spec.proofs.HeldLaws.{fed-is, read_is, left-held, lent-held, front-held}
 use Rattle.part_spec.proofs.PlaceLaws.{place-taken, place-kept}
-use Rattle.part_spec.proofs.SaidLaws.{floats-said}
+use Rattle.part_spec.proofs.SaidLaws.{floats-as, floats-said}
+use Rattle.part_spec.proofs.Row13Laws.{Never13, accepted-never, refused-never, onward-never}
+use Rattle.part_spec.proofs.Row13Laws.{floats-never}
 
 -- ---- events after events
 
@@ -172,6 +175,28 @@ module _ (p : SeasonPromise) (done : List Event) (n : Begun done) where
         is = end-on fresh_account done (fed l r ∷ []) ∙ left_is n.book n.proper l r same;
       }
 
+  -- ---- no row 13, and a line that it refuses
+
+  possible-now : impossible now ≡ false
+  possible-now =
+      subst (λ (a : Account). impossible a ≡ false) (sym n.is) (proper-possible n.book n.proper)
+
+  fed-never : (l : List ℕ) → Never13 (feed_of now l)
+  fed-never l =
+      let never : Never13 (book_answer n.book l) =
+      record { never = λ f e. true≢false (answer-row n.book l 13 f e).possible } in
+      subst Never13 (sym (ap (λ (a : Account). feed_of a l) n.is ∙ feed_of-is n.book n.proper l))
+      (onward-never (book_answer n.book l) _ never (λ r. accepted-never _))
+
+  line-refused : (l : List ℕ) (w : ℕ × ℕ) → feed_of now l ≡ refused w → LineRefused done l w
+  line-refused l w e =
+      let r = replied l in
+      record {
+        fed_so = r.reply-to;
+        kept = run-kept p (done ++ fed l r.reply-to ∷ []) (fed-next l r.reply-to r.feeds-it);
+        answers = r.feeds-it.answers ∙ e;
+      }
+
   -- ---- a call by the events that it adds
 
   module _ (t : Told) (after : List ℕ) where
@@ -230,7 +255,7 @@ module _ (p : SeasonPromise) (done : List Event) (n : Begun done) where
       floats-by : (o : Outcome Account) → feed_floats_of now day hour readings ≡ o
           → Step done (floats_told day hour readings code) (front after)
       floats-by (accepted b) e =
-          let said = floats-said now b day hour readings e in
+          let said = floats-said now day hour readings b e in
           let left = left-held now lent held _ (accepted b) (floats-is ∙ e) after code k in
           by_line (floats_told day hour readings code) (front after)
           (frame_line (Record.Hour said.0)) (Ok b) (accepted-feeds now b _ said.2)
@@ -238,7 +263,9 @@ module _ (p : SeasonPromise) (done : List Event) (n : Begun done) where
       floats-by (refused w) e =
           let left = left-held now lent held _ (refused w) (floats-is ∙ e) after code k in
           stays (floats_told day hour readings code) (front after)
-          (Telling.floats_refused e (k.answers ∙ ap code_of (floats-is ∙ e)))
+          (Telling.floats_refused e (k.answers ∙ ap code_of (floats-is ∙ e))
+          (λ field is. (floats-never now possible-now day hour readings).never field (e ∙ ap refused is))
+          (λ h says. line-refused _ w (sym (floats-as now day hour readings h says) ∙ e)))
           (front-held after now left)
 
     -- ---- a trial made
@@ -304,15 +331,16 @@ module _ (p : SeasonPromise) (done : List Event) (n : Begun done) where
           let r = replied l in
           rw (e, carried-fed now l r.reply-to r.feeds-it) (take-fed now l)
 
-      line-refused : (w : ℕ × ℕ) → taken_from trial now ≡ refused w → (l : List ℕ)
-          → contents_in trial ≡ accepted (contents_by now l) → LineRefused done l w
-      line-refused w e l is =
-          let r = replied l in
-          record {
-            fed_so = r.reply-to;
-            kept = run-kept p (done ++ fed l r.reply-to ∷ []) (fed-next l r.reply-to r.feeds-it);
-            answers = r.feeds-it.answers ∙ sym (taken-fed l is) ∙ e;
-          }
+      -- made by any line, it is that line's row, or row 16 of another account
+      made-never : (m : IsMade trial) (same : Bool) → is_same now m.tried ≡ same
+          → Never13 (taken_from trial now)
+      unfolding take_with
+      made-never m true e =
+          let holds : contents_in trial ≡ accepted (contents_by now m.line) =
+          subst (λ (a : Account). contents_in trial ≡ accepted (contents_by a m.line))
+          (sym ((same-is now m.tried).0 e)) m.holds in
+          rw (taken-fed m.line holds) (fed-never m.line)
+      made-never m false e = rw (m.holds, possible-now, e) (refused-never 16 0 refl)
 
       taken-line : (b : Account) → taken_from trial now ≡ accepted b → code ≡ 0 → IsMade trial
           → Step done (take_told trial code) (front after)
@@ -335,7 +363,9 @@ module _ (p : SeasonPromise) (done : List Event) (n : Begun done) where
       taken-by made-of (refused w) e =
           let left = left-held now lent held _ (refused w) (taken-is ∙ e) after code k in
           stays (take_told trial code) (front after)
-          (Telling.take_refused e (k.answers ∙ ap code_of (taken-is ∙ e)) (line-refused w e))
+          (Telling.take_refused e (k.answers ∙ ap code_of (taken-is ∙ e))
+          (λ m field is. (made-never m (is_same now m.tried) refl).never field (e ∙ ap refused is))
+          (λ l is. line-refused l w (sym (taken-fed l is) ∙ e)))
           (front-held after now left)
 
     -- ---- a reading, and its line

@@ -11,7 +11,7 @@ use mathlib.Core.Path.{◌≡◌, refl, sym, ap, subst, ◌∙◌}
 use mathlib.Core.List.{List, [], ◌∷◌, ◌++◌}
 use lib.IntN.{pos}
 use Rattle.records.specs.declared.Record.{Record}
-use Rattle.records.specs.Answers.{Outcome, accepted}
+use Rattle.records.specs.Answers.{Outcome, accepted, refused}
 use Rattle.records.specs.Temperature.{signed_of, complement_of, temperature_out}
 use Rattle.records.specs.Ranges.{checked}
 use Rattle.trees.specs.Figures.{figures_of}
@@ -28,13 +28,13 @@ use Rattle.account_spec.specs.Account.{fresh_account, impossible}
 use Rattle.account_spec.specs.Hours.{stand_in, none_carried, hour_sums}
 use Rattle.account_spec.specs.Rules.{due_of, turn_of, answer_of as line_answer_of, with_header}
 use Rattle.account_spec.specs.Rules.{opened, entered, left_of, feed_of}
-use Rattle.records.proofs.AnswerLaws.{and_both, accepted-same}
+use Rattle.records.proofs.AnswerLaws.{and_both, accepted-same, refused-not-accepted}
 use Rattle.stored.specs.Packing.{FitFrom}
 use Rattle.stored.specs.Layout.{widths, account_width, account_numbers, account_bytes}
 use Rattle.stored.specs.RoundTrip.{TakenUp}
 use Rattle.stored.proofs.AccountLaws.{taken-up, account-length}
 use Rattle.answers.specs.declared.Readout.{Readout}
-use Rattle.answers.specs.Code.{code_of, is_code, answer_of}
+use Rattle.answers.specs.Code.{code_of, code_of_row, is_code, answer_of}
 use Rattle.answers.specs.Reading.{readout_of}
 use Rattle.account_spec.specs.Reading.{verdict_of, read_of}
 use Rattle.report_spec.specs.Text.{digits_before, decimal}
@@ -73,6 +73,10 @@ begun-by : feed_of fresh_account (frame_line (Record.Header dark_header)) ≡ ac
     (opened dark_header)
 unfolding feed_of line_answer_of turn_of due_of parsed_of record_of sound_of checked frame_at frame_of frame_line hour_of signed_of complement_of temperature_out is_digit value_of all_digits byte_at number_at digit_of among length_of figures_in figures_of impossible entered
 begun-by = refl
+
+second-header : feed_of (opened dark_header) (frame_line (Record.Header dark_header)) ≡ refused (4, 0)
+unfolding feed_of line_answer_of turn_of due_of parsed_of record_of sound_of checked frame_at frame_of frame_line hour_of signed_of complement_of temperature_out is_digit value_of all_digits byte_at number_at digit_of among length_of figures_in figures_of impossible entered
+second-header = refl
 
 first-hour : feed_of (opened dark_header) (frame_line (Record.Hour (dark_hour 0))) ≡ accepted
     (dark_account 1)
@@ -214,6 +218,16 @@ module _ (a : Account) (up : TakenUp a) where
           call-in a b [] (drop account_width lent) (take_told trial 0)
           (CallTold.takes lent left (leaves-next (taken_in lent trial) taken) (λ z. record { tried = a; line = l; holds = held ∙ ap accepted (sym same) }))
 
+  -- a line that it refuses leaves it
+
+  refused-call : (l : List ℕ) (w : ℕ × ℕ) → feed_of a l ≡ refused w
+      → CallTold (account_bytes a) (line_told l (code_of_row w)) (account_bytes a)
+  refused-call l w e =
+      let is : fed_in lent l ≡ refused w = fed-is a lent (up.back []) l ∙ e in
+      call-in a a [] [] (line_told l (code_of_row w))
+      (CallTold.feeds lent lent
+      (record { answers = ap code_of (sym is); leaves = ap (bytes_after lent) (sym is); holds = λ c f. refused-not-accepted (sym is ∙ f) }))
+
   -- a reading, and the account's line
 
   reading-call : (reading : Readout) → readout_of (read_of a) ≡ reading
@@ -295,11 +309,12 @@ module _ (room : List ℕ) (long : account_width ≤ length room) where
             (λ (x : List ℕ). Calls x (shown_told buffer paper (trial a first-up b second-up l second-hour buffer h)) (account_bytes b))
             (sym (front-is fresh_account (drop account_width room)))
             (Calls.call (fed-call fresh_account fresh-up (opened dark_header) opened-up (frame_line (Record.Header dark_header)) begun-by)
+            (Calls.call (refused-call (opened dark_header) opened-up (frame_line (Record.Header dark_header)) (4, 0) second-header)
             (Calls.call (floats-call (opened dark_header) opened-up a first-up 1 0 dark_floats first-floats)
             (Calls.call (trial-call a first-up b second-up l second-hour buffer h (dark_reading 2) dark_read)
             (Calls.call (take-call a first-up b second-up l second-hour buffer h)
             (Calls.call (reading-call b second-up (dark_reading 2) dark_read)
-            (Calls.call (print-call b second-up dark_text paper dark_line k) Calls.stop))))));
+            (Calls.call (print-call b second-up dark_text paper dark_line k) Calls.stop)))))));
       }
 
 pub shown : (room buffer paper : List ℕ) → account_width ≤ length room → trial_width ≤ length buffer

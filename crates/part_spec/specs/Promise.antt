@@ -6,6 +6,7 @@ use Rattle.records.specs.declared.Record.{Record}
 use Rattle.records.specs.Answers.{accepted, refused}
 use Rattle.records.specs.Ranges.{checked}
 use Rattle.frames.specs.Layout.{air_kind, frame_line}
+use Rattle.writer.specs.RoundTrip.{InWidth}
 use Rattle.account_spec.specs.declared.Account.{Account}
 use Rattle.account_spec.specs.declared.Totals.{Totals}
 use Rattle.account_spec.specs.Account.{fresh_account, impossible}
@@ -29,7 +30,7 @@ use Rattle.answers.specs.Reading.{readout_of, no_trial}
 use Rattle.part_spec.specs.Calls.{Stores, PrintsBytes}
 use Rattle.part_spec.specs.Trials.{contents_by, taken_from, TakesBytes}
 use Rattle.part_spec.specs.Told.{Told, line_told, floats_told, trial_told, take_told, list_told}
-use Rattle.part_spec.specs.Told.{reading_told, print_told, front, Calls}
+use Rattle.part_spec.specs.Told.{reading_told, print_told, front, IsMade, Calls}
 use Rattle.part_spec.specs.Shown.{ShownRun}
 
 -- ---- the account that the events so far left
@@ -46,6 +47,8 @@ pub record SaysHour (day hour : ℕ) (readings : FloatReadings) (h : Hour) : Typ
   pub numbers : AreWhole readings (wholes_in h)
   pub kind : air_kind h.air ≡ 2
   pub in_range : checked (Record.Hour h) ≡ accepted tt
+  -- its line has room for the day and the hour
+  pub in_width : InWidth (Record.Hour h)
 
 -- trying a line tells its answer and the reading after it, as if the season had gone on so; the
 -- trial is made of this account and line
@@ -60,7 +63,7 @@ pub record TrialTold (done : List Event) (line buffer : List ℕ) (answer : Trie
   pub leaves : trial ≡ trial_bytes (contents_by (account_now done) line) ++ drop trial_width buffer
   pub holds : contents_in trial ≡ accepted (contents_by (account_now done) line)
 
--- a refused take of a trial that a line made of this account: that line's refusal
+-- this line would be refused by that row, and the season kept with it
 pub record LineRefused (done : List Event) (line : List ℕ) (row : ℕ × ℕ) : Type 0 where
   pub fed_so : Fed
   pub kept : RunKept (done ++ fed line fed_so ∷ [])
@@ -71,13 +74,16 @@ pub data Telling (done : List Event) : Told → List Event → Type 0 where
   line : {l : List ℕ} {code : ℕ} {r : Fed} → code ≡ code_of (fed_as r)
       → Telling done (line_told l code) (fed l r ∷ [])
   -- an hour of floats that is taken is its line of kind 02, taken; a refused one leaves the season,
-  -- and the row is that of its numbers
+  -- and the row is that of its numbers, never 13; whole and in range it is the row of its line
   floats : {day hour : ℕ} {readings : FloatReadings} {code : ℕ} {h : Hour} {a : Account}
       → SaysHour day hour readings h → code ≡ 0
       → Telling done (floats_told day hour readings code)
       (fed (frame_line (Record.Hour h)) (Ok a) ∷ [])
   floats_refused : {day hour : ℕ} {readings : FloatReadings} {code : ℕ} {row : ℕ × ℕ}
       → feed_floats_of (account_now done) day hour readings ≡ refused row → code ≡ code_of_row row
+      → ((field : ℕ) → row ≡ (13, field) → ⊥)
+      → ((h : Hour) → SaysHour day hour readings h
+      → LineRefused done (frame_line (Record.Hour h)) row)
       → Telling done (floats_told day hour readings code) []
   -- a trial leaves the season; row 12 where its buffer is too short
   trial : {l buffer bytes : List ℕ} {answer : Tried} → TrialTold done l buffer answer bytes
@@ -86,12 +92,14 @@ pub data Telling (done : List Event) : Told → List Event → Type 0 where
       → length buffer < trial_width → answer ≡ no_trial 12 → bytes ≡ buffer
       → Telling done (trial_told l buffer answer bytes) []
   -- a trial that is taken is its line, made of this account and taken; a refused one, whatever its
-  -- bytes, leaves the season
+  -- bytes, leaves the season; row 13 comes up only for bytes that no line made, and a line's trial
+  -- of this account gets the row of the line
   take : {l bytes : List ℕ} {code : ℕ} {a : Account}
       → contents_in bytes ≡ accepted (contents_by (account_now done) l) → code ≡ 0
       → Telling done (take_told bytes code) (fed l (Ok a) ∷ [])
   take_refused : {bytes : List ℕ} {code : ℕ} {row : ℕ × ℕ}
       → taken_from bytes (account_now done) ≡ refused row → code ≡ code_of_row row
+      → (IsMade bytes → (field : ℕ) → row ≡ (13, field) → ⊥)
       → ((l : List ℕ) → contents_in bytes ≡ accepted (contents_by (account_now done) l)
       → LineRefused done l row)
       → Telling done (take_told bytes code) []

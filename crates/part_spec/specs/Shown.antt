@@ -1,5 +1,5 @@
--- A run that shows the promise: a header's line, an hour of floats, the next hour tried and taken,
--- a reading, the account's line.
+-- A run that shows the promise: a header's line, the same refused as a second one, an hour of
+-- floats, the next hour tried and taken, a reading, the account's line.
 use Rattle.std.specs.Prelude.{ℕ, List, [], ◌∷◌, ◌++◌, drop, pos, Some, Float}
 use Rattle.std.specs.Float.{binary32}
 use Rattle.std.specs.Float.Ieee.{of_int}
@@ -76,6 +76,7 @@ dark_trial = record { code = 0; answer = 0; reading = dark_reading 2 }
 abbrev pub shown_told : (buffer paper trial : List ℕ) → List Told
 shown_told buffer paper trial =
     line_told (frame_line (Record.Header dark_header)) 0
+    ∷ line_told (frame_line (Record.Header dark_header)) 4
     ∷ floats_told 1 0 dark_floats 0
     ∷ trial_told (frame_line (Record.Hour (dark_hour 1))) buffer dark_trial trial
     ∷ take_told trial 0
