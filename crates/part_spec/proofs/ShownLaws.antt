@@ -1,17 +1,17 @@
 -- The worked run is one.
 use Rattle.std.specs.Prelude.{Some, Ok}
-use Prim.Native.Nat.{ℕ, suc, ◌^◌, ◌≤◌}
+use Prim.Native.Nat.{ℕ, suc, ◌*◌, ◌^◌, ◌≤◌}
 use borrow.Author.Tests.{ltb-true, le-ltb}
 use native.Mathlib.Omega.{arith}
-use lib.Seq.{take_at}
+use lib.Seq.{take_at, drop_at}
 use lib.Dec.{ltb}
 use lib.ListN.{length, get_or, drop}
 use mathlib.Core.Bool.{Bool, true, false, ◌&&◌}
 use mathlib.Core.Path.{◌≡◌, refl, sym, ap, subst, ◌∙◌}
-use mathlib.Core.List.{List, [], ◌∷◌, ◌++◌}
+use mathlib.Core.List.{List, [], ◌∷◌, ◌++◌, append-nil}
 use lib.IntN.{pos}
 use Rattle.records.specs.declared.Record.{Record}
-use Rattle.records.specs.Answers.{Outcome, accepted, refused}
+use Rattle.records.specs.Answers.{Outcome, accepted, refused, reply}
 use Rattle.records.specs.Temperature.{signed_of, complement_of, temperature_out}
 use Rattle.records.specs.Ranges.{checked}
 use Rattle.trees.specs.Figures.{figures_of}
@@ -45,6 +45,11 @@ use Rattle.floats_spec.specs.Numbers.{wholes_in}
 use Rattle.floats_spec.specs.Feeding.{feed_floats_of}
 use Rattle.floats_spec.specs.Promise.{AreWhole}
 use Rattle.floats_spec.proofs.PromiseLaws.{float-promise}
+use Rattle.list_spec.specs.Together.{together}
+use Rattle.list_spec.specs.Alike.{any_unlike}
+use Rattle.list_spec.specs.Feeding.{any_impossible, feed_all_of}
+use Rattle.stored_list.specs.InBytes.{accounts_bytes, accounts_in, count_in, list_in}
+use Rattle.stored_list.specs.Feeding.{fed_listed_of, listed_after}
 use Rattle.stored_trial.specs.Layout.{Contents, carried_by, trial_width, trial_bytes, contents_in}
 use Rattle.stored_trial.proofs.ContentsLaws.{contents-same}
 use Rattle.stored_trial.proofs.RoundTripLaws.{contents-back}
@@ -55,7 +60,7 @@ use Rattle.part_spec.specs.Trials.{taken_in}
 use Rattle.part_spec.proofs.HeldLaws.{fed-is, read_is}
 use Rattle.part_spec.specs.Calls.{Stores, bytes_after, LeavesBytes, fed_in, line_in}
 use Rattle.part_spec.specs.Told.{Told, line_told, floats_told, trial_told, take_told, reading_told}
-use Rattle.part_spec.specs.Told.{print_told, front, CallTold, Calls}
+use Rattle.part_spec.specs.Told.{list_told, print_told, front, CallTold, Calls}
 use Rattle.part_spec.specs.Shown.{dark_header, dark_hour, float, dark_floats, dark_reading}
 use Rattle.part_spec.specs.Shown.{dark_text, shown_told, ShownRun}
 
@@ -88,6 +93,15 @@ second-hour : feed_of (dark_account 1) (frame_line (Record.Hour (dark_hour 1))) 
 unfolding feed_of line_answer_of turn_of due_of parsed_of record_of sound_of checked frame_at frame_of frame_line hour_of signed_of complement_of temperature_out is_digit value_of all_digits byte_at number_at digit_of among length_of figures_in figures_of impossible entered stand_in tree_of hour_sums
 second-hour = refl
 
+third-hour : feed_of (dark_account 2) (frame_line (Record.Hour (dark_hour 2))) ≡ accepted
+    (dark_account 3)
+unfolding feed_of line_answer_of turn_of due_of parsed_of record_of sound_of checked frame_at frame_of frame_line hour_of signed_of complement_of temperature_out is_digit value_of all_digits byte_at number_at digit_of among length_of figures_in figures_of impossible entered stand_in tree_of hour_sums
+third-hour = refl
+
+second-possible : impossible (dark_account 2) ≡ false
+unfolding impossible checked figures_in figures_of
+second-possible = refl
+
 -- ---- its bytes
 
 abbrev fits_from : ℕ → List ℕ → List ℕ → Bool
@@ -119,6 +133,10 @@ first-up = by-fits (dark_account 1) refl refl
 second-up : TakenUp (dark_account 2)
 unfolding signed_of complement_of
 second-up = by-fits (dark_account 2) refl refl
+
+third-up : TakenUp (dark_account 3)
+unfolding signed_of complement_of
+third-up = by-fits (dark_account 3) refl refl
 
 -- ---- calls on an account's bytes alone
 
@@ -228,6 +246,15 @@ module _ (a : Account) (up : TakenUp a) where
       (CallTold.feeds lent lent
       (record { answers = ap code_of (sym is); leaves = ap (bytes_after lent) (sym is); holds = λ c f. refused-not-accepted (sym is ∙ f) }))
 
+  -- the only one of a list
+
+  count-one : count_in lent ≡ 1
+  count-one = rw (append-nil (account_bytes a), account-length a) refl
+
+  only-one : list_in lent ≡ accepted (a ∷ [])
+  unfolding accounts_in
+  only-one = ap (λ (n : ℕ). accounts_in n lent) count-one ∙ rw (up.back []) refl
+
   -- a reading, and the account's line
 
   reading-call : (reading : Readout) → readout_of (read_of a) ≡ reading
@@ -253,6 +280,40 @@ module _ (a : Account) (up : TakenUp a) where
       (CallTold.prints lent
       (record { written = Ok (length text); prints = record { answers = rw (line-in, e, long) refl; leaves = rw (line-in, e, long) refl }; answers = refl }))
 
+-- ---- a line to a list of one
+
+module _ (a b : Account) (up : TakenUp a) (next : TakenUp b) (l : List ℕ)
+    (possible : impossible a ≡ false) (e : feed_of a l ≡ accepted b) where
+  abbrev alone : List ℕ
+  alone = account_bytes a ++ []
+
+  fed-one : fed_listed_of alone l ≡ accepted (b ∷ [])
+  unfolding fed_listed_of feed_all_of any_impossible any_unlike together
+  fed-one = rw (only-one a up, count-one a up, possible, e) refl
+
+  nothing-behind : drop (account_width * count_in alone) alone ≡ []
+  nothing-behind =
+      ap (λ (n : ℕ). drop (account_width * n) alone) (count-one a up)
+      ∙ drop_at (account_bytes a) [] account_width (account-length a)
+
+  left-one : account_bytes b ++ [] ≡ listed_after alone (accepted (b ∷ []))
+  unfolding accounts_bytes
+  left-one =
+      sym (append-nil (account_bytes b ++ []))
+      ∙ ap (λ (d : List ℕ). (account_bytes b ++ []) ++ d) (sym nothing-behind)
+
+  list-call : CallTold (account_bytes a) (list_told alone l 0) (account_bytes b)
+  list-call =
+      call-in a b [] [] (list_told alone l 0)
+      (CallTold.feeds_all 0 alone (account_bytes b ++ [])
+      (record {
+        answers = ap code_of (sym fed-one);
+        reply = Ok tt;
+        feeds =
+            record
+            { answers = ap reply (sym fed-one); leaves = left-one ∙ ap (listed_after alone) (sym fed-one); holds = λ ys f. only-one b next ∙ sym fed-one ∙ f };
+      }))
+
 -- ---- the run
 
 first-floats : feed_floats_of (opened dark_header) 1 0 dark_floats ≡ accepted (dark_account 1)
@@ -277,7 +338,11 @@ dark_read : readout_of (read_of (dark_account 2)) ≡ dark_reading 2
 unfolding read_of impossible checked figures_in figures_of verdict_of
 dark_read = refl
 
-dark_line : format_of (dark_account 2) ≡ accepted dark_text
+dark_after : readout_of (read_of (dark_account 3)) ≡ dark_reading 3
+unfolding read_of impossible checked figures_in figures_of verdict_of
+dark_after = refl
+
+dark_line : format_of (dark_account 3) ≡ accepted dark_text
 unfolding format_of read_of impossible checked figures_in figures_of verdict_of totals_line decimal digits_before
 dark_line = refl
 
@@ -299,22 +364,27 @@ module _ (room : List ℕ) (long : account_width ≤ length room) where
       let l = frame_line (Record.Hour (dark_hour 1)) in
       let a = dark_account 1 in
       let b = dark_account 2 in
+      let c = dark_account 3 in
+      let next = frame_line (Record.Hour (dark_hour 2)) in
       record {
         begun = begun;
         trial = trial a first-up b second-up l second-hour buffer h;
-        left = account_bytes b;
+        alone = alone b c second-up third-up next second-possible third-hour;
+        left = account_bytes c;
+        one = rw (append-nil (account_bytes b), account-length b) refl;
         stores = fresh-stores;
         calls =
             subst
-            (λ (x : List ℕ). Calls x (shown_told buffer paper (trial a first-up b second-up l second-hour buffer h)) (account_bytes b))
+            (λ (x : List ℕ). Calls x (shown_told buffer paper (trial a first-up b second-up l second-hour buffer h) (alone b c second-up third-up next second-possible third-hour)) (account_bytes c))
             (sym (front-is fresh_account (drop account_width room)))
             (Calls.call (fed-call fresh_account fresh-up (opened dark_header) opened-up (frame_line (Record.Header dark_header)) begun-by)
             (Calls.call (refused-call (opened dark_header) opened-up (frame_line (Record.Header dark_header)) (4, 0) second-header)
             (Calls.call (floats-call (opened dark_header) opened-up a first-up 1 0 dark_floats first-floats)
             (Calls.call (trial-call a first-up b second-up l second-hour buffer h (dark_reading 2) dark_read)
             (Calls.call (take-call a first-up b second-up l second-hour buffer h)
-            (Calls.call (reading-call b second-up (dark_reading 2) dark_read)
-            (Calls.call (print-call b second-up dark_text paper dark_line k) Calls.stop)))))));
+            (Calls.call (list-call b c second-up third-up next second-possible third-hour)
+            (Calls.call (reading-call c third-up (dark_reading 3) dark_after)
+            (Calls.call (print-call c third-up dark_text paper dark_line k) Calls.stop))))))));
       }
 
 pub shown : (room buffer paper : List ℕ) → account_width ≤ length room → trial_width ≤ length buffer

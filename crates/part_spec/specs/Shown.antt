@@ -1,6 +1,7 @@
--- A run that shows the promise: a header's line, the same refused as a second one, an hour of
--- floats, the next hour tried and taken, a reading, the account's line.
-use Rattle.std.specs.Prelude.{ℕ, List, [], ◌∷◌, ◌++◌, drop, pos, Some, Float}
+-- A run that shows the promise, by each kind of call: a header's line, the same refused as a second
+-- one, an hour of floats, the next hour tried and taken, one more as a line to a list that has this
+-- account alone, a reading, the account's line.
+use Rattle.std.specs.Prelude.{ℕ, ◌≡◌, List, [], ◌∷◌, ◌++◌, length, drop, pos, Some, Float}
 use Rattle.std.specs.Float.{binary32}
 use Rattle.std.specs.Float.Ieee.{of_int}
 use Rattle.records.specs.declared.Air.{Air}
@@ -11,10 +12,11 @@ use Rattle.records.specs.declared.Soil.{Soil}
 use Rattle.frames.specs.Layout.{frame_line}
 use Rattle.account_spec.specs.Account.{fresh_account}
 use Rattle.floats_spec.specs.declared.FloatReadings.{FloatReadings}
+use Rattle.stored.specs.Layout.{account_width}
 use Rattle.answers.specs.declared.Readout.{Readout}
 use Rattle.answers.specs.declared.Tried.{Tried}
 use Rattle.part_spec.specs.Calls.{Stores}
-use Rattle.part_spec.specs.Told.{Told, line_told, floats_told, trial_told, take_told}
+use Rattle.part_spec.specs.Told.{Told, line_told, floats_told, trial_told, take_told, list_told}
 use Rattle.part_spec.specs.Told.{reading_told, print_told, front, Calls}
 
 -- ---- an evergreen day in the dark
@@ -64,23 +66,24 @@ dark_reading hours = record {
   upper = 0;
 }
 
--- `2 0 0 0 0 0 below` and a line feed: 18 bytes
+-- `3 0 0 0 0 0 below` and a line feed: 18 bytes
 abbrev pub dark_text : List ℕ
 dark_text =
-    50 ∷ 32 ∷ 48 ∷ 32 ∷ 48 ∷ 32 ∷ 48 ∷ 32 ∷ 48 ∷ 32 ∷ 48 ∷ 32
+    51 ∷ 32 ∷ 48 ∷ 32 ∷ 48 ∷ 32 ∷ 48 ∷ 32 ∷ 48 ∷ 32 ∷ 48 ∷ 32
     ∷ 98 ∷ 101 ∷ 108 ∷ 111 ∷ 119 ∷ 10 ∷ []
 
 abbrev pub dark_trial : Tried
 dark_trial = record { code = 0; answer = 0; reading = dark_reading 2 }
 
-abbrev pub shown_told : (buffer paper trial : List ℕ) → List Told
-shown_told buffer paper trial =
+abbrev pub shown_told : (buffer paper trial alone : List ℕ) → List Told
+shown_told buffer paper trial alone =
     line_told (frame_line (Record.Header dark_header)) 0
     ∷ line_told (frame_line (Record.Header dark_header)) 4
     ∷ floats_told 1 0 dark_floats 0
     ∷ trial_told (frame_line (Record.Hour (dark_hour 1))) buffer dark_trial trial
     ∷ take_told trial 0
-    ∷ reading_told (dark_reading 2)
+    ∷ list_told alone (frame_line (Record.Hour (dark_hour 2))) 0
+    ∷ reading_told (dark_reading 3)
     ∷ print_told paper (record { code = 0; length = 18 }) (dark_text ++ drop 18 paper)
     ∷ []
 
@@ -88,6 +91,8 @@ shown_told buffer paper trial =
 pub record ShownRun (room buffer paper : List ℕ) : Type 0 where
   pub begun : List ℕ
   pub trial : List ℕ
+  pub alone : List ℕ
   pub left : List ℕ
+  pub one : length alone ≡ account_width
   pub stores : Stores fresh_account room 0 begun
-  pub calls : Calls (front begun) (shown_told buffer paper trial) left
+  pub calls : Calls (front begun) (shown_told buffer paper trial alone) left
