@@ -68,8 +68,7 @@ wholes-never r =
     field-never 5 (whole_of r.vpd) _ (λ v.
     field-never 6 (whole_of r.wind) _ (λ w.
     field-never 7 (whole_of r.soil) _ (λ s.
-    accepted-never
-    (record { ozone = o; ppfd = p; radiation = g; temperature = t; vpd = v; wind = w; soil = s }))))))))
+    accepted-never _)))))))
 
 module _ (a : Account) (possible : impossible a ≡ false) where
   timely-never : (raw : RawHour) → Never13 (timely_of a raw)

@@ -262,9 +262,10 @@ module _ (p : SeasonPromise) (done : List Event) (n : Begun done) where
           (Telling.floats said.1 (k.answers ∙ ap code_of (floats-is ∙ e))) (front-held after b left)
       floats-by (refused w) e =
           let left = left-held now lent held _ (refused w) (floats-is ∙ e) after code k in
+          let no-13 = floats-never now possible-now day hour readings in
           stays (floats_told day hour readings code) (front after)
           (Telling.floats_refused e (k.answers ∙ ap code_of (floats-is ∙ e))
-          (λ field is. (floats-never now possible-now day hour readings).never field (e ∙ ap refused is))
+          (λ field is. no-13.never field (e ∙ ap refused is))
           (λ h says. line-refused _ w (sym (floats-as now day hour readings h says) ∙ e)))
           (front-held after now left)
 

@@ -49,12 +49,13 @@ use Rattle.list_spec.specs.Together.{together}
 use Rattle.list_spec.specs.Alike.{any_unlike}
 use Rattle.list_spec.specs.Feeding.{any_impossible, feed_all_of}
 use Rattle.stored_list.specs.InBytes.{accounts_bytes, accounts_in, count_in, list_in}
-use Rattle.stored_list.specs.Feeding.{fed_listed_of, listed_after}
+use Rattle.stored_list.specs.Feeding.{fed_listed_of, listed_after, FeedsListed}
 use Rattle.stored_trial.specs.Layout.{Contents, carried_by, trial_width, trial_bytes, contents_in}
 use Rattle.stored_trial.proofs.ContentsLaws.{contents-same}
 use Rattle.stored_trial.proofs.RoundTripLaws.{contents-back}
 use Rattle.trial_spec.proofs.TrialLaws.{take-fed}
 use Rattle.part_spec.specs.Floats.{floats_fed_in}
+use Rattle.part_spec.specs.Lists.{FeedsAllBytes}
 use Rattle.part_spec.specs.Trials.{contents_by, tried_in, tried_of, trial_after, TriesBytes}
 use Rattle.part_spec.specs.Trials.{taken_in}
 use Rattle.part_spec.proofs.HeldLaws.{fed-is, read_is}
@@ -79,7 +80,8 @@ begun-by : feed_of fresh_account (frame_line (Record.Header dark_header)) ≡ ac
 unfolding feed_of line_answer_of turn_of due_of parsed_of record_of sound_of checked frame_at frame_of frame_line hour_of signed_of complement_of temperature_out is_digit value_of all_digits byte_at number_at digit_of among length_of figures_in figures_of impossible entered
 begun-by = refl
 
-second-header : feed_of (opened dark_header) (frame_line (Record.Header dark_header)) ≡ refused (4, 0)
+second-header : feed_of (opened dark_header) (frame_line (Record.Header dark_header)) ≡ refused
+    (4, 0)
 unfolding feed_of line_answer_of turn_of due_of parsed_of record_of sound_of checked frame_at frame_of frame_line hour_of signed_of complement_of temperature_out is_digit value_of all_digits byte_at number_at digit_of among length_of figures_in figures_of impossible entered
 second-header = refl
 
@@ -238,13 +240,20 @@ module _ (a : Account) (up : TakenUp a) where
 
   -- a line that it refuses leaves it
 
+  leaves-same : (o : Outcome Account) (w : ℕ × ℕ) → o ≡ refused w
+      → LeavesBytes lent o (code_of_row w) lent
+  leaves-same o w e = record {
+    answers = ap code_of (sym e);
+    leaves = ap (bytes_after lent) (sym e);
+    holds = λ c f. refused-not-accepted (sym e ∙ f);
+  }
+
   refused-call : (l : List ℕ) (w : ℕ × ℕ) → feed_of a l ≡ refused w
       → CallTold (account_bytes a) (line_told l (code_of_row w)) (account_bytes a)
   refused-call l w e =
       let is : fed_in lent l ≡ refused w = fed-is a lent (up.back []) l ∙ e in
       call-in a a [] [] (line_told l (code_of_row w))
-      (CallTold.feeds lent lent
-      (record { answers = ap code_of (sym is); leaves = ap (bytes_after lent) (sym is); holds = λ c f. refused-not-accepted (sym is ∙ f) }))
+      (CallTold.feeds lent lent (leaves-same (fed_in lent l) w is))
 
   -- the only one of a list
 
@@ -302,17 +311,20 @@ module _ (a b : Account) (up : TakenUp a) (next : TakenUp b) (l : List ℕ)
       sym (append-nil (account_bytes b ++ []))
       ∙ ap (λ (d : List ℕ). (account_bytes b ++ []) ++ d) (sym nothing-behind)
 
+  feeds-one : FeedsListed alone l (Ok tt) (account_bytes b ++ [])
+  feeds-one = record {
+    answers = ap reply (sym fed-one);
+    leaves = left-one ∙ ap (listed_after alone) (sym fed-one);
+    holds = λ ys f. only-one b next ∙ sym fed-one ∙ f;
+  }
+
+  all-one : FeedsAllBytes alone l 0 (account_bytes b ++ [])
+  all-one = record { answers = ap code_of (sym fed-one); reply = Ok tt; feeds = feeds-one }
+
   list-call : CallTold (account_bytes a) (list_told alone l 0) (account_bytes b)
   list-call =
       call-in a b [] [] (list_told alone l 0)
-      (CallTold.feeds_all 0 alone (account_bytes b ++ [])
-      (record {
-        answers = ap code_of (sym fed-one);
-        reply = Ok tt;
-        feeds =
-            record
-            { answers = ap reply (sym fed-one); leaves = left-one ∙ ap (listed_after alone) (sym fed-one); holds = λ ys f. only-one b next ∙ sym fed-one ∙ f };
-      }))
+      (CallTold.feeds_all 0 alone (account_bytes b ++ []) all-one)
 
 -- ---- the run
 
@@ -361,26 +373,30 @@ module _ (room : List ℕ) (long : account_width ≤ length room) where
   pub shown-run : (buffer paper : List ℕ) → trial_width ≤ length buffer → 18 ≤ length paper
       → ShownRun room buffer paper
   shown-run buffer paper h k =
+      let header = frame_line (Record.Header dark_header) in
       let l = frame_line (Record.Hour (dark_hour 1)) in
+      let next = frame_line (Record.Hour (dark_hour 2)) in
+      let o = opened dark_header in
       let a = dark_account 1 in
       let b = dark_account 2 in
       let c = dark_account 3 in
-      let next = frame_line (Record.Hour (dark_hour 2)) in
+      let tried = trial a first-up b second-up l second-hour buffer h in
+      let one = alone b c second-up third-up next second-possible third-hour in
       record {
         begun = begun;
-        trial = trial a first-up b second-up l second-hour buffer h;
-        alone = alone b c second-up third-up next second-possible third-hour;
+        trial = tried;
+        alone = one;
         left = account_bytes c;
         one = rw (append-nil (account_bytes b), account-length b) refl;
         stores = fresh-stores;
         calls =
-            subst
-            (λ (x : List ℕ). Calls x (shown_told buffer paper (trial a first-up b second-up l second-hour buffer h) (alone b c second-up third-up next second-possible third-hour)) (account_bytes c))
+            subst (λ (x : List ℕ). Calls x (shown_told buffer paper tried one) (account_bytes c))
             (sym (front-is fresh_account (drop account_width room)))
-            (Calls.call (fed-call fresh_account fresh-up (opened dark_header) opened-up (frame_line (Record.Header dark_header)) begun-by)
-            (Calls.call (refused-call (opened dark_header) opened-up (frame_line (Record.Header dark_header)) (4, 0) second-header)
-            (Calls.call (floats-call (opened dark_header) opened-up a first-up 1 0 dark_floats first-floats)
-            (Calls.call (trial-call a first-up b second-up l second-hour buffer h (dark_reading 2) dark_read)
+            (Calls.call (fed-call fresh_account fresh-up o opened-up header begun-by)
+            (Calls.call (refused-call o opened-up header (4, 0) second-header)
+            (Calls.call (floats-call o opened-up a first-up 1 0 dark_floats first-floats)
+            (Calls.call
+            (trial-call a first-up b second-up l second-hour buffer h (dark_reading 2) dark_read)
             (Calls.call (take-call a first-up b second-up l second-hour buffer h)
             (Calls.call (list-call b c second-up third-up next second-possible third-hour)
             (Calls.call (reading-call c third-up (dark_reading 3) dark_after)
