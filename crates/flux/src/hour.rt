@@ -16,6 +16,7 @@ use frames::Hour;
 use trees::Deficits;
 
 // max(f_min, f_temp·f_VPD·f_SW), in units of 10⁻⁹.
+#[inline(always)]
 fn opening(dosing: Dosing, t: Bounds, vpd: Deficits, h: Hour) -> Bounds
     requires temperature { t ≡ temperature_pair dosing.stand.figures (above_of h.temperature) }
     requires deficits { vpd ≡ air_deficits h.air (above_of h.temperature) }
@@ -34,6 +35,7 @@ fn opening(dosing: Dosing, t: Bounds, vpd: Deficits, h: Hour) -> Bounds
 }
 
 // f_phen, by the temperature sum where a frame of warmth stands.
+#[inline(always)]
 fn phenology(stand: Stand, h: Hour) -> Fraction
     ensures { Is result (phenology_in stand h) }
 {
@@ -46,6 +48,7 @@ fn phenology(stand: Stand, h: Hour) -> Fraction
 }
 
 // f_phen × f_light × the opening, in units of 10⁻⁷.
+#[inline(always)]
 fn shares(dosing: Dosing, o: Bounds, l: Bounds, h: Hour) -> Bounds
     requires light_low { l.lower ≡ light_low dosing.stand.figures h.ppfd }
     requires light_up { l.upper ≡ light_up dosing.stand.figures h.ppfd }
@@ -64,6 +67,7 @@ fn shares(dosing: Dosing, o: Bounds, l: Bounds, h: Hour) -> Bounds
 }
 
 // The pair from the concentration's and the share's, in nmol m⁻².
+#[inline(always)]
 fn pair(gmax: u16, leaf: u16, y: u16, wind: u16, c: Bounds, s: Bounds) -> Bounds
     requires gmax { gmax ≤ 500 }
     requires leaf { leaf ≤ 200 }
@@ -84,6 +88,8 @@ fn pair(gmax: u16, leaf: u16, y: u16, wind: u16, c: Bounds, s: Bounds) -> Bounds
 }
 
 // The pair of an hour, from f_temp, f_light and its two deficits.
+// Kept for speed: written out in both its callers, as `pair_by` is.
+#[inline(always)]
 pub(crate) fn dosed(
     dosing: Dosing,
     passed: Passed,
