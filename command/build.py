@@ -1,6 +1,7 @@
-"""The proved programs target/bin/NAME: proved and built by rt where they are missing or older than their sources.
+"""The proved program target/bin/pod1: proved and built by rt where it is missing or older than its
+sources.
 
-    python3 command/build.py NAME..      builds these, and prints where each stands
+    python3 command/build.py pod1      builds it, and prints where it stands
 """
 
 import fcntl
@@ -18,10 +19,11 @@ from speak import Failure, fail, say
 
 ROOT = Path(__file__).resolve().parent.parent
 TARGET = ROOT / "target"
-REPORT = "pod1"  # the report program
+PROGRAM = "pod1"  # the report without words, another call by its first word
 SOURCES = ("src", "specs", "proofs")  # of a crate; beside them rt keeps its work, in out/
 PATIENCE = 10  # seconds until what rt has started must have ended
-CHECKED = re.compile(r"crate (\w+): ")  # rt names a crate when it has checked it, and then says whether it is proved
+# rt names a crate when it has checked it, and then says whether it is proved
+CHECKED = re.compile(r"crate (\w+): ")
 PROVED = "logic=proved"
 RUNNING = "rt: running out/"  # only what is proved and built is run
 COUNTS = ("logic /", "statements ", "library ")  # lines on what rt has loaded
@@ -31,9 +33,12 @@ FIRST = (
     " four processors where nothing is proved yet, and longer beside other work."
     " Ctrl-C stops it, and the next run goes on from there."
 )
-AGAIN = "pod1: sources have changed since the program was built; what stands on them is proved again."
+AGAIN = (
+    "pod1: sources have changed since the program was built; what stands on them is proved again."
+)
 NO_RT = (
-    "rt is missing, the Rattle toolchain that proves and compiles the program, and it is needed: no unproved program is run. Put rt on the PATH and start again."
+    "rt is missing, the Rattle toolchain that proves and compiles the program, and it is needed: "
+    "no unproved program is run. Put rt on the PATH and start again."
 )
 
 
@@ -65,7 +70,12 @@ def times_in(folder):
 
 def last_change(name):
     """Of what the program is made of."""
-    times = [time for crate in crates_of(name) for part in SOURCES for time in times_in(ROOT / "crates" / crate / part)]
+    times = [
+        time
+        for crate in crates_of(name)
+        for part in SOURCES
+        for time in times_in(ROOT / "crates" / crate / part)
+    ]
     return max([(ROOT / "crates.txt").stat().st_mtime_ns, *times])
 
 
@@ -85,7 +95,9 @@ def alone():
         TARGET.mkdir(exist_ok=True)
         lock = open(TARGET / "command.lock", "w")
     except OSError as error:
-        raise Failure(f"{TARGET}: cannot be written, and the program is built there: {error.strerror}") from None
+        raise Failure(
+            f"{TARGET}: cannot be written, and the program is built there: {error.strerror}"
+        ) from None
     with lock:
         try:
             fcntl.flock(lock, fcntl.LOCK_EX | fcntl.LOCK_NB)
@@ -109,7 +121,8 @@ def end_all(process):
 
 
 def follow(process):
-    """Each crate as it is proved, and what rt waits for, as they come; what rt says is handed back."""
+    """Each crate as it is proved, and what rt waits for, as they come; what rt says is handed
+    back."""
     kept, crate = [], None
     for line in process.stdout:
         if not line.startswith(COUNTS):
@@ -127,7 +140,14 @@ def prove_and_run(name):
     """`rt run` in the program's crate, on empty input: its status, and what was printed."""
     folder, pipe = ROOT / "crates" / name, subprocess.PIPE
     process = subprocess.Popen(
-        ["rt", "run"], cwd=folder, stdin=subprocess.DEVNULL, stdout=pipe, stderr=subprocess.STDOUT, start_new_session=True, text=True, errors="replace"
+        ["rt", "run"],
+        cwd=folder,
+        stdin=subprocess.DEVNULL,
+        stdout=pipe,
+        stderr=subprocess.STDOUT,
+        start_new_session=True,
+        text=True,
+        errors="replace",
     )
     try:
         kept = follow(process)
@@ -151,12 +171,15 @@ def build(name):
     if not any(line.startswith(RUNNING) for line in kept):
         for line in kept[-40:]:
             say(line.rstrip("\n"))
-        raise Failure(f"the program could not be built: rt run in crates/{name} ended with status {status}")
+        raise Failure(
+            f"the program could not be built: rt run in crates/{name} ended with status {status}"
+        )
     put_there(name, changed)
 
 
 def put_there(name, changed):
-    """What rt built, as target/bin/NAME: as new as the sources that were there, so that one that has changed since is newer."""
+    """What rt built, as target/bin/NAME: as new as the sources that were there, so that one that
+    has changed since is newer."""
     program = TARGET / "bin" / name
     program.parent.mkdir(exist_ok=True)
     part = program.with_name(f"{name}.part")
@@ -175,16 +198,20 @@ def program(name):
     return TARGET / "bin" / name
 
 
-def answer(name, words=(), text=None):
-    """What the program prints for these words, or for a text on standard input; None where it could read none, or ended with an error."""
-    command = [str(program(name)), *words]
+def answer(words=(), text=None):
+    """What the program prints for these words, or for a text on standard input; None where it could
+    read none, or ended with an error."""
+    command = [str(program(PROGRAM)), *words]
     try:
         # the files that a shell has opened for it, as <(..), stay open
-        done = subprocess.run(command, input=text, stdout=subprocess.PIPE, close_fds=False, check=False)
+        done = subprocess.run(
+            command, input=text, stdout=subprocess.PIPE, close_fds=False, check=False
+        )
     except OSError as error:
         raise Failure(f"{command[0]}: cannot be run: {error.strerror}") from None
     if done.returncode < 0:
-        raise Failure(f"{name} was ended by signal {-done.returncode}, and its answer is not used")
+        call = " ".join([PROGRAM, *words[:1]])
+        raise Failure(f"{call} was ended by signal {-done.returncode}, and its answer is not used")
     if done.returncode > 0:
         return None  # what it had printed by then may not be all of its answer
     return done.stdout.decode("ascii") or None

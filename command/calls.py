@@ -1,4 +1,5 @@
-"""The library's other calls, each a proved program target/bin/pod1_NAME: words go in as they stand, the answer comes out as it stands, a refusal in words besides."""
+"""The library's other calls, by the proved program target/bin/pod1 with the call's name before its
+words: words go in as they stand, the answer comes out as it stands, a refusal in words besides."""
 
 import re
 
@@ -42,7 +43,9 @@ def hold_count(call, words, least, most=None):
 def hold_number(call, name, word):
     """Digits alone: a sign, a point or a unit is not guessed at."""
     if not (word.isascii() and word.isdigit()):
-        raise Usage(f"{name} is a whole number, and '{word}' is none ({UNITS[name]}). usage: {USAGE[call]}")
+        raise Usage(
+            f"{name} is a whole number, and '{word}' is none ({UNITS[name]}). usage: {USAGE[call]}"
+        )
 
 
 # ---- answers
@@ -52,7 +55,7 @@ def ask(call, words, files):
     """What the program answers; a file that cannot be read has none."""
     for name in files:
         texts.hold_readable(name)
-    printed = build.answer(f"pod1_{call}", words)
+    printed = build.answer([call, *words])
     if printed is None:
         raise Failure(f"{' and '.join(map(texts.label, files)) or call}: cannot be read")
     return printed
@@ -107,7 +110,7 @@ def stretch(words):
     days, *names = words
     hold_number("stretch", "DAYS", days)
     hold_count("stretch", words, 2)
-    build.program("pod1_stretch")
+    build.program(build.PROGRAM)
     return report.each(names, lambda name: stretch_answer(days, name))
 
 
@@ -162,7 +165,8 @@ def place_sentence(row, tree, year, level, latitude, height):
 
 # ---- stand
 
-OWN = (frames.HEADER, frames.PARAMETERS, frames.WARMTH)  # kinds of the text that are passed over: each account has its own
+# kinds of the text that are passed over: each account has its own
+OWN = (frames.HEADER, frames.PARAMETERS, frames.WARMTH)
 
 
 def stand(words):
@@ -179,7 +183,9 @@ def stand(words):
     elif found[3] == "line":
         tell_shared(name, row, at, headers)
     else:
-        tell(row, f"there are {len(headers)} headers; one to six are possible" if row == 22 else None)
+        tell(
+            row, f"there are {len(headers)} headers; one to six are possible" if row == 22 else None
+        )
     return status_of(row)
 
 
@@ -202,7 +208,11 @@ def tell_shared(name, row, at, headers):
     text = texts.read_again(name)
     lines = texts.lines_of(text)
     line = report.line_at(lines, at)
-    sentences = (explanations.sentence_of(row, season_under(header, lines[: at - 1]), line) for header in headers if text)
+    sentences = (
+        explanations.sentence_of(row, season_under(header, lines[: at - 1]), line)
+        for header in headers
+        if text
+    )
     report.explain(name, row, at, line, next(filter(None, sentences), None))
 
 

@@ -1,4 +1,5 @@
-"""A picture of each report: `./pod1 chart FILE..`. The figures are those of the proved report; command/draw.py draws them with matplotlib."""
+"""A picture of each report: `./pod1 chart FILE..`. The figures are those of the proved report;
+command/draw.py draws them with matplotlib."""
 
 import json
 import os
@@ -12,14 +13,22 @@ import trees
 from speak import ACCEPTED, FAILED, REFUSED, Failure, Usage, fail, put
 
 USAGE = "./pod1 chart FILE.."
-NO_MATPLOTLIB = "matplotlib is missing, which draws the picture: install it (Debian: apt install python3-matplotlib)"
+NO_MATPLOTLIB = (
+    "matplotlib is missing, which draws the picture: install it (Debian: apt install "
+    "python3-matplotlib)"
+)
 
 
 def drawer():
     """A python3 that has matplotlib: the one that runs this, or the system's."""
     for python in dict.fromkeys((sys.executable, "/usr/bin/python3")):
         try:
-            found = subprocess.run([python, "-c", "import matplotlib"], stdin=subprocess.DEVNULL, capture_output=True, check=False)
+            found = subprocess.run(
+                [python, "-c", "import matplotlib"],
+                stdin=subprocess.DEVNULL,
+                capture_output=True,
+                check=False,
+            )
         except OSError:
             continue
         if found.returncode == 0:
@@ -48,10 +57,13 @@ def hold_apart(names):
 
 
 def figures_of(name, text, printed):
-    """What the picture shows: the report's lines, and of the header the tree, the period and the level."""
+    """What the picture shows: the report's lines, and of the header the tree, the period and the
+    level."""
     season, *months = [line.split() for line in printed.splitlines()]
     header = texts.lines_of(text)[0]
-    tree, *numbers = (int(header[at:end], 16) for at, end in ((2, 4), (4, 8), (8, 12), (12, 16), (16, 20)))
+    tree, *numbers = (
+        int(header[at:end], 16) for at, end in ((2, 4), (4, 8), (8, 12), (12, 16), (16, 20))
+    )
     days, first, last, level = numbers
     return {
         "picture": picture_of(name),
@@ -69,7 +81,9 @@ def figures_of(name, text, printed):
 def draw(python, figures):
     """The pictures; each name as it is written."""
     script = os.path.join(os.path.dirname(os.path.abspath(__file__)), "draw.py")
-    done = subprocess.run([python, script], input=json.dumps(figures).encode(), stdout=subprocess.PIPE, check=False)
+    done = subprocess.run(
+        [python, script], input=json.dumps(figures).encode(), stdout=subprocess.PIPE, check=False
+    )
     put(done.stdout.decode("utf-8", "surrogateescape"))
     return ACCEPTED if done.returncode == 0 else FAILED
 
@@ -80,7 +94,7 @@ def chart(words):
         raise Usage(f"usage: {USAGE}")
     hold_apart(words)
     python = drawer()
-    build.program(build.REPORT)
+    build.program(build.PROGRAM)
     figures, status, rows = [], ACCEPTED, set()
     for name in words:
         try:

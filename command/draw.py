@@ -1,4 +1,5 @@
-"""Draws reports: a list of figures as JSON on standard input, an SVG for each. Run by command/chart.py under a python3 that has matplotlib.
+"""Draws reports: a list of figures as JSON on standard input, an SVG for each. Run by
+command/chart.py under a python3 that has matplotlib.
 
 The same figures give the same picture, byte for byte, with one version of matplotlib.
 """
@@ -29,7 +30,10 @@ from matplotlib.figure import Figure  # noqa: E402
 MILLI = 1_000_000  # nmol in a mmol
 LEAST, MOST, LEVEL = "#2b6a4d", "#9cc5ae", "#b3261e"  # dark: at least; light: up to at most
 YEARS = {365: 2023, 366: 2024}  # any years of that length
-MONTHS = ("January", "February", "March", "April", "May", "June", "July", "August", "September", "October", "November", "December")
+MONTHS = (
+    "January", "February", "March", "April", "May", "June", "July", "August", "September",
+    "October", "November", "December",
+)
 
 
 def date_of(days, day):
@@ -53,7 +57,15 @@ def bars(axes, pairs, places):
     for at, (least, most) in enumerate(pairs):
         axes.bar(at, least, 0.6, color=LEAST)
         axes.bar(at, most - least, 0.6, bottom=least, color=MOST)
-        axes.annotate(spread(least, most, places), (at, most), (0, 3), textcoords="offset points", ha="center", va="bottom", fontsize=9)
+        axes.annotate(
+            spread(least, most, places),
+            (at, most),
+            (0, 3),
+            textcoords="offset points",
+            ha="center",
+            va="bottom",
+            fontsize=9,
+        )
     axes.set_ylim(0, 1.15 * max(most for _, most in pairs) or 1)
 
 
@@ -71,16 +83,35 @@ def running(figures):
 def running_total(axes, chart):
     """From 0 at the start to the season's figures at its end."""
     axes.set_title("Dose from the first day to each month's end, mmol m⁻²")
-    lower, upper = ([total / MILLI for total in running(month[at] for month in chart["months"])] for at in (2, 3))
+    lower, upper = (
+        [total / MILLI for total in running(month[at] for month in chart["months"])]
+        for at in (2, 3)
+    )
     ends = [at - 0.5 for at in range(len(lower))]
     axes.fill_between(ends, lower, upper, color=MOST, linewidth=0)
     axes.plot(ends, upper, color=MOST, linewidth=1, marker="o", markersize=4)
     axes.plot(ends, lower, color=LEAST, linewidth=1, marker="o", markersize=4)
     level = chart["level"] / 100
     axes.axhline(level, color=LEVEL, linewidth=1.2, linestyle="--")
-    axes.annotate(f"critical level {level:g}", (ends[0], level), (2, 3), textcoords="offset points", color=LEVEL, va="bottom", fontsize=9)
+    axes.annotate(
+        f"critical level {level:g}",
+        (ends[0], level),
+        (2, 3),
+        textcoords="offset points",
+        color=LEVEL,
+        va="bottom",
+        fontsize=9,
+    )
     last = spread(lower[-1], upper[-1], places_for(upper[-1]))
-    axes.annotate(last, (ends[-1], upper[-1]), (-4, 5), textcoords="offset points", ha="right", va="bottom", fontsize=9)
+    axes.annotate(
+        last,
+        (ends[-1], upper[-1]),
+        (-4, 5),
+        textcoords="offset points",
+        ha="right",
+        va="bottom",
+        fontsize=9,
+    )
     axes.set_ylim(0, 1.2 * max(upper[-1], level))
 
 
@@ -97,8 +128,13 @@ def heading(chart):
     dates = f"{date_of(chart['days'], first)} to {date_of(chart['days'], last)}"
     dose = spread(lower / MILLI, upper / MILLI, places_for(upper / MILLI))
     name = chart["tree"][0].upper() + chart["tree"][1:]
-    verdict = f"{chart['verdict']}: {dose} mmol m⁻² against a critical level of {chart['level'] / 100:g}"
-    return f"{name}, days {first} to {last} ({dates})\n{verdict}\n{counted:,} of {hours:,} hours counted"
+    verdict = (
+        f"{chart['verdict']}: {dose} mmol m⁻² against a critical level of {chart['level'] / 100:g}"
+    )
+    return (
+        f"{name}, days {first} to {last} ({dates})\n{verdict}\n{counted:,} of {hours:,} hours "
+        "counted"
+    )
 
 
 def picture(chart):

@@ -1,5 +1,6 @@
-"""A refused line in words: which value, and what was due. The proved program has said which row refuses which line; where the line does not bear the row out,
-nothing is added to the row's own sentence."""
+"""A refused line in words: which value, and what was due. The proved program has said which row
+refuses which line; where the line does not bear the row out, nothing is added to the row's own
+sentence."""
 
 from math import gcd
 
@@ -50,7 +51,9 @@ def kind_sentence(season, line):
     if not kinds or digits in (f"{kind:02X}" for kind in kinds):
         return None
     able = " or ".join(frames.named(kind) for kind in kinds)
-    return f"the line begins with kind {digits}, and its {len(line)} digits are the length of {able}"
+    return (
+        f"the line begins with kind {digits}, and its {len(line)} digits are the length of {able}"
+    )
 
 
 # ---- turn: row 4
@@ -73,7 +76,11 @@ def misplaced(season, kind):
     if season.lacks_parameters != (kind == frames.PARAMETERS):
         if kind != frames.PARAMETERS:
             return "comes before the parameters"
-        return "comes a second time" if season.parameters else f"belongs to tree 7, and the header names {trees.named(season.tree)}"
+        return (
+            "comes a second time"
+            if season.parameters
+            else f"belongs to tree 7, and the header names {trees.named(season.tree)}"
+        )
     if kind == frames.HEADER:
         return "comes a second time"
     if kind == frames.WARMTH and season.tree != trees.MEASURED:
@@ -82,7 +89,11 @@ def misplaced(season, kind):
         return "comes a second time"
     if kind == frames.WARMTH and season.ceiling:
         return "comes after the ozone ceiling"
-    return "comes after the first hour" if kind in (frames.WARMTH, frames.CEILING) and season.hours else None
+    return (
+        "comes after the first hour"
+        if kind in (frames.WARMTH, frames.CEILING) and season.hours
+        else None
+    )
 
 
 def turn_sentence(season, line):
@@ -90,9 +101,16 @@ def turn_sentence(season, line):
     if frame is None:
         return None
     if season.end:
-        return f"{frames.named(frame.kind)} comes after the end frame of line {season.end}; nothing may follow it"
+        return (
+            f"{frames.named(frame.kind)} comes after the end frame of line {season.end}; nothing "
+            "may follow it"
+        )
     if season.header is None:
-        return None if frame.kind == frames.HEADER else f"{frames.named(frame.kind)} comes first; the header (kind 01) was due"
+        return (
+            None
+            if frame.kind == frames.HEADER
+            else f"{frames.named(frame.kind)} comes first; the header (kind 01) was due"
+        )
     why = misplaced(season, frame.kind)
     return why and f"{frames.named(frame.kind)} {why}; {due_text(season)} was due"
 
@@ -107,12 +125,20 @@ def header_of(line):
 
 def tree_sentence(season, line):
     header = header_of(line)
-    return f"there is no tree {header[0]}; the trees are {trees.LIST}" if header and header[0] not in trees.NAMES else None
+    return (
+        f"there is no tree {header[0]}; the trees are {trees.LIST}"
+        if header and header[0] not in trees.NAMES
+        else None
+    )
 
 
 def year_sentence(season, line):
     header = header_of(line)
-    return f"the year has {header[1]} days; 365 or 366 are possible" if header and header[1] not in (365, 366) else None
+    return (
+        f"the year has {header[1]} days; 365 or 366 are possible"
+        if header and header[1] not in (365, 366)
+        else None
+    )
 
 
 def period_of(header, ramps):
@@ -126,7 +152,10 @@ def period_of(header, ramps):
         return f"the period ends on day {last}, and the year has {days} days"
     if last - first < sum(ramps):
         grown, aged = ramps
-        return f"from day {first} to day {last} are {last - first} days; {trees.named(tree)} needs {grown} for its leaves to grow and {aged} for them to age"
+        return (
+            f"from day {first} to day {last} are {last - first} days; {trees.named(tree)} needs "
+            f"{grown} for its leaves to grow and {aged} for them to age"
+        )
     return None
 
 
@@ -134,7 +163,11 @@ def period_sentence(season, line):
     frame = frames.frame_of(line)
     if frame and frame.kind == frames.PARAMETERS and season.header:
         return period_of(season.header, frame.numbers[13:15])
-    return frame and frame.kind == frames.HEADER and period_of(frame.numbers, trees.RAMPS.get(frame.numbers[0], (0, 0)))
+    return (
+        frame
+        and frame.kind == frames.HEADER
+        and period_of(frame.numbers, trees.RAMPS.get(frame.numbers[0], (0, 0)))
+    )
 
 
 def level_sentence(season, line):
@@ -145,7 +178,11 @@ def level_sentence(season, line):
 def outside(reading, number):
     """That the number of a field is out of its range; None where it is not."""
     steps = reading.steps(number)
-    return None if reading.holds(steps) else f"{reading.name} {reading.said(steps)} is outside {reading.range}"
+    return (
+        None
+        if reading.holds(steps)
+        else f"{reading.name} {reading.said(steps)} is outside {reading.range}"
+    )
 
 
 # ---- hours: rows 9, 10, 15, 18
@@ -163,7 +200,9 @@ def due_sentence(season, line):
     came = f"the line is day {hour.numbers[0]} hour {hour.numbers[1]}"
     if season.due is None:
         return f"all {season.period} hours are given and the end frame was due; {came}"
-    return None if hour.numbers[:2] == season.due else f"day %d hour %d was due, {came}" % season.due
+    return (
+        None if hour.numbers[:2] == season.due else f"day %d hour %d was due, {came}" % season.due
+    )
 
 
 def range_sentence(season, line):
@@ -187,7 +226,10 @@ def missing_sentence(season, line):
     hour = hour_of(line)
     if hour is None or hour.numbers[2] != readings.MISSING or season.ceiling:
         return None
-    return f"day {hour.numbers[0]} hour {hour.numbers[1]} has no ozone (FFFF), and no ozone ceiling (kind 06) stands behind the header"
+    return (
+        f"day {hour.numbers[0]} hour {hour.numbers[1]} has no ozone (FFFF), and no ozone ceiling "
+        "(kind 06) stands behind the header"
+    )
 
 
 # ---- the end: row 11
@@ -198,7 +240,11 @@ def end_sentence(season, line):
     if frame is None or frame.kind != frames.END or season.header is None:
         return None
     said = frame.numbers[0]
-    count = f"the end frame says {said} hours, {season.hours} were accepted" if said != season.hours else ""
+    count = (
+        f"the end frame says {said} hours, {season.hours} were accepted"
+        if said != season.hours
+        else ""
+    )
     return "; ".join(filter(None, (count, left_text(season)))) or None
 
 
@@ -216,7 +262,10 @@ def stop_sentence(season):
         return "the text is empty"
     if season.end:
         return None
-    return f"the text ends after {season.hours} of {season.period} hours, without an end frame; {due_text(season)} was due"
+    return (
+        f"the text ends after {season.hours} of {season.period} hours, without an end frame; "
+        f"{due_text(season)} was due"
+    )
 
 
 # ---- other frames: rows 17, 24, 25
@@ -235,20 +284,31 @@ def ceiling_sentence(season, line):
 def rises(fields, low, high):
     """That the second of two parameters is not above the first; None where it is."""
     (lesser, less), (greater, more) = fields[low], fields[high]
-    return None if less < more else f"{greater.name} {greater.said(more)} is not above {lesser.name} {lesser.said(less)}"
+    return (
+        None
+        if less < more
+        else f"{greater.name} {greater.said(more)} is not above {lesser.name} {lesser.said(less)}"
+    )
 
 
 def power_of(tmin, topt, tmax):
     p, q = tmax - topt, topt - tmin
     p, q = p // gcd(p, q), q // gcd(p, q)
-    return f"(Tmax - Topt)/(Topt - Tmin) is {p}/{q} in lowest terms; neither number may be above {MOST_POWER}" if max(p, q) > MOST_POWER else None
+    return (
+        f"(Tmax - Topt)/(Topt - Tmin) is {p}/{q} in lowest terms; neither number may be above "
+        f"{MOST_POWER}"
+        if max(p, q) > MOST_POWER
+        else None
+    )
 
 
 def parameter_sentence(season, line):
     numbers = numbers_of(line, frames.PARAMETERS)
     if numbers is None:
         return None
-    fields = [(reading, reading.steps(number)) for reading, number in zip(readings.PARAMETERS, numbers)]
+    fields = [
+        (reading, reading.steps(number)) for reading, number in zip(readings.PARAMETERS, numbers)
+    ]
     wrong = [outside(reading, number) for reading, number in zip(readings.PARAMETERS, numbers)]
     wrong += [rises(fields, low, low + 1) for low in (3, 4, 6, 8)]
     return next(filter(None, wrong), None) or power_of(*(steps for _, steps in fields[3:6]))
@@ -259,7 +319,9 @@ def warmth_sentence(season, line):
     if warmth is None:
         return None
     rise, fall, end = warmth
-    return outside(readings.END, end) or (f"rise {rise} plus fall {fall} is above end {end} °C days" if rise + fall > end else None)
+    return outside(readings.END, end) or (
+        f"rise {rise} plus fall {fall} is above end {end} °C days" if rise + fall > end else None
+    )
 
 
 # ---- any row
@@ -285,7 +347,8 @@ SENTENCES = {
 
 
 def sentence_of(row, season, line):
-    """Of a line that the row refuses after what the season has had; None where the line does not bear the row out. The line is None at the text's end."""
+    """Of a line that the row refuses after what the season has had; None where the line does not
+    bear the row out. The line is None at the text's end."""
     if season is None or row not in SENTENCES:
         return None
     if line is None:

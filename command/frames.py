@@ -1,4 +1,5 @@
-"""Frames as lines of digits, and what the lines before a refused one have said (docs/SPECIFICATION.md, "Frames" and "Account").
+"""Frames as lines of digits, and what the lines before a refused one have said
+(docs/SPECIFICATION.md, "Frames" and "Account").
 
 Nothing is judged here: the proved program has accepted those lines.
 """
@@ -65,7 +66,9 @@ def frame_of(line):
 
 def line_of(kind, *numbers):
     """A frame's line; a number below 0 in two's complement."""
-    fields = ("%0*X" % (2 * width, number % 256**width) for number, width in zip(numbers, WIDTHS[kind]))
+    fields = (
+        "%0*X" % (2 * width, number % 256**width) for number, width in zip(numbers, WIDTHS[kind])
+    )
     return f"{kind:02X}" + "".join(fields)
 
 
@@ -117,7 +120,8 @@ def after(season, frame, at):
 
 
 def season_of(lines, season=Season(), skipped=()):
-    """What these lines have said, but for those of the kinds skipped; None where one of them is no frame, or comes before a header."""
+    """What these lines have said, but for those of the kinds skipped; None where one of them is no
+    frame, or comes before a header."""
     for at, line in enumerate(lines, start=1):
         frame = frame_of(line)
         if frame is None or (season.header is None and frame.kind != HEADER):

@@ -1,4 +1,5 @@
-"""Hints on what a person can mend in a refused text: never done for them, as nothing may change a text that is to be archived."""
+"""Hints on what a person can mend in a refused text: never done for them, as nothing may change a
+text that is to be archived."""
 
 import shlex
 
@@ -12,7 +13,10 @@ WIDE = (b"\xff\xfe", b"\xfe\xff")
 def mark_hint(name, line, at):
     """A mark that an editor has put before the first line."""
     if at == 1 and line.startswith(MARK):
-        return f"the text begins with a byte order mark, which an editor has put there. Make a copy without it:  tail -c +4 <{name} >COPY"
+        return (
+            "the text begins with a byte order mark, which an editor has put there. Make a copy "
+            f"without it:  tail -c +4 <{name} >COPY"
+        )
     if at == 1 and line.startswith(WIDE):
         return "the text is in UTF-16: save it again as plain text, UTF-8 without a byte order mark"
     return None
@@ -21,7 +25,10 @@ def mark_hint(name, line, at):
 def return_hint(name, line, at):
     if not line.endswith(b"\r"):
         return None
-    return f"the line ends in a carriage return: this is a Windows text. Make a copy without them:  tr -d '\\r' <{name} >COPY"
+    return (
+        "the line ends in a carriage return: this is a Windows text. Make a copy without them:  "
+        f"tr -d '\\r' <{name} >COPY"
+    )
 
 
 def blank_hint(name, line, at):
@@ -33,14 +40,20 @@ def blank_hint(name, line, at):
 def space_hint(name, line, at):
     if not any(code in b" \t" for code in line.rstrip(b"\r")):
         return None
-    return "the line has spaces or tabs: a frame is digits alone, from the line's first character to its last"
+    return (
+        "the line has spaces or tabs: a frame is digits alone, from the line's first character to "
+        "its last"
+    )
 
 
 def capital_hint(name, line, at):
     digits = line.rstrip(b"\r")
     if not any(code in b"abcdef" for code in digits) or any(code not in HEX for code in digits):
         return None
-    return f"the line has small letters a to f, and frames are written in capitals. Make a copy:  tr a-f A-F <{name} >COPY"
+    return (
+        "the line has small letters a to f, and frames are written in capitals. Make a copy:  tr "
+        f"a-f A-F <{name} >COPY"
+    )
 
 
 HINTS = (mark_hint, return_hint, blank_hint, space_hint, capital_hint)

@@ -67,7 +67,9 @@ def help_text():
 def explain(words):
     """`./pod1 explain N`"""
     if len(words) != 1 or words[0] not in map(str, refusals.ROWS):
-        raise Usage(f"explain takes the number of a row, 1 to {max(refusals.ROWS)}: ./pod1 explain 10")
+        raise Usage(
+            f"explain takes the number of a row, 1 to {max(refusals.ROWS)}: ./pod1 explain 10"
+        )
     put(refusals.text_of(int(words[0])))
     return ACCEPTED
 
@@ -84,7 +86,8 @@ COMMANDS = {
 
 
 def hold_option(word):
-    """A word that begins with a dash and is no option is not taken for a file; a number below 0 is left to its command."""
+    """A word that begins with a dash and is no option is not taken for a file; a number below 0 is
+    left to its command."""
     if re.match("-[^0-9]", word):
         raise Usage(f"{word} is no option; a file of that name is ./{word}, or stands behind --")
 
@@ -150,7 +153,9 @@ def guarded(words):
         return 128 + signal.SIGINT
     except OSError as error:  # a full disk
         speak.silence()
-        return speak.fail(f"{error.filename or 'standard output'}: cannot be used: {error.strerror}")
+        return speak.fail(
+            f"{error.filename or 'standard output'}: cannot be used: {error.strerror}"
+        )
 
 
 def main():

@@ -1,4 +1,5 @@
-"""The fields of frames: name, unit of everyday use, decimals and range, by the kind of the frame and the tree's soil (docs/SPECIFICATION.md, "Frames")."""
+"""The fields of frames: name, unit of everyday use, decimals and range, by the kind of the frame
+and the tree's soil (docs/SPECIFICATION.md, "Frames")."""
 
 from decimal import Decimal
 from typing import NamedTuple

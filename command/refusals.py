@@ -1,4 +1,5 @@
-"""The rows by which a line or a call is refused: what each means and what to do (docs/SPECIFICATION.md, "Turned-back lines", whose advice stands here)."""
+"""The rows by which a line or a call is refused: what each means and what to do
+(docs/SPECIFICATION.md, "Turned-back lines", whose advice stands here)."""
 
 from typing import NamedTuple
 
@@ -17,22 +18,42 @@ ROWS = {
         "send whole lines; no carriage return, no blank",
     ),
     2: Row("a character is not 0-9 or A-F", "the same", "write capital digits"),
-    3: Row("the kind, the line's first two digits, is not one of the line's length", "the same", "look at the kind's byte"),
+    3: Row(
+        "the kind, the line's first two digits, is not one of the line's length",
+        "the same",
+        "look at the kind's byte",
+    ),
     4: Row(
         "the frame comes out of turn",
         "one season a text: part joined texts",
         "start a fresh account for each season; for tree 7 send kind 07 directly after the header",
     ),
-    5: Row("the tree is not 1 to 7", "name one of the six trees, or 7 for a laboratory's own", "check the header's tree"),
+    5: Row(
+        "the tree is not 1 to 7",
+        "name one of the six trees, or 7 for a laboratory's own",
+        "check the header's tree",
+    ),
     6: Row("the year has not 365 or 366 days", "correct the year", "check the header's days"),
     7: Row(
         "the period is not within the year, or it is too short for the tree",
         "correct the period: for this tree it is too short or not in the year",
         "check first and last day",
     ),
-    8: Row("the critical level is not 0.01 to 100 mmol m⁻²", "correct the critical level", "hundredths of mmol m⁻²"),
-    9: Row("the hour is not the one that was due", "an hour is missing or double: ask the operator", "send each hour once, in order"),
-    10: Row("a reading is out of its range", "the sensor was wrong: the season cannot be used as it is", "look at the sensor of that field"),
+    8: Row(
+        "the critical level is not 0.01 to 100 mmol m⁻²",
+        "correct the critical level",
+        "hundredths of mmol m⁻²",
+    ),
+    9: Row(
+        "the hour is not the one that was due",
+        "an hour is missing or double: ask the operator",
+        "send each hour once, in order",
+    ),
+    10: Row(
+        "a reading is out of its range",
+        "the sensor was wrong: the season cannot be used as it is",
+        "look at the sensor of that field",
+    ),
     11: Row(
         "the text stops early, or its end frame does not count the hours accepted",
         "the text stops early: wait for the rest",
@@ -43,14 +64,32 @@ ROWS = {
         NOTHING,
         "lend a longer buffer: 66 bytes for any line, 160 for an account's line, 600 for a report",
     ),
-    13: Row("no season gives this account", "do not use the record: it was damaged", "start the account again from the lines"),
-    14: Row("the latitude or the height is out of its range, or the tree has no dates by latitude", "give the dates by hand", "check place and tree"),
+    13: Row(
+        "no season gives this account",
+        "do not use the record: it was damaged",
+        "start the account again from the lines",
+    ),
+    14: Row(
+        "the latitude or the height is out of its range, or the tree has no dates by latitude",
+        "give the dates by hand",
+        "check place and tree",
+    ),
     15: Row(
         "the hour is of another kind than the season's first",
-        "the readings of two stations were joined, or the sensors changed: ask for each station's season by itself",
-        "send one kind of hour frame for a whole season; start a fresh account after a change of sensors",
+        (
+            "the readings of two stations were joined, or the sensors changed: ask for each "
+            "station's season by itself"
+        ),
+        (
+            "send one kind of hour frame for a whole season; start a fresh account after a change "
+            "of sensors"
+        ),
     ),
-    16: Row("the account is not the one that was tried", NOTHING, "try the line again with the account as it is now"),
+    16: Row(
+        "the account is not the one that was tried",
+        NOTHING,
+        "try the line again with the account as it is now",
+    ),
     17: Row(
         "the ozone ceiling is not 0.1 to 500 ppb",
         "correct the ceiling: it is the most that ozone can have been, in tenths of ppb",
@@ -67,19 +106,43 @@ ROWS = {
         "send both analysers' ozone with the same other readings",
     ),
     20: Row("the number of days is not 1 to 366", "ask for 1 to 366 days", "check the number"),
-    21: Row("the lent buffer is under 3 bytes a day", NOTHING, "lend a longer buffer: 1,098 bytes for any number of days"),
-    22: Row("there is no account, or there are more than six", NOTHING, "lend one to six accounts; part a larger stand into several lists"),
+    21: Row(
+        "the lent buffer is under 3 bytes a day",
+        NOTHING,
+        "lend a longer buffer: 1,098 bytes for any number of days",
+    ),
+    22: Row(
+        "there is no account, or there are more than six",
+        NOTHING,
+        "lend one to six accounts; part a larger stand into several lists",
+    ),
     23: Row(
-        "the accounts differ in year, period, hours accepted, phase, ceiling, hour kind or soil measure",
-        "name the same year and period for every tree of the stand; trees whose soil is read as water and as suction need a mast each",
-        "open every account with the same days, and feed none of them alone once the list has taken a line",
+        (
+            "the accounts differ in year, period, hours accepted, phase, ceiling, hour kind or "
+            "soil measure"
+        ),
+        (
+            "name the same year and period for every tree of the stand; trees whose soil is read "
+            "as water and as suction need a mast each"
+        ),
+        (
+            "open every account with the same days, and feed none of them alone once the list has "
+            "taken a line"
+        ),
     ),
     24: Row(
-        "a parameter of tree 7 is out of its range, or temperatures, VPD or suction do not rise, or p or q is above 22",
+        (
+            "a parameter of tree 7 is out of its range, or temperatures, VPD or suction do not "
+            "rise, or p or q is above 22"
+        ),
         "ask the laboratory for its figures again",
         "check the frame of kind 07",
     ),
-    25: Row("rise plus fall is above end, or end is not 1 to 5000 °C days", "ask the laboratory for its sums again", "check the frame of kind 08"),
+    25: Row(
+        "rise plus fall is above end, or end is not 1 to 5000 °C days",
+        "ask the laboratory for its sums again",
+        "check the frame of kind 08",
+    ),
     26: Row(
         "a float is not finite or not a whole number",
         "the logger was wrong: the season cannot be used as it is",

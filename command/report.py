@@ -15,7 +15,7 @@ REFUSAL = re.compile(r"refused (\d+) line (\d+)\n")
 
 def report_of(name, text):
     """What the proved program prints for the text."""
-    printed = build.answer(build.REPORT, text=text)
+    printed = build.answer(text=text)
     if printed is None:
         raise Failure(f"{texts.label(name)}: cannot be read")
     return printed
@@ -67,7 +67,8 @@ class Headings:
 
 
 def each(names, answer):
-    """The answer for every text under its heading, and the worst status. `answer` gives what to print, and None or a refusal's row and how to explain it."""
+    """The answer for every text under its heading, and the worst status. `answer` gives what to
+    print, and None or a refusal's row and how to explain it."""
     headings, status, rows = Headings(names), ACCEPTED, set()
     for name in names:
         try:
@@ -98,6 +99,9 @@ def report(names):
     if not names:
         names = [texts.STANDARD_INPUT]
         if sys.stdin is not None and sys.stdin.isatty():
-            say("pod1: reading a season text from the keyboard; ./pod1 --help says how to name a file")
-    build.program(build.REPORT)
+            say(
+                "pod1: reading a season text from the keyboard; ./pod1 --help says how to name a "
+                "file"
+            )
+    build.program(build.PROGRAM)
     return each(names, report_answer)

@@ -1,4 +1,5 @@
-"""What a person reads: answers on standard output, all else on standard error; failures as one message."""
+"""What a person reads: answers on standard output, all else on standard error; failures as one
+message."""
 
 import os
 import sys
@@ -17,7 +18,8 @@ class Usage(Failure):
 
 
 def open_streams():
-    """The numbers of the standard streams that are closed. Each is opened on nothing, so that no file takes its place."""
+    """The numbers of the standard streams that are closed. Each is opened on nothing, so that no
+    file takes its place."""
     closed = {number for number in range(3) if not is_open(number)}
     for number in sorted(closed):
         os.open(os.devnull, os.O_RDWR)

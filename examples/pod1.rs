@@ -1,5 +1,6 @@
-//! The part, safe from Rust: the calls of include/pod1.h, which says what each answers, over slices in place of pointers and lengths. Copy this file, and
-//! have target/libpod1.a where the linker looks: rustc -L target.
+//! The part, safe from Rust: the calls of include/pod1.h, which says what each answers, over slices
+//! in place of pointers and lengths. Copy this file, and have target/libpod1.a where the linker
+//! looks: rustc -L target.
 #![allow(dead_code)] // a program calls what it needs
 
 /// The bytes of an account and of a trial.
@@ -54,13 +55,16 @@ impl Row {
     /// Every row in the order of its number.
     #[rustfmt::skip]
     pub const ALL: [Row; 26] = [
-        Row::Length, Row::Digit, Row::Kind, Row::Turn, Row::Tree, Row::Year, Row::Period, Row::Level, Row::Due, Row::Range, Row::Count, Row::Buffer,
-        Row::Impossible, Row::Place, Row::Mixed, Row::Tried, Row::Ceiling, Row::NoCeiling, Row::Unlike, Row::Days, Row::ShortScratch, Row::ListSize,
-        Row::UnlikeAccounts, Row::Parameter, Row::Warmth, Row::Float,
+        Row::Length, Row::Digit, Row::Kind, Row::Turn, Row::Tree, Row::Year, Row::Period,
+        Row::Level, Row::Due, Row::Range, Row::Count, Row::Buffer, Row::Impossible, Row::Place,
+        Row::Mixed, Row::Tried, Row::Ceiling, Row::NoCeiling, Row::Unlike, Row::Days,
+        Row::ShortScratch, Row::ListSize, Row::UnlikeAccounts, Row::Parameter, Row::Warmth,
+        Row::Float,
     ];
 }
 
-/// Why a call is refused: the row, and the reading that rows 10 and 26 name, 0 for every other row. What the call would have changed is as it was.
+/// Why a call is refused: the row, and the reading that rows 10 and 26 name, 0 for every other row.
+/// What the call would have changed is as it was.
 #[derive(Clone, Copy, Debug, PartialEq, Eq)]
 pub struct Refusal {
     pub row: Row,
@@ -95,7 +99,8 @@ pub enum Verdict {
     Below,
 }
 
-/// Hours accepted, those counted and those of them without ozone; AOT40 (least, most) in tenths of ppb h; POD1 (lower, upper) in nmol m-2.
+/// Hours accepted, those counted and those of them without ozone; AOT40 (least, most) in tenths of
+/// ppb h; POD1 (lower, upper) in nmol m-2.
 #[derive(Clone, Copy, Debug, PartialEq, Eq)]
 pub struct Reading {
     pub hours: u32,
@@ -108,7 +113,8 @@ pub struct Reading {
     pub verdict: Verdict,
 }
 
-/// What a comparison gives; `line` is that of the first hour that differs by more than the tolerance, a part of the second text.
+/// What a comparison gives; `line` is that of the first hour that differs by more than the
+/// tolerance, a part of the second text.
 #[derive(Clone, Copy, Debug, PartialEq, Eq)]
 pub struct Comparison<'a> {
     pub hours: u32,
@@ -209,13 +215,17 @@ impl Account {
     /// One line of a season, without its line feed.
     pub fn feed(&mut self, line: &[u8]) -> Result<(), Refusal> {
         // SAFETY: both lend their whole length, and the account is borrowed alone
-        accepted(unsafe { archive::pod1_feed(self.0.as_mut_ptr(), ACCOUNT, line.as_ptr(), line.len()) })
+        accepted(unsafe {
+            archive::pod1_feed(self.0.as_mut_ptr(), ACCOUNT, line.as_ptr(), line.len())
+        })
     }
 
     /// An hour of floats, each a whole number: as the line of kind 02 with these numbers.
     pub fn feed_floats(&mut self, day: u16, hour: u8, readings: Floats) -> Result<(), Refusal> {
         // SAFETY: the account lends its whole length
-        accepted(unsafe { archive::pod1_feed_floats(self.0.as_mut_ptr(), ACCOUNT, day, hour, readings) })
+        accepted(unsafe {
+            archive::pod1_feed_floats(self.0.as_mut_ptr(), ACCOUNT, day, hour, readings)
+        })
     }
 
     pub fn read(&self) -> Result<Reading, Refusal> {
@@ -226,30 +236,47 @@ impl Account {
     /// The account's line, line feed included.
     pub fn line<'a>(&self, buffer: &'a mut [u8]) -> Result<&'a [u8], Refusal> {
         // SAFETY: both lend their whole length, and the buffer is borrowed alone
-        put(buffer, |place, length| unsafe { archive::pod1_line(self.0.as_ptr(), ACCOUNT, place, length) })
+        put(buffer, |place, length| unsafe {
+            archive::pod1_line(self.0.as_ptr(), ACCOUNT, place, length)
+        })
     }
 
     /// What feeding the line would do, without doing it.
     pub fn trial(&self, line: &[u8]) -> Result<Trial, Refusal> {
         let mut bytes = [0; TRIAL];
         // SAFETY: all three lend their whole length, and the trial's bytes are this call's own
-        let tried = unsafe { archive::pod1_trial(self.0.as_ptr(), ACCOUNT, line.as_ptr(), line.len(), bytes.as_mut_ptr(), TRIAL) };
+        let tried = unsafe {
+            archive::pod1_trial(
+                self.0.as_ptr(),
+                ACCOUNT,
+                line.as_ptr(),
+                line.len(),
+                bytes.as_mut_ptr(),
+                TRIAL,
+            )
+        };
         accepted(tried.code)?;
         Ok(Trial { bytes, answer: accepted(tried.answer), reading: tried.reading.given() })
     }
 
-    /// With the account that was tried, what feeding the trial's line would have done; with any other row 16.
+    /// With the account that was tried, what feeding the trial's line would have done; with any
+    /// other row 16.
     pub fn take(&mut self, trial: &Trial) -> Result<(), Refusal> {
         // SAFETY: both lend their whole length, and the account is borrowed alone
-        accepted(unsafe { archive::pod1_take(self.0.as_mut_ptr(), ACCOUNT, trial.bytes.as_ptr(), TRIAL) })
+        accepted(unsafe {
+            archive::pod1_take(self.0.as_mut_ptr(), ACCOUNT, trial.bytes.as_ptr(), TRIAL)
+        })
     }
 }
 
 /// One line to one to six accounts: all take it or none.
 pub fn feed_all(accounts: &mut [Account], line: &[u8]) -> Result<(), Refusal> {
     let length = std::mem::size_of_val(accounts);
-    // SAFETY: an account is its bytes (repr(transparent)), so a slice of them is so many bytes one after the other, borrowed alone
-    accepted(unsafe { archive::pod1_feed_all(accounts.as_mut_ptr().cast(), length, line.as_ptr(), line.len()) })
+    // SAFETY: an account is its bytes (repr(transparent)), so a slice of them is so many bytes one
+    // after the other, borrowed alone
+    accepted(unsafe {
+        archive::pod1_feed_all(accounts.as_mut_ptr().cast(), length, line.as_ptr(), line.len())
+    })
 }
 
 // ---- whole season texts
@@ -257,41 +284,88 @@ pub fn feed_all(accounts: &mut [Account], line: &[u8]) -> Result<(), Refusal> {
 /// The report of a season text, or its line "refused N line L"; row 12 alone.
 pub fn report<'a>(text: &[u8], buffer: &'a mut [u8]) -> Result<&'a [u8], Refusal> {
     // SAFETY: both lend their whole length, and the buffer is borrowed alone
-    put(buffer, |place, length| unsafe { archive::pod1_report(text.as_ptr(), text.len(), place, length) })
+    put(buffer, |place, length| unsafe {
+        archive::pod1_report(text.as_ptr(), text.len(), place, length)
+    })
 }
 
 /// Two texts of one mast that are alike but for ozone, with a tolerance in tenths of ppb.
-pub fn compare<'a>(first: &[u8], second: &'a [u8], tolerance: u16) -> Result<Comparison<'a>, TextRefusal> {
+pub fn compare<'a>(
+    first: &[u8],
+    second: &'a [u8],
+    tolerance: u16,
+) -> Result<Comparison<'a>, TextRefusal> {
     // SAFETY: both lend their whole length, and nothing is written
-    let given = unsafe { archive::pod1_compare(first.as_ptr(), first.len(), second.as_ptr(), second.len(), tolerance) };
+    let given = unsafe {
+        archive::pod1_compare(first.as_ptr(), first.len(), second.as_ptr(), second.len(), tolerance)
+    };
     if given.code != 0 {
-        return Err(TextRefusal { refusal: refusal(given.code), text: given.text, line: given.line });
+        return Err(TextRefusal {
+            refusal: refusal(given.code),
+            text: given.text,
+            line: given.line,
+        });
     }
     let line = (given.hours > 0).then(|| &second[given.start as usize..given.end as usize]);
     Ok(Comparison { hours: given.hours, sum: given.sum, line })
 }
 
-/// The highest lower AOT40 of so many whole days in a row and its first day, or none where the season has fewer; `scratch(days)` bytes are lent.
-pub fn worst_stretch(text: &[u8], days: u16, scratch: &mut [u8]) -> Result<Option<Stretch>, TextRefusal> {
+/// The highest lower AOT40 of so many whole days in a row and its first day, or none where the
+/// season has fewer; `scratch(days)` bytes are lent.
+pub fn worst_stretch(
+    text: &[u8],
+    days: u16,
+    scratch: &mut [u8],
+) -> Result<Option<Stretch>, TextRefusal> {
     // SAFETY: both lend their whole length, and the scratch bytes are borrowed alone
-    let given = unsafe { archive::pod1_worst_stretch(text.as_ptr(), text.len(), days, scratch.as_mut_ptr(), scratch.len()) };
+    let given = unsafe {
+        archive::pod1_worst_stretch(
+            text.as_ptr(),
+            text.len(),
+            days,
+            scratch.as_mut_ptr(),
+            scratch.len(),
+        )
+    };
     if given.code != 0 {
-        return Err(TextRefusal { refusal: refusal(given.code), text: u32::from(given.line > 0), line: given.line });
+        return Err(TextRefusal {
+            refusal: refusal(given.code),
+            text: u32::from(given.line > 0),
+            line: given.line,
+        });
     }
     Ok((given.found != 0).then_some(Stretch { sum: given.sum, day: given.day }))
 }
 
 // ---- lines to feed
 
-pub fn write_header(tree: u8, days: u16, first: u16, last: u16, level: u16, buffer: &mut [u8]) -> Result<&[u8], Refusal> {
+pub fn write_header(
+    tree: u8,
+    days: u16,
+    first: u16,
+    last: u16,
+    level: u16,
+    buffer: &mut [u8],
+) -> Result<&[u8], Refusal> {
     // SAFETY: the buffer lends its whole length
-    put(buffer, |place, length| unsafe { archive::pod1_write_header(tree, days, first, last, level, place, length) })
+    put(buffer, |place, length| unsafe {
+        archive::pod1_write_header(tree, days, first, last, level, place, length)
+    })
 }
 
 /// A header whose days come from latitude, in tenths of a degree north, and height in metres.
-pub fn write_place(tree: u8, days: u16, level: u16, latitude: u16, height: u16, buffer: &mut [u8]) -> Result<&[u8], Refusal> {
+pub fn write_place(
+    tree: u8,
+    days: u16,
+    level: u16,
+    latitude: u16,
+    height: u16,
+    buffer: &mut [u8],
+) -> Result<&[u8], Refusal> {
     // SAFETY: the buffer lends its whole length
-    put(buffer, |place, length| unsafe { archive::pod1_write_place(tree, days, level, latitude, height, place, length) })
+    put(buffer, |place, length| unsafe {
+        archive::pod1_write_place(tree, days, level, latitude, height, place, length)
+    })
 }
 
 pub fn write_hour(hour: Hour, buffer: &mut [u8]) -> Result<&[u8], Refusal> {
@@ -301,7 +375,9 @@ pub fn write_hour(hour: Hour, buffer: &mut [u8]) -> Result<&[u8], Refusal> {
 
 pub fn write_hour_pressure(hour: Hour, pressure: u16, buffer: &mut [u8]) -> Result<&[u8], Refusal> {
     // SAFETY: the buffer lends its whole length
-    put(buffer, |place, length| unsafe { archive::pod1_write_hour_pressure(hour, pressure, place, length) })
+    put(buffer, |place, length| unsafe {
+        archive::pod1_write_hour_pressure(hour, pressure, place, length)
+    })
 }
 
 pub fn write_hour_humidity(hour: Hour, buffer: &mut [u8]) -> Result<&[u8], Refusal> {
@@ -321,16 +397,23 @@ pub fn write_ceiling(ozone: u16, buffer: &mut [u8]) -> Result<&[u8], Refusal> {
 
 pub fn write_parameters(parameters: Parameters, buffer: &mut [u8]) -> Result<&[u8], Refusal> {
     // SAFETY: the buffer lends its whole length
-    put(buffer, |place, length| unsafe { archive::pod1_write_parameters(parameters, place, length) })
+    put(buffer, |place, length| unsafe {
+        archive::pod1_write_parameters(parameters, place, length)
+    })
 }
 
 pub fn write_warmth(rise: u16, fall: u16, end: u16, buffer: &mut [u8]) -> Result<&[u8], Refusal> {
     // SAFETY: the buffer lends its whole length
-    put(buffer, |place, length| unsafe { archive::pod1_write_warmth(rise, fall, end, place, length) })
+    put(buffer, |place, length| unsafe {
+        archive::pod1_write_warmth(rise, fall, end, place, length)
+    })
 }
 
 /// What a call wrote into a buffer that it was lent alone.
-fn put<'a>(buffer: &'a mut [u8], write: impl FnOnce(*mut u8, usize) -> archive::Printed) -> Result<&'a [u8], Refusal> {
+fn put<'a>(
+    buffer: &'a mut [u8],
+    write: impl FnOnce(*mut u8, usize) -> archive::Printed,
+) -> Result<&'a [u8], Refusal> {
     let printed = write(buffer.as_mut_ptr(), buffer.len());
     accepted(printed.code)?;
     Ok(&buffer[..printed.length as usize])
@@ -357,7 +440,8 @@ mod archive {
         pub fn given(self) -> Result<Reading, Refusal> {
             accepted(self.code)?;
             let Readout { hours, counted, missing, least, most, lower, upper, .. } = self;
-            let verdict = [Verdict::None, Verdict::Undecided, Verdict::Exceeded, Verdict::Below][self.verdict as usize];
+            let verdict = [Verdict::None, Verdict::Undecided, Verdict::Exceeded, Verdict::Below]
+                [self.verdict as usize];
             Ok(Reading { hours, counted, missing, least, most, lower, upper, verdict })
         }
     }
@@ -396,26 +480,61 @@ mod archive {
     }
 
     #[link(name = "pod1", kind = "static")]
+    #[rustfmt::skip]
     extern "C" {
         pub fn pod1_fresh(account: *mut u8, account_length: usize) -> u32;
-        pub fn pod1_feed(account: *mut u8, account_length: usize, line: *const u8, line_length: usize) -> u32;
-        pub fn pod1_feed_floats(account: *mut u8, account_length: usize, day: u16, hour: u8, readings: Floats) -> u32;
+        pub fn pod1_feed(
+            account: *mut u8, account_length: usize, line: *const u8, line_length: usize,
+        ) -> u32;
+        pub fn pod1_feed_floats(
+            account: *mut u8, account_length: usize, day: u16, hour: u8, readings: Floats,
+        ) -> u32;
         pub fn pod1_read(account: *const u8, account_length: usize) -> Readout;
-        pub fn pod1_line(account: *const u8, account_length: usize, buffer: *mut u8, buffer_length: usize) -> Printed;
-        pub fn pod1_trial(account: *const u8, account_length: usize, line: *const u8, line_length: usize, trial: *mut u8, trial_length: usize) -> Tried;
-        pub fn pod1_take(account: *mut u8, account_length: usize, trial: *const u8, trial_length: usize) -> u32;
-        pub fn pod1_feed_all(accounts: *mut u8, accounts_length: usize, line: *const u8, line_length: usize) -> u32;
-        pub fn pod1_report(text: *const u8, text_length: usize, buffer: *mut u8, buffer_length: usize) -> Printed;
-        pub fn pod1_compare(first: *const u8, first_length: usize, second: *const u8, second_length: usize, tolerance: u16) -> Comparison;
-        pub fn pod1_worst_stretch(text: *const u8, text_length: usize, days: u16, scratch: *mut u8, scratch_length: usize) -> Stretch;
-        pub fn pod1_write_header(tree: u8, days: u16, first: u16, last: u16, level: u16, buffer: *mut u8, buffer_length: usize) -> Printed;
-        pub fn pod1_write_place(tree: u8, days: u16, level: u16, latitude: u16, height: u16, buffer: *mut u8, buffer_length: usize) -> Printed;
+        pub fn pod1_line(
+            account: *const u8, account_length: usize, buffer: *mut u8, buffer_length: usize,
+        ) -> Printed;
+        pub fn pod1_trial(
+            account: *const u8, account_length: usize, line: *const u8, line_length: usize,
+            trial: *mut u8, trial_length: usize,
+        ) -> Tried;
+        pub fn pod1_take(
+            account: *mut u8, account_length: usize, trial: *const u8, trial_length: usize,
+        ) -> u32;
+        pub fn pod1_feed_all(
+            accounts: *mut u8, accounts_length: usize, line: *const u8, line_length: usize,
+        ) -> u32;
+        pub fn pod1_report(
+            text: *const u8, text_length: usize, buffer: *mut u8, buffer_length: usize,
+        ) -> Printed;
+        pub fn pod1_compare(
+            first: *const u8, first_length: usize, second: *const u8, second_length: usize,
+            tolerance: u16,
+        ) -> Comparison;
+        pub fn pod1_worst_stretch(
+            text: *const u8, text_length: usize, days: u16, scratch: *mut u8, scratch_length: usize,
+        ) -> Stretch;
+        pub fn pod1_write_header(
+            tree: u8, days: u16, first: u16, last: u16, level: u16, buffer: *mut u8,
+            buffer_length: usize,
+        ) -> Printed;
+        pub fn pod1_write_place(
+            tree: u8, days: u16, level: u16, latitude: u16, height: u16, buffer: *mut u8,
+            buffer_length: usize,
+        ) -> Printed;
         pub fn pod1_write_hour(hour: Hour, buffer: *mut u8, buffer_length: usize) -> Printed;
-        pub fn pod1_write_hour_pressure(hour: Hour, pressure: u16, buffer: *mut u8, buffer_length: usize) -> Printed;
-        pub fn pod1_write_hour_humidity(hour: Hour, buffer: *mut u8, buffer_length: usize) -> Printed;
+        pub fn pod1_write_hour_pressure(
+            hour: Hour, pressure: u16, buffer: *mut u8, buffer_length: usize,
+        ) -> Printed;
+        pub fn pod1_write_hour_humidity(
+            hour: Hour, buffer: *mut u8, buffer_length: usize,
+        ) -> Printed;
         pub fn pod1_write_end(hours: u16, buffer: *mut u8, buffer_length: usize) -> Printed;
         pub fn pod1_write_ceiling(ozone: u16, buffer: *mut u8, buffer_length: usize) -> Printed;
-        pub fn pod1_write_parameters(parameters: Parameters, buffer: *mut u8, buffer_length: usize) -> Printed;
-        pub fn pod1_write_warmth(rise: u16, fall: u16, end: u16, buffer: *mut u8, buffer_length: usize) -> Printed;
+        pub fn pod1_write_parameters(
+            parameters: Parameters, buffer: *mut u8, buffer_length: usize,
+        ) -> Printed;
+        pub fn pod1_write_warmth(
+            rise: u16, fall: u16, end: u16, buffer: *mut u8, buffer_length: usize,
+        ) -> Printed;
     }
 }

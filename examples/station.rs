@@ -1,4 +1,5 @@
-//! A station that outlives a power cut, as examples/station.c is: the same command, the same file, so that each takes up what the other stored.
+//! A station that outlives a power cut, as examples/station.c is: the same command, the same file,
+//! so that each takes up what the other stored.
 //!
 //!     station STATE <SEASON
 //!
@@ -11,7 +12,8 @@ use std::fs::{self, File};
 use std::io::{self, BufRead, ErrorKind, Write};
 use std::process::ExitCode;
 
-/// The account, and the number of lines that it has had: in the file its bytes, and behind them the number, high byte first.
+/// The account, and the number of lines that it has had: in the file its bytes, and behind them the
+/// number, high byte first.
 struct State {
     account: Account,
     lines: u32,
@@ -20,11 +22,14 @@ struct State {
 const COUNT: usize = 4;
 
 impl State {
-    /// Only where there is no file a season is begun: one that cannot be read, or holds no account, is never overwritten.
+    /// Only where there is no file a season is begun: one that cannot be read, or holds no account,
+    /// is never overwritten.
     fn take_up(name: &OsStr) -> Option<State> {
         let bytes = match fs::read(name) {
             Ok(bytes) => bytes,
-            Err(e) if e.kind() == ErrorKind::NotFound => return Some(State { account: Account::fresh(), lines: 0 }),
+            Err(e) if e.kind() == ErrorKind::NotFound => {
+                return Some(State { account: Account::fresh(), lines: 0 })
+            }
             Err(_) => return None,
         };
         let stored: [u8; pod1::ACCOUNT + COUNT] = bytes.try_into().ok()?;
@@ -33,7 +38,8 @@ impl State {
         Some(State { account, lines: u32::from_be_bytes(count.try_into().ok()?) })
     }
 
-    /// Written beside, then renamed: the file holds the account before a line or the one after it, never a part of one.
+    /// Written beside, then renamed: the file holds the account before a line or the one after it,
+    /// never a part of one.
     fn store(&self, name: &OsStr) -> io::Result<()> {
         let mut beside = OsString::from(name);
         beside.push(".new");
@@ -57,13 +63,21 @@ fn run() -> Result<(), Stop> {
         return Err(Stop("usage: station STATE <SEASON".to_string(), 2));
     };
     let Some(mut state) = State::take_up(name) else {
-        return Err(Stop(format!("station: {} holds no account that can be taken up", name.to_string_lossy()), 2));
+        return Err(Stop(
+            format!("station: {} holds no account that can be taken up", name.to_string_lossy()),
+            2,
+        ));
     };
     for line in io::stdin().lock().split(b'\n').skip(state.lines as usize) {
         let line = line.map_err(unusable)?;
         let bare = line.strip_suffix(b"\r").unwrap_or(&line); // and without its line feed
         state.account.feed(bare).map_err(|r| {
-            let said = format!("station: line {} is refused by row {}, field {}", state.lines + 1, r.row as u32, r.field);
+            let said = format!(
+                "station: line {} is refused by row {}, field {}",
+                state.lines + 1,
+                r.row as u32,
+                r.field
+            );
             Stop(said, 1)
         })?;
         state.lines += 1;

@@ -1,9 +1,11 @@
 #!/usr/bin/env python3
-"""The command ./pod1 as a person calls it: reports, messages, statuses, encode, chart, the further programs' words and answers, and the first build.
+"""The command ./pod1 as a person calls it: reports, messages, statuses, encode, chart, the further
+calls' words and answers, and the first build.
 
     python3 tests/command.py [-v] [Encode]
 
-The report program is target/bin/pod1, which must be built. How the command calls the programs behind compare, stretch, place and stand, and rt, is tried with stand-ins; the proved programs themselves in `RealCalls`.
+The proved program is target/bin/pod1, which must be built. How the command calls it for compare,
+stretch, place and stand, and rt, is tried with stand-ins; the proved program itself in `RealCalls`.
 """
 
 import sys
@@ -15,7 +17,9 @@ from command_programs import Builds, Calls
 from command_reports import Options, Refusals, Reports, Tables
 from command_tables import Chart, Encode
 
-__all__ = ["Builds", "Calls", "Chart", "Encode", "Options", "RealCalls", "Refusals", "Reports", "Tables"]
+__all__ = [
+    "Builds", "Calls", "Chart", "Encode", "Options", "RealCalls", "Refusals", "Reports", "Tables"
+]
 
 
 def main():

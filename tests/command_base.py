@@ -1,4 +1,5 @@
-"""What the tests of the command ./pod1 share: a run of it, a folder for files, and a copy of it with stand-ins for the proved programs and for rt."""
+"""What the tests of the command ./pod1 share: a run of it, a folder for files, and a copy of it
+with stand-ins for the proved program and for rt."""
 
 import shutil
 import stat
@@ -24,8 +25,19 @@ USAGE = "pod1: ./pod1 --help has all of it\n"
 
 def run(*words, root=REPOSITORY, text=None, **options):
     """Status, standard output and standard error."""
-    done = subprocess.run([root / "pod1", *words], input=text, capture_output=True, timeout=SECONDS, check=False, **options)
-    return done.returncode, done.stdout.decode(errors="surrogateescape"), done.stderr.decode(errors="surrogateescape")
+    done = subprocess.run(
+        [root / "pod1", *words],
+        input=text,
+        capture_output=True,
+        timeout=SECONDS,
+        check=False,
+        **options,
+    )
+    return (
+        done.returncode,
+        done.stdout.decode(errors="surrogateescape"),
+        done.stderr.decode(errors="surrogateescape"),
+    )
 
 
 def report(text):
@@ -63,10 +75,15 @@ class Copied(Case):
     def setUp(self):
         super().setUp()
         self.root = self.folder / "copy"
-        shutil.copytree(REPOSITORY / "command", self.root / "command", ignore=shutil.ignore_patterns("__pycache__"))
+        shutil.copytree(
+            REPOSITORY / "command",
+            self.root / "command",
+            ignore=shutil.ignore_patterns("__pycache__"),
+        )
         shutil.copy2(REPOSITORY / "pod1", self.root / "pod1")
-        (self.root / "crates.txt").write_text("# NAME: what it stands on\nexact:\ntrees: exact\npod1: trees exact io\npod1_compare: trees\nother:\n")
-        for crate in ("exact", "trees", "pod1", "pod1_compare", "other"):
+        listed = "exact:\ntrees: exact\npod1: trees exact io\nother:\n"
+        (self.root / "crates.txt").write_text(f"# NAME: what it stands on\n{listed}")
+        for crate in ("exact", "trees", "pod1", "other"):
             (self.root / "crates" / crate / "src").mkdir(parents=True)
             (self.root / "crates" / crate / "src" / "lib.rt").write_text("")
 
@@ -75,9 +92,9 @@ class Copied(Case):
         path.write_text("\n".join(("#!/bin/sh", *lines)) + "\n")
         path.chmod(path.stat().st_mode | stat.S_IXUSR)
 
-    def program(self, name, *lines):
+    def program(self, *lines):
         """A stand-in that counts as built."""
-        self.script(self.root / "target" / "bin" / name, *lines)
+        self.script(self.root / "target" / "bin" / "pod1", *lines)
 
     def call(self, *words, **options):
         return run(*words, root=self.root, cwd=self.folder, **options)

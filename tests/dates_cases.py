@@ -1,20 +1,20 @@
 #!/usr/bin/env python3
-"""What crates/dates_cases must print for the rows on its standard input, reckoned anew in fractions.
+"""The section "dates" of crates/cases, reckoned in fractions by the words of docs/SPECIFICATION.md,
+"Dates from a place", alone.
 
-    python3 tests/dates_cases.py < crates/dates_cases/stdin > crates/dates_cases/stdout
+    python3 tests/dates_cases.py
 
-The rows themselves:
+writes it (tests/sections.py).
 
-    python3 tests/dates_cases.py --rows > crates/dates_cases/stdin
-
-A row is tree, days in the year, level, latitude (tenths of a degree) and height (metres), in hexadecimal. The words are those of W-202 and of document 000,
-III.3.5.3.1; each day is searched for from below or above, so that no rounding of the code is repeated here.
+A row is tree, days in the year, level, latitude (tenths of a degree) and height (metres), in
+hexadecimal. Each day is searched for from below or above, so that no rounding of the code is
+repeated here.
 """
 
-import sys
 from fractions import Fraction
 from itertools import product
 
+import sections
 from paper import NUMBERS, RAMPS, line_of, period_row
 
 WITH_MODEL = (1, 2, 4, 5)
@@ -64,11 +64,14 @@ def answer(tree, days, level, latitude, height):
 
 
 def rows():
-    """Every tenth of a degree at eight heights, tree, year and level by turns; then the borders of every range, each with each."""
+    """Every tenth of a degree at eight heights, tree, year and level by turns; then the borders of
+    every range, each with each."""
     for n, (latitude, height) in enumerate(product(range(350, 721), HEIGHTS)):
         turn = n + n // len(HEIGHTS)  # so that each height meets each tree
         yield WITH_MODEL[turn % 4], 365 + turn // 4 % 2, (1, 520, 10000)[turn % 3], latitude, height
-    yield from product(range(9), (364, 365, 366, 367), (0, 1, 10000, 10001), (349, 350, 720, 721), (0, 3000, 3001))
+    yield from product(
+        range(9), (364, 365, 366, 367), (0, 1, 10000, 10001), (349, 350, 720, 721), (0, 3000, 3001)
+    )
     most = 65535
     yield from product((0, 4, 255), (0, 365, most), (0, 520, most), (0, 600, most), (0, most))
 
@@ -92,15 +95,12 @@ def hold(given):
     assert answer(2, 365, 520, 350, 0).split()[:2] == ["83", "327"]
 
 
-def main():
-    if sys.argv[1:] == ["--rows"]:
-        for row in rows():
-            print("{:02X} {:04X} {:04X} {:04X} {:04X}".format(*row))
-        return
-    given = [[int(word, 16) for word in line.split()] for line in sys.stdin]
+def section():
+    given = list(rows())
     hold(given)
-    for row in given:
-        print(answer(*row))
+    text = "".join("{:02X} {:04X} {:04X} {:04X} {:04X}\n".format(*row) for row in given)
+    return text.encode(), "".join(answer(*row) + "\n" for row in given).encode()
 
 
-main()
+if __name__ == "__main__":
+    sections.write("dates", section())

@@ -1,10 +1,12 @@
 #!/usr/bin/env python3
-"""The exact dose of tests/paper.py, and the rows of the book of tests/account_cases.py, held to season texts with known answers.
+"""The exact dose of tests/paper.py, and the rows of the book of tests/account_cases.py, held to
+season texts with known answers.
 
     python3 tests/exact_doses.py [VECTORS]
 
-VECTORS is the folder of season texts, else ../shared/vectors beside the repository. A season's two doses, and each month's, agree to the 24 digits that an answer
-is good for. Printed: what was held in each folder.
+VECTORS is the folder of season texts, else ../shared/vectors beside the repository. A season's two
+doses, and each month's, agree to the 24 digits that an answer is good for. Printed: what was held
+in each folder.
 """
 
 import sys
@@ -26,7 +28,9 @@ def exact_ends(text):
 
 def hold_doses(name, doses, figures):
     for dose, said in zip(doses, (figures.low, figures.high)):
-        assert abs(dose - said) * 10**DIGITS <= max(said, Fraction(1)), f"{name}: {float(dose)}, not {float(said)}"
+        assert abs(dose - said) * 10**DIGITS <= max(
+            said, Fraction(1)
+        ), f"{name}: {float(dose)}, not {float(said)}"
 
 
 def hold_season(path, season):

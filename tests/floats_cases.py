@@ -1,25 +1,27 @@
 #!/usr/bin/env python3
-"""The commands for crates/floats_cases and what it must print, by the account of tests/account_cases.py and the words of W-214 alone.
+"""The section "floats" of crates/cases, by the account of tests/account_cases.py and the words of
+docs/SPECIFICATION.md, "Loggers that hold floats", alone.
 
     python3 tests/floats_cases.py
 
-writes crates/floats_cases/stdin and stdout.
+writes it (tests/sections.py).
 
-Each field at numbers on either side of every limit, at fractions, at numbers that no two bytes hold, at every kind of float that is no number, the others sound; two fields
-broken, out of range, or one of each, in every pair; the rows before row 26, each over floats that it would refuse; patterns by lot; whole seasons fed as lines and as floats.
+Each field at numbers on either side of every limit, at fractions, at numbers that no two bytes
+hold, at every kind of float that is no number, the others sound; two fields broken, out of range,
+or one of each, in every pair; the rows before row 26, each over floats that it would refuse;
+patterns by lot; whole seasons fed as lines and as floats.
 """
 
 import struct
 from fractions import Fraction
 
 import account_cases as book
-import vectors
+import sections
 from account_cases import CLOSED, OPEN, Account
 from local_trees import parameters_line
 from paper import MEASURED, TREES, Hour, limits, line_of_hour, measure_of
 from trial_cases import shown
 
-CRATE = vectors.REPOSITORY / "crates" / "floats_cases"
 FIELDS = range(7)
 OZONE, TEMPERATURE = 0, 3
 FFFF = 65535
@@ -38,7 +40,9 @@ def value_of(bits):
     exponent, digits = bits >> 23 & 255, bits & (1 << 23) - 1
     if exponent == 255:
         return None
-    size = Fraction(digits + (1 << 23) if exponent else digits) * Fraction(2) ** (max(exponent, 1) - 150)
+    size = Fraction(digits + (1 << 23) if exponent else digits) * Fraction(2) ** (
+        max(exponent, 1) - 150
+    )
     value = -size if bits >> 31 else size
     assert value == Fraction(struct.unpack(">f", struct.pack(">I", bits))[0])
     return value
@@ -52,20 +56,49 @@ def whole_of(bits):
 
 MINUS_ZERO = 0x80000000
 HALF, NAN = bits_of(0.5), 0x7FC00000
-NO_NUMBERS = (0x7F800000, 0xFF800000, 0x7F800001, 0x7FBFFFFF, NAN, 0x7FFFFFFF, 0xFF800001, 0xFFC00000, 0xFFFFFFFF)  # infinities and NaNs
-TINY = (1, 2, 0x007FFFFF, 0x00800000, 0x00800001, 0x80000001, 0x807FFFFF, 0x80800000)  # subnormal ones, and the least normal ones
-FRACTIONS = tuple(bits_of(x) for x in (0.5, -0.5, 0.1, 1.5, 499.5, 0.99999994, 1.0000001, 4194303.5, -4194303.5, 8388607.5, -8388607.5))
-LARGE = tuple(bits_of(n) for e in (15, 16, 23, 24, 25, 31, 32, 63, 64, 127) for n in (2.0**e, -(2.0**e)))
-LARGEST = (0x7F7FFFFF, 0xFF7FFFFF, bits_of(1e30), bits_of(-1e30), bits_of(16777214), bits_of(16777215), bits_of(16777218))
-WHOLE = tuple(bits_of(n) for n in (0, 1, -1, 2, -2, 499, 65034, 65035, 65036, 65534, 65535, 65536, -65535, -65536, 70000, 32767, 32768, -32767, -32768, -32769, 131071))
+# infinities and NaNs
+NO_NUMBERS = (
+    0x7F800000, 0xFF800000, 0x7F800001, 0x7FBFFFFF, NAN, 0x7FFFFFFF, 0xFF800001, 0xFFC00000,
+    0xFFFFFFFF,
+)
+# subnormal ones, and the least normal ones
+TINY = (1, 2, 0x007FFFFF, 0x00800000, 0x00800001, 0x80000001, 0x807FFFFF, 0x80800000)
+FRACTIONS = tuple(
+    bits_of(x)
+    for x in (
+        0.5, -0.5, 0.1, 1.5, 499.5, 0.99999994, 1.0000001, 4194303.5, -4194303.5, 8388607.5,
+        -8388607.5,
+    )
+)
+LARGE = tuple(
+    bits_of(n) for e in (15, 16, 23, 24, 25, 31, 32, 63, 64, 127) for n in (2.0**e, -(2.0**e))
+)
+LARGEST = (
+    0x7F7FFFFF,
+    0xFF7FFFFF,
+    bits_of(1e30),
+    bits_of(-1e30),
+    bits_of(16777214),
+    bits_of(16777215),
+    bits_of(16777218),
+)
+WHOLE = tuple(
+    bits_of(n)
+    for n in (
+        0, 1, -1, 2, -2, 499, 65034, 65035, 65036, 65534, 65535, 65536, -65535, -65536, 70000,
+        32767, 32768, -32767, -32768, -32769, 131071,
+    )
+)
 
 
 def around(limits_of_field):
     low, high = limits_of_field
-    return tuple(bits_of(n) for end in (low, high) for n in (end - 1, end - 0.5, end, end + 0.5, end + 1))
+    return tuple(
+        bits_of(n) for end in (low, high) for n in (end - 1, end - 0.5, end, end + 0.5, end + 1)
+    )
 
 
-# ---- W-214
+# ---- loggers that hold floats
 
 
 def row_of(account, day, hour, patterns):
@@ -84,7 +117,9 @@ def row_of(account, day, hour, patterns):
         return (26, numbers.index(None) + 1)
     if numbers[OZONE] == FFFF and account.ceiling == 0:
         return (18,)
-    for field, (number, (low, high)) in enumerate(zip(numbers, limits(2, measure_of(account.tree))), start=1):
+    for field, (number, (low, high)) in enumerate(
+        zip(numbers, limits(2, measure_of(account.tree))), start=1
+    ):
         if not low <= number <= high and (field, number) != (1, FFFF):
             return (10, field)
     return None
@@ -114,7 +149,8 @@ def answer(row):
 
 
 class Sheet:
-    """The commands so far, what they must print, and the two accounts that they leave: one is fed lines, the other floats."""
+    """The commands so far, what they must print, and the two accounts that they leave: one is fed
+    lines, the other floats."""
 
     def __init__(self):
         self.commands, self.answers = [], []
@@ -148,7 +184,9 @@ class Sheet:
         """At the hour due, unless it is given."""
         due = self.floats.first + self.floats.hours // 24, self.floats.hours % 24
         day, hour = due[0] if day is None else day, due[1] if hour is None else hour
-        self.command(b"G", b"%04X%02X" % (day, hour) + b"".join(b"%08X" % bits for bits in patterns))
+        self.command(
+            b"G", b"%04X%02X" % (day, hour) + b"".join(b"%08X" % bits for bits in patterns)
+        )
         row, self.floats = feed_floats(self.floats, day, hour, patterns)
         self.rows.add(row)
         self.answers.append(answer(row))
@@ -177,11 +215,15 @@ def sound(**others):
 
 
 def single_fields(sheet, *lines):
-    """Each field at each number; after an hour that was accepted the season starts anew, so that no hour is past the period."""
+    """Each field at each number; after an hour that was accepted the season starts anew, so that no
+    hour is past the period."""
     opened(sheet, *lines)
     every = limits(2, TREES[sheet.floats.tree].measure)
     for field in FIELDS:
-        patterns = (0, MINUS_ZERO, *around(every[field]), *WHOLE, *FRACTIONS, *LARGE, *LARGEST, *TINY, *NO_NUMBERS)
+        patterns = (
+            0, MINUS_ZERO, *around(every[field]), *WHOLE, *FRACTIONS, *LARGE, *LARGEST, *TINY,
+            *NO_NUMBERS,
+        )
         for bits in dict.fromkeys(patterns):
             if sheet.hour(sound(**{f"_{field}": bits})) is None:
                 sheet.accounts()
@@ -195,7 +237,14 @@ def pairs(sheet, *lines):
     opened(sheet, *lines)
     for one in FIELDS:
         for other in range(one + 1, 7):
-            for a, b in ((HALF, NAN), (NAN, HALF), (HALF, bits_of(-70000)), (bits_of(1e30), NAN), (bits_of(-1), bits_of(1e30)), (bits_of(70000), 0xFF800000)):
+            for a, b in (
+                (HALF, NAN),
+                (NAN, HALF),
+                (HALF, bits_of(-70000)),
+                (bits_of(1e30), NAN),
+                (bits_of(-1), bits_of(1e30)),
+                (bits_of(70000), 0xFF800000),
+            ):
                 sheet.hour(sound(**{f"_{one}": a, f"_{other}": b}))
     for field in range(1, 7):
         for bits in (HALF, NAN, bits_of(-70000), bits_of(FFFF)):
@@ -244,7 +293,13 @@ def patterns_by_lot(sheet, lot):
         for _ in range(lot.below(3)):
             field = lot.below(7)
             exponent = lot.of((lot.below(256), 126 + lot.below(30)))
-            patterns[field] = lot.of((lot.below(2**32), lot.below(2) << 31 | exponent << 23 | lot.below(2**23), bits_of(lot.below(2**17) - 2**16)))
+            patterns[field] = lot.of(
+                (
+                    lot.below(2**32),
+                    lot.below(2) << 31 | exponent << 23 | lot.below(2**23),
+                    bits_of(lot.below(2**17) - 2**16),
+                )
+            )
         sheet.hour(patterns)
     sheet.accounts()
 
@@ -256,9 +311,15 @@ def readings_by_lot(lot, tree):
 
 
 def season(sheet, lot, tree, first, *own):
-    """Every hour of a season as a line and as floats; lines of other kinds between them, and refused ones. Tree 7's has three days and begins with its own frames."""
+    """Every hour of a season as a line and as floats; lines of other kinds between them, and
+    refused ones. Tree 7's has three days and begins with its own frames."""
     last = first + (2 if tree == MEASURED else TREES[tree].f1 + TREES[tree].f4)
-    opened(sheet, book.header_line(tree, 365, first, last), *own, book.ceiling_line(lot.of((1, 900, 5000))))
+    opened(
+        sheet,
+        book.header_line(tree, 365, first, last),
+        *own,
+        book.ceiling_line(lot.of((1, 900, 5000))),
+    )
     while sheet.floats.hours < sheet.floats.period:
         day, hour = first + sheet.floats.hours // 24, sheet.floats.hours % 24
         numbers = readings_by_lot(lot, tree)
@@ -286,16 +347,17 @@ def filled():
         season(sheet, lot, tree, 105)
     season(sheet, lot, MEASURED, 105, parameters_line())
     season(sheet, lot, MEASURED, 105, parameters_line(a=20, e=40), book.warmth_line(5, 10, 20))
-    expected = {None, (13,), (4,), (15,), (9,), (18,)} | {(row, field) for row in (10, 26) for field in range(1, 8)}
+    expected = {None, (13,), (4,), (15,), (9,), (18,)} | {
+        (row, field) for row in (10, 26) for field in range(1, 8)
+    }
     assert sheet.rows == expected
     return sheet
 
 
-def main():
+def section():
     sheet = filled()
-    (CRATE / "stdin").write_bytes(b"".join(sheet.commands))
-    (CRATE / "stdout").write_text("".join(line + "\n" for line in sheet.answers))
+    return b"".join(sheet.commands), "".join(line + "\n" for line in sheet.answers).encode()
 
 
 if __name__ == "__main__":
-    main()
+    sections.write("floats", section())

@@ -41,7 +41,7 @@ form 'the evergreen dip is a match on the day with ranges' trees/src/phen.rt \
 form 'a tree is a match on its number' trees/src/lib.rt \
     'match tree \{\s*1 => Some\(.*\s6 => Some\(.*_ => None' \
     's/match tree \{/if tree == 1 {/'
-form 'a line loop over a digit loop, which begins at the line'"'"'s first character' walk/src/loops.rt \
+form 'a line loop over a digit loop, which begins at the first character' walk/src/loops.rt \
     "'lines: loop \{((?!\n    \}).)*let mut end = at;\s*(//[^\n]*\s*)*'digits: loop \{" \
     "s/let mut end = at;/let mut end = past_hour(text, at);/"
 form 'a bad digit leaves the line loop by its label' walk/src/loops.rt \
@@ -52,11 +52,11 @@ form 'a refused line leaves the line loop by break with its refusal' walk/src/lo
     "s/=> break 'lines Err\(/=> return Err(/"
 for table in BOREAL_SPRUCE:592 BIRCH:545 CONTINENTAL_SPRUCE:303 BEECH:247 OAK:332 EVERGREEN:377; do
     name=${table%:*}
-    form "the table of f_temp of $name is a constant array" tables/src/values.rt \
+    form "the table of f_temp of $name is a constant array" power/src/values.rt \
         "const $name: \[u32; ${table#*:}\] = \[\s*[0-9]" \
         "s/const $name: \[/static $name: [/"
 done
-form 'the power inequality is computed over the whole table' tables/src/lookups.rt \
+form 'the power inequality is computed over the whole table' power/src/lookups.rt \
     'fn entries\(\) -> &.static \[u32\]\s*ensures[^\n]*IsTable' \
     's/ensures[^\n]*IsTable/ensures { length/'
 for tree in BorealSpruce Birch ContinentalSpruce Beech Oak Evergreen; do
@@ -65,35 +65,37 @@ for tree in BorealSpruce Birch ContinentalSpruce Beech Oak Evergreen; do
             GMAX F_MIN LIGHT_A T_MIN T_OPT T_MAX)const F1: u16 = [^;]+;\s*const F4: u16 = " \
         "s/impl Tree for $tree \{/impl $tree {/"
 done
-form 'the line of the first hour is a part whose lifetime is the second text'"'"'s' compare/src/lib.rt \
+form 'the line of the first hour has the second text'"'"'s lifetime' compare/src/lib.rt \
     "pub fn first_difference<'a>\(\s*first: &\[u8\],\s*second: &'a \[u8\],[^)]*\) -> &'a \[u8\]" \
     "s/second: &'a \[u8\]/second: \&[u8]/"
-form 'soil is an enum of the two measures with their number' records/src/lib.rt \
+form 'soil is an enum of the two measures with their number' frames/src/records.rt \
     'pub enum Soil \{[^}]*Suction\(u16\),[^}]*Water\(u16\),[^}]*\}' \
     's/Water\(u16\)/Water/'
-form 'and a field of the hour record' records/src/lib.rt \
+form 'and a field of the hour record' frames/src/records.rt \
     'pub struct Hour \{[^}]*pub soil: Soil,' \
     's/pub soil: Soil,/pub soil: u16,/'
-for call in feed_untested feed; do
-    form "account::$call takes the decoded line apart by let .. else, the same account handed back" \
+taken='let Ok\(\w+\) = \w+ else \{((?!\n\}).)*return Err\(\([^\n]*account\)\);'
+for call in feed_frame feed; do
+    form "account::$call takes the line apart by let .. else, the same account handed back" \
         account/src/lib.rt \
-        "pub fn $call\(account: Account,((?!\n\}).)*let Ok\(\w+\) = \w+ else \{((?!\n\}).)*return Err\(\([^\n]*account\)\);" \
+        "pub fn $call\(account: Account,((?!\n\}).)*$taken" \
         's/let Ok\((\w+)\) = (\w+) else/match \2/g'
 done
-form 'an hour of floats is a struct of seven f32 readings' floats_spec/src/lib.rt \
+form 'an hour of floats is a struct of seven f32 readings' floats/src/lib.rt \
     'pub struct FloatReadings \{([^}]*pub \w+: f32,){7}' \
     's/f32/u16/'
 form 'taken by value, each turned to a whole number' floats/src/lib.rt \
     'pub fn feed_floats\([^)]*readings: FloatReadings\)' \
     's/readings: FloatReadings/readings: \&FloatReadings/'
-form 'several trees are a lent slice of account structs' list/src/lib.rt \
+form 'several trees are a lent slice of account structs' stand/src/lib.rt \
     'pub fn feed_all\(accounts: &mut \[Account\], line: &\[u8\]\)' \
     's/accounts: &mut \[Account\]/accounts: [Account; 6]/'
-form 'one thin walk over them calls the by-value step' list/src/lib.rt \
+form 'one thin walk over them calls the by-value step' stand/src/lib.rt \
     'for place in accounts\.iter_mut\(\) \{\s*\*place = \w+\([^)]*\*place[^)]*\);\s*\}' \
     's/for place in accounts/for place in others/'
-form 'a refusal has a definition with a number and a field for each case' records/specs/Answers.antt \
-    'row_of : Refusal → ℕ × ℕ\nrow_of Length = \(1, 0\)\n.*row_of \(Range f\) = \(10, f\)\n.*row_of \(Float f\) = \(26, f\)' \
+rows='row_of Length = \(1, 0\)\n.*row_of \(Range f\) = \(10, f\)\n.*row_of \(Float f\) = \(26, f\)'
+form 'a refusal has a definition with number and field of each case' frames/specs/Answers.antt \
+    "row_of : Refusal → ℕ × ℕ\n$rows" \
     's/row_of \(Float f\) = /row_of _ = /'
 
 if [ $missing != 0 ]; then

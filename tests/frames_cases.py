@@ -1,35 +1,40 @@
 #!/usr/bin/env python3
-"""The commands for crates/frames_cases and what it must print, reckoned from document 01 ("Frames", "Tree table", "Turned-back lines") and document 02
-(W-204, W-205, W-207, W-212, W-213) alone.
+"""The section "frames" of crates/cases, reckoned from the words of docs/SPECIFICATION.md alone
+("Frames", "Tree table", "Turned-back lines", "Station pressure", "Humidity in place of VPD", "Hours
+without ozone", "A laboratory's own tree", "Leaf age by warmth").
 
     python3 tests/frames_cases.py
 
-writes crates/frames_cases/stdin and stdout: document 01's examples, every length of line, every change of one character, every length of buffer,
-records on either side of each limit, lines with another kind's length, and round trips.
+writes it (tests/sections.py): the examples of "Frames", every length of line, every change of one
+character, every length of buffer, records on either side of each limit, lines with another kind's
+length, and round trips.
 """
 
 from itertools import permutations
-from pathlib import Path
 
+import sections
 from local_trees import BROKEN, GOOD, LOCAL, parameters_line
 from paper import Parameters, Warmth, parameter_row, warmth_row
 
-CRATE = Path(__file__).resolve().parent.parent / "crates" / "frames_cases"
-BUFFER = 2097152  # bytes that the program reads
-
 DIGITS = b"0123456789ABCDEF"
-RAMPS = {1: 20 + 30, 2: 20 + 30, 3: 0, 4: 20 + 20, 5: 15 + 20, 6: 0, 7: 0}  # f1 + f4 of each tree, in days; those of tree 7 come later
+# f1 + f4 of each tree, in days; those of tree 7 come later
+RAMPS = {1: 20 + 30, 2: 20 + 30, 3: 0, 4: 20 + 20, 5: 15 + 20, 6: 0, 7: 0}
 WATER, SUCTION = (1, 2), (3, 4, 5, 6, 7)  # trees by their soil measure
 LENGTHS = {1: 20, 2: 36, 3: 6, 4: 40, 5: 36, 6: 6, 7: 66, 8: 14}  # digits of a line of each kind
 HOUR_WIDTHS = (2, 1, 2, 2, 2, 2, 2, 2, 2)
 # bytes of the fields after the kind
-WIDTHS = {1: (1, 2, 2, 2, 2), 2: HOUR_WIDTHS, 3: (2,), 4: (*HOUR_WIDTHS, 2), 5: HOUR_WIDTHS, 6: (2,), 7: 16 * (2,), 8: 3 * (2,)}
+WIDTHS = {
+    1: (1, 2, 2, 2, 2), 2: HOUR_WIDTHS, 3: (2,), 4: (*HOUR_WIDTHS, 2), 5: HOUR_WIDTHS, 6: (2,),
+    7: 16 * (2,), 8: 3 * (2,),
+}
 
-# A record is a tuple: (1, tree, days, first, last, level), (3, hours), (2, day, hour, ozone, ppfd, radiation, temperature, vpd, wind, measure, soil),
-# (4, the same fields, pressure), (5, the fields of 2 with humidity where vpd stands), (6, ozone ceiling), (7, the sixteen parameters as they stand in the line),
-# or (8, rise, fall, end). An hour's ozone is a number or MISSING.
-# An answer is a record, a number of bytes, or a refusal: ("row", N) or ("row", 10, "field", F).
-HEADER_KIND, HOUR_KIND, END_KIND, PRESSURE_KIND, HUMIDITY_KIND, CEILING_KIND, PARAMETER_KIND, WARMTH_KIND = range(1, 9)
+# A record is a tuple: (1, tree, days, first, last, level), (3, hours), (2, day, hour, ozone, ppfd,
+# radiation, temperature, vpd, wind, measure, soil), (4, the same fields, pressure), (5, the fields
+# of 2 with humidity where vpd stands), (6, ozone ceiling), (7, the sixteen parameters as they stand
+# in the line), or (8, rise, fall, end). An hour's ozone is a number or MISSING. An answer is a
+# record, a number of bytes, or a refusal: ("row", N) or ("row", 10, "field", F).
+HEADER_KIND, HOUR_KIND, END_KIND, PRESSURE_KIND = range(1, 5)
+HUMIDITY_KIND, CEILING_KIND, PARAMETER_KIND, WARMTH_KIND = range(5, 9)
 HOUR_KINDS = (HOUR_KIND, PRESSURE_KIND, HUMIDITY_KIND)
 MISSING, FFFF = "missing", 65535
 
@@ -39,7 +44,8 @@ def row(n):
 
 
 def refusal_of(record):
-    """Rows 5 to 8 for a header, row 10 for an hour, row 17 for a ceiling, row 24 for parameters, row 25 for warmth; None where none holds."""
+    """Rows 5 to 8 for a header, row 10 for an hour, row 17 for a ceiling, row 24 for parameters,
+    row 25 for warmth; None where none holds."""
     if record[0] == HEADER_KIND:
         _, tree, days, first, last, level = record
         if tree not in RAMPS:
@@ -53,8 +59,12 @@ def refusal_of(record):
     if record[0] in HOUR_KINDS:
         vapour = 1000 if record[0] == HUMIDITY_KIND else 10000
         most = 10000 if record[9] == "suction" else 1000
-        limits = ((0, 5000), (0, 3000), (0, 1500), (-500, 600), (0, vapour), (0, 6000), (0, most), (5000, 11000))
-        readings = record[3:9] + record[10:]  # the last limit is for kind 04, which has one reading more
+        limits = (
+            (0, 5000), (0, 3000), (0, 1500), (-500, 600), (0, vapour), (0, 6000), (0, most),
+            (5000, 11000),
+        )
+        # the last limit is for kind 04, which has one reading more
+        readings = record[3:9] + record[10:]
         for field, (reading, (low, high)) in enumerate(zip(readings, limits), start=1):
             if reading != MISSING and not low <= reading <= high:
                 return ("row", 10, "field", field)
@@ -84,7 +94,8 @@ def parse(line):
 
 
 def record_of(tree, kind, *numbers, numeric=False):
-    """The record that a frame's numbers say, its soil in the tree's measure; where `numeric`, an ozone of FFFF is a number."""
+    """The record that a frame's numbers say, its soil in the tree's measure; where `numeric`, an
+    ozone of FFFF is a number."""
     if kind not in HOUR_KINDS:
         return (kind, *numbers)
     day, hour, ozone, ppfd, radiation, temperature, vapour, wind, soil, *pressure = numbers
@@ -128,10 +139,15 @@ def words(answer):
 
 
 def mark(answer):
-    """One character: `.` read, `1` to `8` the row, `A` row 17, `H` row 24, `I` row 25, `a` to `h` row 10 with field 1 to 8."""
+    """One character: `.` read, `1` to `8` the row, `A` row 17, `H` row 24, `I` row 25, `a` to `h`
+    row 10 with field 1 to 8."""
     if answer[0] != "row":
         return "."
-    return "abcdefgh"[answer[3] - 1] if answer[1] == 10 else {17: "A", 24: "H", 25: "I"}.get(answer[1], str(answer[1]))
+    return (
+        "abcdefgh"[answer[3] - 1]
+        if answer[1] == 10
+        else {17: "A", 24: "H", 25: "I"}.get(answer[1], str(answer[1]))
+    )
 
 
 # ---- commands, each with its answer
@@ -154,7 +170,8 @@ def change(tree, place, line):
 
 
 def writing(tree, line, room=ROOM, numeric=False):
-    """Rows 1 to 3; else the frame's record, its own rows, what writing it into the first `room` bytes answers, and then the whole buffer."""
+    """Rows 1 to 3; else the frame's record, its own rows, what writing it into the first `room`
+    bytes answers, and then the whole buffer."""
     letter = ord("T" if numeric else "W")
     frame = parse(line)
     if frame[0] == "row":
@@ -328,9 +345,23 @@ def examples():
     yield writing_of(end(24), 5)
     for line in (MOUNTAIN, HUMID, *MISSING_HOURS, CEILING, OWN, WARM):
         yield from (reading(tree, line) for tree in (*range(9), 255))
-    yield from (writing(tree, line) for line in (*MISSING_HOURS, CEILING, OWN, WARM) for tree in RAMPS)
+    yield from (
+        writing(tree, line) for line in (*MISSING_HOURS, CEILING, OWN, WARM) for tree in RAMPS
+    )
     # an hour of tree 7 is measured in suction
-    yield from (reading(7, b"0200010001F40000000000E603E8012C%04X" % soil) for soil in (1001, 10000, 10001))
+    yield from (
+        reading(7, b"0200010001F40000000000E603E8012C%04X" % soil) for soil in (1001, 10000, 10001)
+    )
+
+
+CONFUSED = (
+    MOUNTAIN[:36], b"02" + MOUNTAIN[2:], b"05" + MOUNTAIN[2:], b"05" + MOUNTAIN[2:36],
+    HOUR + b"1B58", HUMID + b"1B58", b"04" + HOUR[2:], b"04" + HUMID[2:],
+    b"04" + HOUR[2:] + b"1B58", b"04" + HUMID[2:] + b"1B58",
+    *(OWN[:length] for length in (6, 14, 20, 36, 40)), b"07" + MOUNTAIN[2:], (HOUR + HOUR)[:66],
+    *(b"08" + OWN[2:length] for length in (6, 14, 20, 36, 40, 66)),
+    *(b"%02X" % kind + WARM[2:] for kind in (16, 128, 136, 255)), WARM[:6], WARM + b"000000",
+)
 
 
 def confused():
@@ -339,25 +370,7 @@ def confused():
         for kind in range(10):
             yield reading(6, b"%02X" % kind + line[2:])
             yield writing(6, b"%02X" % kind + line[2:])
-    for line in (
-        MOUNTAIN[:36],
-        b"02" + MOUNTAIN[2:],
-        b"05" + MOUNTAIN[2:],
-        b"05" + MOUNTAIN[2:36],
-        HOUR + b"1B58",
-        HUMID + b"1B58",
-        b"04" + HOUR[2:],
-        b"04" + HUMID[2:],
-        b"04" + HOUR[2:] + b"1B58",
-        b"04" + HUMID[2:] + b"1B58",
-        *(OWN[:length] for length in (6, 14, 20, 36, 40)),
-        b"07" + MOUNTAIN[2:],
-        (HOUR + HOUR)[:66],
-        *(b"08" + OWN[2:length] for length in (6, 14, 20, 36, 40, 66)),
-        *(b"%02X" % kind + WARM[2:] for kind in (16, 128, 136, 255)),
-        WARM[:6],
-        WARM + b"000000",
-    ):
+    for line in CONFUSED:
         yield from (reading(tree, line) for tree in (0, 1, 6))
         yield writing(6, line)
     # row 2 before row 3
@@ -379,7 +392,10 @@ def confused():
 
 def frames():
     """Rows 1 to 3, and numbers that no row has tested."""
-    for line in (*EXAMPLES, b"", b"01FF000000000000FFFF", b"02" + b"F" * 34, b"04" + b"F" * 38, b"05" + b"F" * 34, b"07" + b"F" * 64, b"08" + b"F" * 12):
+    for line in (
+        *EXAMPLES, b"", b"01FF000000000000FFFF", b"02" + b"F" * 34, b"04" + b"F" * 38,
+        b"05" + b"F" * 34, b"07" + b"F" * 64, b"08" + b"F" * 12,
+    ):
         yield writing(6, line)
 
 
@@ -390,13 +406,26 @@ def lengths():
 
 
 def changes():
-    some = [(tree, HOUR) for tree in (6, 1, 0, 7, 8, 255)] + [(tree, line) for line in (MOUNTAIN, HUMID) for tree in (6, 1, 8)]
-    edges = parameters_line(gmax=500, fmin=99, lighta=200, tmin=-20, topt=2, tmax=23, vpdmax=9999, vpdmin=10000, leaf=200, a=100, e=100, f1=200, f4=200, y=10)
+    some = [(tree, HOUR) for tree in (6, 1, 0, 7, 8, 255)] + [
+        (tree, line) for line in (MOUNTAIN, HUMID) for tree in (6, 1, 8)
+    ]
+    edges = parameters_line(
+        gmax=500, fmin=99, lighta=200, tmin=-20, topt=2, tmax=23, vpdmax=9999, vpdmin=10000,
+        leaf=200, a=100, e=100, f1=200, f4=200, y=10,
+    )
     warmths = ((7, WARM), (0, b"0803E801F405DC"), (6, b"08000013881388"))
-    for tree, line in ((6, BEECH), *some, (6, END), (6, CEILING), (0, CEILING), (6, b"061388"), (7, OWN), (0, edges), *warmths):
+    for tree, line in (
+        (6, BEECH), *some, (6, END), (6, CEILING), (0, CEILING), (6, b"061388"), (7, OWN),
+        (0, edges), *warmths,
+    ):
         yield from (change(tree, place, line) for place in range(len(line)))
     # the digits of ozone
-    yield from (change(tree, place, line) for line in MISSING_HOURS for tree in (6, 1, 8) for place in range(8, 12))
+    yield from (
+        change(tree, place, line)
+        for line in MISSING_HOURS
+        for tree in (6, 1, 8)
+        for place in range(8, 12)
+    )
 
 
 def buffers():
@@ -423,7 +452,8 @@ def buffers():
 
 def header_edges():
     yield from (header(tree, 365, 105, 297, 520) for tree in (0, 7, 8, 255))
-    yield from (header(7, 365, first, last, 520) for first, last in ((0, 1), (1, 1), (2, 1), (365, 365), (365, 366)))
+    periods = ((0, 1), (1, 1), (2, 1), (365, 365), (365, 366))
+    yield from (header(7, 365, first, last, 520) for first, last in periods)
     yield from (header(4, days, 105, 297, 520) for days in (0, 364, 366, 367, 65535))
     yield header(4, 365, 0, 297, 520)
     yield header(6, 365, 100, 99, 520)
@@ -458,7 +488,14 @@ def hour_edges():
     yield hour(500, 1200, 600, 205, 65535, 250, "suction", 300)
     yield hour(500, 1200, 600, 205, 1100, 6001, "suction", 300)
     yield hour(500, 1200, 600, 205, 1100, 65535, "suction", 300)
-    for measure, soil in (("suction", 10001), ("suction", 65535), ("suction", 1001), ("water", 1001), ("water", 10000), ("water", 65535)):
+    for measure, soil in (
+        ("suction", 10001),
+        ("suction", 65535),
+        ("suction", 1001),
+        ("water", 1001),
+        ("water", 10000),
+        ("water", 65535),
+    ):
         yield hour(500, 1200, 600, 205, 1100, 250, measure, soil)
     # the first field that is out
     yield hour(5001, 3001, 1501, 601, 10001, 6001, "suction", 10001)
@@ -479,7 +516,11 @@ def hour_edges():
 
 def pressure_edges():
     # every edge of kind 02 again, with a pressure in range and with one that is out
-    yield from (mountain(pressure, *record[3:], day=record[1], clock=record[2]) for record in hour_edges() for pressure in (5000, 11001))
+    yield from (
+        mountain(pressure, *record[3:], day=record[1], clock=record[2])
+        for record in hour_edges()
+        for pressure in (5000, 11001)
+    )
     for measure in ("suction", "water"):
         for pressure in (0, 4999, 5000, 11000, 11001, 32768, 65535):
             yield mountain(pressure, 500, 1200, 600, 205, 1100, 250, measure, 300)
@@ -511,26 +552,54 @@ def own_edges():
 
 
 def warmth_edges():
-    for rise, fall in ((0, 0), (0, 1), (1, 0), (200, 300), (0, 1500), (1500, 0), (2500, 2500), (0, 5000), (5000, 0)):
-        yield from (warm(rise, fall, end) for end in (0, 1, *range(max(rise + fall - 1, 0), rise + fall + 2), 4999, 5000, 5001, 32768, 65535))
+    for rise, fall in (
+        (0, 0), (0, 1), (1, 0), (200, 300), (0, 1500), (1500, 0), (2500, 2500), (0, 5000), (5000, 0)
+    ):
+        yield from (
+            warm(rise, fall, end)
+            for end in (
+                0,
+                1,
+                *range(max(rise + fall - 1, 0), rise + fall + 2),
+                4999,
+                5000,
+                5001,
+                32768,
+                65535,
+            )
+        )
     # rise plus fall past two bytes
-    for rise, fall in ((32768, 32768), (65535, 1), (1, 65535), (65535, 65535), (65535, 0), (0, 65535)):
+    for rise, fall in (
+        (32768, 32768), (65535, 1), (1, 65535), (65535, 65535), (65535, 0), (0, 65535)
+    ):
         yield from (warm(rise, fall, end) for end in (0, 1, 5000, 65534, 65535))
     # each number in another's place
     yield from (warm(*three) for three in permutations((200, 300, 1500)))
 
 
 def edges():
-    for record in (*header_edges(), *hour_edges(), *pressure_edges(), *humidity_edges(), *ceiling_edges(), *own_edges(), *warmth_edges()):
+    for record in (
+        *header_edges(),
+        *hour_edges(),
+        *pressure_edges(),
+        *humidity_edges(),
+        *ceiling_edges(),
+        *own_edges(),
+        *warmth_edges(),
+    ):
         yield writing_of(record, 0)
         yield writing_of(record)
     # a record of any other line is the same where FFFF is a number
-    for line in (EVERGREEN, HOUR, END, MOUNTAIN, HUMID, CEILING, b"06FFFF", OWN, WARM, b"0800010001FFFF"):
+    for line in (
+        EVERGREEN, HOUR, END, MOUNTAIN, HUMID, CEILING, b"06FFFF", OWN, WARM, b"0800010001FFFF"
+    ):
         yield writing(6, line, numeric=True)
 
 
 def hour_trips(measure, most):
-    yield from (hour(ozone, 1200, 600, 205, 1100, 250, measure, 300) for ozone in (0, 5000, MISSING))
+    yield from (
+        hour(ozone, 1200, 600, 205, 1100, 250, measure, 300) for ozone in (0, 5000, MISSING)
+    )
     yield from (hour(500, ppfd, 600, 205, 1100, 250, measure, 300) for ppfd in (0, 3000))
     yield from (hour(500, 1200, radiation, 205, 1100, 250, measure, 300) for radiation in (0, 1500))
     yield from (hour(500, 1200, 600, t, 1100, 250, measure, 300) for t in (-500, -1, 0, 600))
@@ -544,7 +613,10 @@ def hour_trips(measure, most):
 
 
 def pressure_trips(measure, most):
-    yield from (mountain(7000, *record[3:], day=record[1], clock=record[2]) for record in hour_trips(measure, most))
+    yield from (
+        mountain(7000, *record[3:], day=record[1], clock=record[2])
+        for record in hour_trips(measure, most)
+    )
     for t in (-500, 205, 600):
         for pressure in (5000, 5001, 8192, 10132, 10999, 11000):
             yield mountain(pressure, 500, 1200, 600, t, 1100, 250, measure, 300)
@@ -596,13 +668,11 @@ def trips():
         yield from (trip(record, tree) for record in trips_of("water", 1000) for tree in WATER)
 
 
-def main():
-    cases = [*examples(), *confused(), *frames(), *lengths(), *changes(), *buffers(), *edges(), *trips()]
-    commands, answers = (b"".join(text + b"\n" for text in side) for side in zip(*cases))
-    assert len(commands) <= BUFFER
-    (CRATE / "stdin").write_bytes(commands)
-    (CRATE / "stdout").write_bytes(answers)
+def section():
+    sorts = examples, confused, frames, lengths, changes, buffers, edges, trips
+    cases = [case for sort in sorts for case in sort()]
+    return tuple(b"".join(text + b"\n" for text in side) for side in zip(*cases))
 
 
 if __name__ == "__main__":
-    main()
+    sections.write("frames", section())

@@ -1,12 +1,19 @@
 #!/usr/bin/env bash
-# Hostile season texts against the built report program, for about a minute, or N of them:  tests/hostile.sh [--long N]
-# Their own account against season texts with known answers, in FOLDER or in ../shared/vectors beside the repository:  tests/hostile.sh --vectors [FOLDER]
+# Hostile season texts against the built report program, for about a minute, or N of them; or their
+# own account against season texts with known answers, in FOLDER or in ../shared/vectors beside the
+# repository:
+#
+#     tests/hostile.sh [--long N]
+#     tests/hostile.sh --vectors [FOLDER]
 set -eu
 repository=$(cd "$(dirname "$0")/.." && pwd)
 case $#,${1-} in
     0,) words=(--seconds 60) ;;
     2,--long) words=(--cases "$2") ;;
-    1,--vectors | 2,--vectors) words=(--vectors "$(realpath "${2:-$repository/../shared/vectors}")") ;;
+    1,--vectors | 2,--vectors)
+        folder=${2:-$repository/../shared/vectors}
+        words=(--vectors "$(realpath "$folder")")
+        ;;
     *)
         echo 'usage: tests/hostile.sh [--long N | --vectors [FOLDER]]' >&2
         exit 2

@@ -1,7 +1,11 @@
 #!/usr/bin/env bash
-# Hostile calls on the part, for half a minute, or N lists of them:  tests/hostile_calls.sh [--long N]
-# The archive is target/libpod1.a, which ./part builds where it is older than the crates; POD1_ARCHIVE=FILE links another one, as it is.
-# One list's calls, printed:  target/hostile/calls --list K [--seed S]
+# Hostile calls on the part, for half a minute, or N lists of them; one list's calls, printed:
+#
+#     tests/hostile_calls.sh [--long N]
+#     target/hostile/calls --list K [--seed S]
+#
+# The archive is target/libpod1.a, which ./part builds where it is older than the crates;
+# POD1_ARCHIVE=FILE links another one, as it is.
 set -eu
 repository=$(cd "$(dirname "$0")/.." && pwd)
 case $#,${1-} in

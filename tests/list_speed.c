@@ -1,7 +1,9 @@
-// A season's lines fed to six accounts together (pod1_feed_all) and to the same six one after the other (pod1_feed), line by line; how their times compare, the
-// least of RUNS runs of each part of the season, in turn.
+// A season's lines fed to six accounts together (pod1_feed_all) and to the same six one after the
+// other (pod1_feed), line by line; how their times compare, the least of RUNS runs of each part of
+// the season, in turn.
 //     list_speed TEXT
-// The text's header is that of all six, but for the tree: they have the trees of its soil measure. Exit status 1 where together does not take less.
+// The text's header is that of all six, but for the tree: they have the trees of its soil measure.
+// Exit status 1 where together does not take less.
 #include "../include/pod1.h"
 #include "bench/lines.h"
 
@@ -21,32 +23,39 @@ static struct stand opened(const struct text *t)
     for (size_t i = 0; i < POD1_LIST; i++) {
         uint8_t *account = six.bytes + i * POD1_ACCOUNT;
         header[3] = (uint8_t)trees[i];
-        if (pod1_fresh(account, POD1_ACCOUNT) || pod1_feed(account, POD1_ACCOUNT, header, sizeof header))
+        if (pod1_fresh(account, POD1_ACCOUNT) ||
+            pod1_feed(account, POD1_ACCOUNT, header, sizeof header))
             exit(2);
     }
     return six;
 }
 
-// A part of the season in both ways, one directly after the other, so that what disturbs the one disturbs the other.
-static void run_part(const struct text *t, size_t start, struct stand *one, struct stand *other, struct least *of_all, struct least *of_each)
+// A part of the season in both ways, one directly after the other, so that what disturbs the one
+// disturbs the other.
+static void run_part(const struct text *t, size_t start, struct stand *one, struct stand *other,
+    struct least *of_all, struct least *of_each)
 {
     double began = now();
     for (EACH_LINE(i, start))
-        pod1_feed_all(one->bytes, sizeof one->bytes, t->bytes + t->starts[i], t->ends[i] - t->starts[i]);
+        pod1_feed_all(
+            one->bytes, sizeof one->bytes, t->bytes + t->starts[i], t->ends[i] - t->starts[i]);
     double middle = now();
     for (EACH_LINE(i, start))
         for (size_t a = 0; a < POD1_LIST; a++)
-            pod1_feed(other->bytes + a * POD1_ACCOUNT, POD1_ACCOUNT, t->bytes + t->starts[i], t->ends[i] - t->starts[i]);
+            pod1_feed(other->bytes + a * POD1_ACCOUNT, POD1_ACCOUNT, t->bytes + t->starts[i],
+                t->ends[i] - t->starts[i]);
     keep_least(of_all, start, middle - began);
     keep_least(of_each, start, now() - middle);
 }
 
-// Both ways gave the same accounts, and every hour was taken; the header, which the six have had, was refused.
+// Both ways gave the same accounts, and every hour was taken; the header, which the six have had,
+// was refused.
 static int agree(const struct text *t, const struct stand *one, const struct stand *other)
 {
     int is_same = memcmp(one, other, sizeof *one) == 0;
     for (size_t a = 0; a < POD1_LIST; a++)
-        is_same &= pod1_read(one->bytes + a * POD1_ACCOUNT, POD1_ACCOUNT).hours == t->lines / PART * PART - 1;
+        is_same &= pod1_read(one->bytes + a * POD1_ACCOUNT, POD1_ACCOUNT).hours ==
+                   t->lines / PART * PART - 1;
     return is_same;
 }
 

@@ -1,4 +1,5 @@
-"""Parameters of a laboratory's own tree (document 02, W-212) for the case scripts in this folder: at the corners of their ranges, one past them, by lot.
+"""Parameters of a laboratory's own tree (docs/SPECIFICATION.md, "A laboratory's own tree") for the
+case scripts in this folder: at the corners of their ranges, one past them, by lot.
 
 Nothing here is taken from the code.
 """
@@ -25,7 +26,8 @@ def with_temperatures(*three):
     return dict(zip(TEMPERATURES, three))
 
 
-# at the ends of their range; p/q 1/1, 22/1, 1/22, 22/21, 21/22, 22/13, 13/22, reduced from 46/46, 66/3, 3/66, 44/22; on both sides of 0 °C
+# at the ends of their range; p/q 1/1, 22/1, 1/22, 22/21, 21/22, 22/13, 13/22, reduced from 46/46,
+# 66/3, 3/66, 44/22; on both sides of 0 °C
 GOOD_TEMPERATURES = (
     (-20, -19, -18),
     (58, 59, 60),
@@ -71,8 +73,13 @@ BROKEN_TEMPERATURES = (
 )
 PAIRS = (("vpdmax", "vpdmin"), ("soilmax", "soilmin"))
 GOOD_PAIRS = ((0, 1), (9999, 10000), (0, 10000), (4096, 4097))
-BROKEN_PAIRS = ((0, 0), (10000, 10000), (1, 0), (10000, 0), (0, 10001), (10000, 10001), (10001, 10002), (0, 65535), (65535, 0), (32768, 32769))
-SINGLE = tuple(name for name in Parameters._fields if name not in (*TEMPERATURES, *PAIRS[0], *PAIRS[1]))
+BROKEN_PAIRS = (
+    (0, 0), (10000, 10000), (1, 0), (10000, 0), (0, 10001), (10000, 10001), (10001, 10002),
+    (0, 65535), (65535, 0), (32768, 32769),
+)
+SINGLE = tuple(
+    name for name in Parameters._fields if name not in (*TEMPERATURES, *PAIRS[0], *PAIRS[1])
+)
 
 
 def good_changes():
@@ -84,7 +91,8 @@ def good_changes():
 
 
 def broken_changes():
-    """Each parameter one past its range and at two bytes' most; pairs and temperatures that do not rise; p or q 23."""
+    """Each parameter one past its range and at two bytes' most; pairs and temperatures that do not
+    rise; p or q 23."""
     for name in SINGLE:
         low, high = getattr(PARAMETER_LIMITS, name)
         yield from ({name: n} for n in dict.fromkeys((low - 1, high + 1, 32768, 65535)))
@@ -103,7 +111,10 @@ CORNERS = {name: getattr(PARAMETER_LIMITS, name) for name in SINGLE}
 
 def some_parameters(lot, days):
     """Mostly at corners, with ramps of so many days at most."""
-    numbers = {name: lot.of((*ends, *ends, ends[0] + lot.to(ends[1] - ends[0]))) for name, ends in CORNERS.items()}
+    numbers = {
+        name: lot.of((*ends, *ends, ends[0] + lot.to(ends[1] - ends[0])))
+        for name, ends in CORNERS.items()
+    }
     numbers["f1"] = lot.to(min(days, 200))
     numbers["f4"] = lot.to(min(days - numbers["f1"], 200))
     numbers |= with_temperatures(*lot.of(GOOD_TEMPERATURES))

@@ -14,4 +14,7 @@ class Lot:
 
     def to(self, most):
         """0 to most: an end or next to one, or anything between."""
-        return min(self.of((0, 1, most, max(most - 1, 0), self.below(most + 1), self.below(most + 1))), most)
+        return min(
+            self.of((0, 1, most, max(most - 1, 0), self.below(most + 1), self.below(most + 1))),
+            most,
+        )

@@ -1,12 +1,14 @@
 #!/usr/bin/env bash
-# The part from C and from Rust: the archive needs memcpy and memset alone; names and numbers agree wherever they stand; every call answers as
-# docs/SPECIFICATION.md says; the stations of examples/ print the report's line, also where they are ended by SIGKILL and started again, and each takes up what
-# the other stored; in C all of it under the sanitizers and under valgrind too.
-# What needs gcc, g++, nm, rustc or valgrind is left out where that is missing, and said so. Accounts are stored in memory where there is /dev/shm, since a
-# station syncs each line.
+# The part from C and from Rust: the archive needs memcpy and memset alone; names and numbers agree
+# wherever they stand; every call answers as docs/SPECIFICATION.md says; the stations of examples/
+# print the report's line, also where they are ended by SIGKILL and started again, and each takes up
+# what the other stored; in C all of it under the sanitizers and under valgrind too. What needs gcc,
+# g++, nm, rustc or valgrind is left out where that is missing, and said so. Accounts are stored in
+# memory where there is /dev/shm, since a station syncs each line.
 set -eu
 cd "$(dirname "$0")/.."
 season=examples/beech.txt
+strict=(-pedantic -Wall -Wextra -Werror -Iinclude)
 room=$(mktemp -d)
 states=$(mktemp -d -p /dev/shm 2>/dev/null || mktemp -d)
 trap 'rm -rf "$room" "$states"' EXIT
@@ -18,11 +20,13 @@ fail() {
     exit 1
 }
 
-# a program's exit status is the one given; what it prints goes to $room/out, what it complains of to $room/err
+# a program's exit status is the one given; what it prints goes to $room/out, what it complains of
+# to $room/err
 ends() {
     local status=0
     "${@:2}" >"$room/out" 2>"$room/err" || status=$?
-    [ $status = "$1" ] || fail "$2 ended with status $status, not with $1: $(cat "$room/out" "$room/err")"
+    [ $status = "$1" ] ||
+        fail "$2 ended with status $status, not with $1: $(cat "$room/out" "$room/err")"
 }
 
 look_into_archive() {
@@ -35,12 +39,16 @@ look_into_archive() {
 # the header in a language, by a compiler, in a standard of it: a program that links
 include_header() {
     echo '#include "pod1.h"
-int main(void) { uint8_t account[POD1_ACCOUNT]; return (int)pod1_fresh(account, sizeof account); }' >"$room/header.$1"
-    "$2" "-std=$3" -pedantic -Wall -Wextra -Werror -Iinclude -o "$room/header" "$room/header.$1" target/libpod1.a
+int main(void)
+{
+    uint8_t account[POD1_ACCOUNT];
+    return (int)pod1_fresh(account, sizeof account);
+}' >"$room/header.$1"
+    "$2" "-std=$3" "${strict[@]}" -o "$room/header" "$room/header.$1" target/libpod1.a
     "$room/header"
 }
 
-compile() { gcc -std=c11 -g -pedantic -Wall -Wextra -Werror -Iinclude -o "$room/$1" "$2" "${@:3}" target/libpod1.a; }
+compile() { gcc -std=c11 -g "${strict[@]}" -o "$room/$1" "$2" "${@:3}" target/libpod1.a; }
 
 # a station's text on standard input is refused at a line by a row
 refuses() {
@@ -58,11 +66,15 @@ try_station() {
     cmp "$room/out" "$room/line"
     { cat "$season"; echo 0104; } | refuses "$1" "$state" $(($(wc -l <"$season") + 1)) 1
     rm "$state"
-    { head -n 1 "$season"; sed -n '2s/^\(.\{8\}\).\{4\}/\1FFFF/p' "$season"; } | refuses "$1" "$state" 2 18
+    {
+        head -n 1 "$season"
+        sed -n '2s/^\(.\{8\}\).\{4\}/\1FFFF/p' "$season"
+    } | refuses "$1" "$state" 2 18
     { head -n 1 "$season"; printf '%0200d' 0; } | refuses "$1" "$state" 2 1 # longer than any line
     { head -n 1 "$season"; printf '0300\0\0'; } | refuses "$1" "$state" 2 2
     rm "$state"
-    sed 's/$/\r/' "$season" | head -c -1 | ends 0 "$1" "$state" # carriage returns, and no line feed at the end
+    # carriage returns, and no line feed at the end
+    sed 's/$/\r/' "$season" | head -c -1 | ends 0 "$1" "$state"
     cmp "$room/out" "$room/line"
     printf '0104' >"$state"
     ends 2 "$1" "$state" </dev/null
@@ -72,7 +84,8 @@ try_station() {
     rm "$state"
 }
 
-# half a season by the first station, all of it by the second one: the file is that of one station alone
+# half a season by the first station, all of it by the second one: the file is that of one station
+# alone
 take_up() {
     rm -f "$states/both" "$states/alone"
     head -n 2000 "$season" | ends 0 "$1" "$states/both"
@@ -83,11 +96,15 @@ take_up() {
 }
 
 # a program and its words, after valgrind
-under_valgrind() { valgrind -q --leak-check=full --show-leak-kinds=all --errors-for-leak-kinds=all --error-exitcode=9 "$@"; }
+under_valgrind() {
+    valgrind -q --leak-check=full --show-leak-kinds=all --errors-for-leak-kinds=all \
+        --error-exitcode=9 "$@"
+}
 
 check_memory() {
     local sanitized=(-O1 -fsanitize=address,undefined -fno-sanitize-recover=all)
-    if echo 'int main(void) { return 0; }' | gcc "${sanitized[@]}" -x c -o "$room/try" - 2>/dev/null && "$room/try"; then
+    echo 'int main(void) { return 0; }' >"$room/try.c"
+    if gcc "${sanitized[@]}" -o "$room/try" "$room/try.c" 2>/dev/null && "$room/try"; then
         compile calls_sanitized tests/part_calls.c "${sanitized[@]}"
         compile station_sanitized examples/station.c "${sanitized[@]}"
         ends 0 "$room/calls_sanitized"

@@ -1,5 +1,6 @@
-// Every call of include/pod1.h with answers known from docs/SPECIFICATION.md. Each buffer is lent at its exact size from the heap, so that valgrind and the
-// sanitizers see a byte too far. Run by tests/part.sh; exit status 1 where a fact does not hold.
+// Every call of include/pod1.h with answers known from docs/SPECIFICATION.md. Each buffer is lent
+// at its exact size from the heap, so that valgrind and the sanitizers see a byte too far. Run by
+// tests/part.sh; exit status 1 where a fact does not hold.
 #include "pod1.h"
 
 #include <math.h>
@@ -9,7 +10,8 @@
 
 static int facts, broken;
 
-#define HOLDS(fact) (facts++, (fact) ? (void)0 : (void)(broken++, printf("part_calls.c:%d: %s\n", __LINE__, #fact)))
+#define HOLDS(fact) \
+    (facts++, (fact) ? (void)0 : (void)(broken++, printf("part_calls.c:%d: %s\n", __LINE__, #fact)))
 
 enum { PAINT = 0xA5, HOURS = 24 };
 
@@ -50,6 +52,12 @@ static int is_same(const uint8_t *account, const uint8_t *other)
 }
 
 // ---- accounts
+
+static uint64_t sum_of(pod1_readout seen)
+{
+    uint64_t hours = seen.hours + seen.counted + seen.missing;
+    return hours + seen.least + seen.most + seen.lower + seen.upper;
+}
 
 static uint8_t *fresh(void)
 {
@@ -100,14 +108,16 @@ static uint8_t *day_text(const char *noon, size_t *n)
     return copy_of(text, *n);
 }
 
-// ---- what is written: exactly this text, into a buffer of its length or a longer one; row 12 one byte below
+// ---- what is written: exactly this text, into a buffer of its length or a longer one; row 12 one
+// byte below
 
 static int writes(pod1_printed p, const uint8_t *b, size_t n, const char *expected)
 {
     size_t length = strlen(expected);
     if (n < length)
         return p.code == POD1_BUFFER && p.length == 0 && is_painted(b, n);
-    return p.code == 0 && p.length == length && memcmp(b, expected, length) == 0 && is_painted(b + length, n - length);
+    return p.code == 0 && p.length == length && memcmp(b, expected, length) == 0 &&
+           is_painted(b + length, n - length);
 }
 
 // `call` writes into b, which has n bytes
@@ -138,15 +148,20 @@ static uint32_t with_field(uint32_t row, uint32_t field)
 
 static void fresh_accounts(void)
 {
-    uint8_t *longer = painted(POD1_ACCOUNT + 4), *shorter = painted(POD1_ACCOUNT - 1), zeros[POD1_ACCOUNT] = {POD1_VERSION};
-    HOLDS(pod1_fresh(longer, POD1_ACCOUNT + 4) == 0 && is_same(longer, zeros) && is_painted(longer + POD1_ACCOUNT, 4));
-    HOLDS(pod1_fresh(shorter, POD1_ACCOUNT - 1) == POD1_BUFFER && is_painted(shorter, POD1_ACCOUNT - 1));
+    uint8_t *longer = painted(POD1_ACCOUNT + 4), *shorter = painted(POD1_ACCOUNT - 1),
+            zeros[POD1_ACCOUNT] = {POD1_VERSION};
+    HOLDS(pod1_fresh(longer, POD1_ACCOUNT + 4) == 0 && is_same(longer, zeros) &&
+          is_painted(longer + POD1_ACCOUNT, 4));
+    HOLDS(pod1_fresh(shorter, POD1_ACCOUNT - 1) == POD1_BUFFER &&
+          is_painted(shorter, POD1_ACCOUNT - 1));
     HOLDS(pod1_fresh(NULL, 0) == POD1_BUFFER);
     pod1_readout seen = pod1_read(longer, POD1_ACCOUNT + 4);
-    HOLDS(seen.code == 0 && seen.verdict == POD1_NONE && seen.hours + seen.counted + seen.missing + seen.least + seen.most + seen.lower + seen.upper == 0);
-    HOLDS(pod1_feed(longer, POD1_ACCOUNT + 4, (const uint8_t *)HEADER, strlen(HEADER)) == 0 && is_painted(longer + POD1_ACCOUNT, 4));
+    HOLDS(seen.code == 0 && seen.verdict == POD1_NONE && sum_of(seen) == 0);
+    HOLDS(pod1_feed(longer, POD1_ACCOUNT + 4, (const uint8_t *)HEADER, strlen(HEADER)) == 0 &&
+          is_painted(longer + POD1_ACCOUNT, 4));
     WRITES("0 0 0 0 0 0 none\n", pod1_line(zeros, sizeof zeros, b, n));
-    HOLDS(pod1_feed(shorter, POD1_ACCOUNT - 1, NULL, 0) == POD1_IMPOSSIBLE && is_painted(shorter, POD1_ACCOUNT - 1));
+    HOLDS(pod1_feed(shorter, POD1_ACCOUNT - 1, NULL, 0) == POD1_IMPOSSIBLE &&
+          is_painted(shorter, POD1_ACCOUNT - 1));
     free(longer);
     free(shorter);
 }
@@ -156,7 +171,8 @@ static void a_day(void)
     uint8_t *account = after_hours(HOURS);
     HOLDS(fed(account, "030018") == 0);
     pod1_readout seen = pod1_read(account, POD1_ACCOUNT);
-    HOLDS(seen.code == 0 && seen.hours == 24 && seen.counted == 1 && seen.missing == 0 && seen.verdict == POD1_BELOW);
+    HOLDS(seen.code == 0 && seen.hours == 24 && seen.counted == 1 && seen.missing == 0 &&
+          seen.verdict == POD1_BELOW);
     HOLDS(seen.least == 100 && seen.most == 100 && seen.lower == 28655 && seen.upper == 28656);
     WRITES(COUNTED, pod1_line(account, POD1_ACCOUNT, b, n));
     HOLDS(fed(account, HEADER) == POD1_TURN);
@@ -171,15 +187,31 @@ static void refusals(void)
         const char *line;
         uint32_t row, field;
     } CASES[] = {
-        {-1, "0104", POD1_LENGTH, 0}, {-1, "", POD1_LENGTH, 0}, {-1, "03001g", POD1_DIGIT, 0}, {-1, "010018", POD1_KIND, 0}, {-1, "030018", POD1_TURN, 0},
-        {-1, "0108016D000100010208", POD1_TREE, 0}, {-1, "0106016C000100010208", POD1_YEAR, 0}, {-1, "0104016D000100280208", POD1_PERIOD, 0},
-        {-1, "0106016D000100010000", POD1_LEVEL, 0}, {0, "020001011F40000000000E603E8012C03E8", POD1_LENGTH, 0}, {0, "02000101" DARK, POD1_DUE, 0},
-        {0, "0200010013890000000000E603E8012C03E8", POD1_RANGE, 1}, {0, "0200010001F40BB9000000E603E8012C03E8", POD1_RANGE, 2},
-        {0, "0200010001F4000005DD00E603E8012C03E8", POD1_RANGE, 3}, {0, "0200010001F400000000025903E8012C03E8", POD1_RANGE, 4},
-        {0, "0200010001F40000000000E62711012C03E8", POD1_RANGE, 5}, {0, "0200010001F40000000000E603E8177103E8", POD1_RANGE, 6},
-        {0, "0200010001F40000000000E603E8012C2711", POD1_RANGE, 7}, {0, "0400010001F40000000000E603E8012C03E81387", POD1_RANGE, 8},
-        {0, "02000100FFFF0000000000E603E8012C03E8", POD1_NO_CEILING, 0}, {24, "030017", POD1_COUNT, 0}, {1, "030001", POD1_COUNT, 0},
-        {1, "0500010101F40000000000E601F4012C03E8", POD1_MIXED, 0}, {0, "060000", POD1_CEILING, 0}, {1, "061388", POD1_TURN, 0},
+        {-1, "0104", POD1_LENGTH, 0},
+        {-1, "", POD1_LENGTH, 0},
+        {-1, "03001g", POD1_DIGIT, 0},
+        {-1, "010018", POD1_KIND, 0},
+        {-1, "030018", POD1_TURN, 0},
+        {-1, "0108016D000100010208", POD1_TREE, 0},
+        {-1, "0106016C000100010208", POD1_YEAR, 0},
+        {-1, "0104016D000100280208", POD1_PERIOD, 0},
+        {-1, "0106016D000100010000", POD1_LEVEL, 0},
+        {0, "020001011F40000000000E603E8012C03E8", POD1_LENGTH, 0},
+        {0, "02000101" DARK, POD1_DUE, 0},
+        {0, "0200010013890000000000E603E8012C03E8", POD1_RANGE, 1},
+        {0, "0200010001F40BB9000000E603E8012C03E8", POD1_RANGE, 2},
+        {0, "0200010001F4000005DD00E603E8012C03E8", POD1_RANGE, 3},
+        {0, "0200010001F400000000025903E8012C03E8", POD1_RANGE, 4},
+        {0, "0200010001F40000000000E62711012C03E8", POD1_RANGE, 5},
+        {0, "0200010001F40000000000E603E8177103E8", POD1_RANGE, 6},
+        {0, "0200010001F40000000000E603E8012C2711", POD1_RANGE, 7},
+        {0, "0400010001F40000000000E603E8012C03E81387", POD1_RANGE, 8},
+        {0, "02000100FFFF0000000000E603E8012C03E8", POD1_NO_CEILING, 0},
+        {24, "030017", POD1_COUNT, 0},
+        {1, "030001", POD1_COUNT, 0},
+        {1, "0500010101F40000000000E601F4012C03E8", POD1_MIXED, 0},
+        {0, "060000", POD1_CEILING, 0},
+        {1, "061388", POD1_TURN, 0},
     };
     for (size_t i = 0; i < sizeof CASES / sizeof *CASES; i++) {
         uint8_t *account = CASES[i].hours < 0 ? fresh() : after_hours(CASES[i].hours);
@@ -197,35 +229,41 @@ static void own_tree(void)
     uint8_t *account = fresh();
     HOLDS(fed(account, "0107016D000100290208") == 0);
     HOLDS(fed(account, "060190") == POD1_TURN);
-    HOLDS(fed(account, "070000000D003C00050010002103E80C1C003204E2004600000028001400140001") == POD1_PARAMETER);
+    HOLDS(fed(account, "070000000D003C00050010002103E80C1C003204E2004600000028001400140001") ==
+          POD1_PARAMETER);
     HOLDS(fed(account, "07009B000D003C00050010002103E80C1C003204E2004600000028001400140001") == 0);
     HOLDS(fed(account, "08006400640096") == POD1_WARMTH);
     HOLDS(fed(account, "080064006400C8") == 0);
     HOLDS(fed(account, "060191") == 0);
     HOLDS(fed(account, "02000100FFFF01F4019000E603E8012C03E8") == 0);
     pod1_readout seen = pod1_read(account, POD1_ACCOUNT);
-    HOLDS(seen.hours == 1 && seen.counted == 1 && seen.missing == 1 && seen.least == 0 && seen.most == 1 && seen.lower == 0);
+    HOLDS(seen.hours == 1 && seen.counted == 1 && seen.missing == 1 && seen.least == 0 &&
+          seen.most == 1 && seen.lower == 0);
     free(account);
 }
 
 // Bytes that hold no account, and one that no season gives.
 static void impossible(void)
 {
+    // version, phase, kind; counted 2 with one hour
     static const struct {
         size_t place;
         uint8_t byte;
-    } BROKEN[] = {{0, 0}, {0, POD1_VERSION + 1}, {1, 3}, {2, 1}, {6, 2}}; // version, phase, kind; counted 2 with one hour
+    } BROKEN[] = {{0, 0}, {0, POD1_VERSION + 1}, {1, 3}, {2, 1}, {6, 2}};
     for (size_t i = 0; i < sizeof BROKEN / sizeof *BROKEN; i++) {
         uint8_t *account = after_hours(1), *trial = painted(POD1_TRIAL), *before;
         account[BROKEN[i].place] = BROKEN[i].byte;
         before = copy_of(account, POD1_ACCOUNT);
         pod1_readout seen = pod1_read(account, POD1_ACCOUNT);
-        HOLDS(seen.code == POD1_IMPOSSIBLE && seen.verdict + seen.hours + seen.counted + seen.missing + seen.least + seen.most + seen.lower + seen.upper == 0);
+        HOLDS(seen.code == POD1_IMPOSSIBLE && seen.verdict + sum_of(seen) == 0);
         HOLDS(fed(account, hour_line(1, DARK)) == POD1_IMPOSSIBLE);
         REFUSES(POD1_IMPOSSIBLE, pod1_line(account, POD1_ACCOUNT, b, n));
-        HOLDS(pod1_feed_all(account, POD1_ACCOUNT, NULL, 0) == POD1_IMPOSSIBLE && is_same(account, before));
-        HOLDS(pod1_feed_floats(account, POD1_ACCOUNT, 1, 1, (pod1_floats){0}) == POD1_IMPOSSIBLE && is_same(account, before));
-        HOLDS(pod1_take(account, POD1_ACCOUNT, trial, POD1_TRIAL) == POD1_IMPOSSIBLE && is_same(account, before));
+        HOLDS(pod1_feed_all(account, POD1_ACCOUNT, NULL, 0) == POD1_IMPOSSIBLE &&
+              is_same(account, before));
+        HOLDS(pod1_feed_floats(account, POD1_ACCOUNT, 1, 1, (pod1_floats){0}) == POD1_IMPOSSIBLE &&
+              is_same(account, before));
+        HOLDS(pod1_take(account, POD1_ACCOUNT, trial, POD1_TRIAL) == POD1_IMPOSSIBLE &&
+              is_same(account, before));
         free(account);
         free(before);
         free(trial);
@@ -235,8 +273,10 @@ static void impossible(void)
 static void floats(void)
 {
     static const pod1_floats NUMBERS = {500, 0, 0, 230, 1000, 300, 1000};
-    uint8_t *by_line = after_hours(1), *by_floats = after_hours(0), *before = copy_of(by_floats, POD1_ACCOUNT), *none = fresh();
-    pod1_floats broken_wind = NUMBERS, no_number = NUMBERS, infinite = NUMBERS, vast = NUMBERS, minus_zero = NUMBERS, missing = NUMBERS;
+    uint8_t *by_line = after_hours(1), *by_floats = after_hours(0),
+            *before = copy_of(by_floats, POD1_ACCOUNT), *none = fresh();
+    pod1_floats broken_wind = NUMBERS, no_number = NUMBERS, infinite = NUMBERS, vast = NUMBERS,
+                minus_zero = NUMBERS, missing = NUMBERS;
     broken_wind.wind = 0.5f;
     no_number.ozone = NAN;
     infinite.soil = INFINITY;
@@ -245,21 +285,25 @@ static void floats(void)
     missing.ozone = POD1_MISSING;
     HOLDS(pod1_feed_floats(none, POD1_ACCOUNT, 1, 0, NUMBERS) == POD1_TURN);
     HOLDS(pod1_feed_floats(by_floats, POD1_ACCOUNT, 1, 1, broken_wind) == POD1_DUE);
-    HOLDS(pod1_feed_floats(by_floats, POD1_ACCOUNT, 1, 0, broken_wind) == with_field(POD1_FLOAT, 6));
+    HOLDS(
+        pod1_feed_floats(by_floats, POD1_ACCOUNT, 1, 0, broken_wind) == with_field(POD1_FLOAT, 6));
     HOLDS(pod1_feed_floats(by_floats, POD1_ACCOUNT, 1, 0, no_number) == with_field(POD1_FLOAT, 1));
     HOLDS(pod1_feed_floats(by_floats, POD1_ACCOUNT, 1, 0, infinite) == with_field(POD1_FLOAT, 7));
     HOLDS(pod1_feed_floats(by_floats, POD1_ACCOUNT, 1, 0, vast) == with_field(POD1_RANGE, 7));
     HOLDS(pod1_feed_floats(by_floats, POD1_ACCOUNT, 1, 0, missing) == POD1_NO_CEILING);
     HOLDS(is_same(by_floats, before));
-    HOLDS(pod1_feed_floats(by_floats, POD1_ACCOUNT, 1, 0, minus_zero) == 0 && is_same(by_floats, by_line));
-    HOLDS(pod1_feed_floats(by_floats, POD1_ACCOUNT, 1, 1, NUMBERS) == 0 && fed(by_line, hour_line(1, DARK)) == 0 && is_same(by_floats, by_line));
+    HOLDS(pod1_feed_floats(by_floats, POD1_ACCOUNT, 1, 0, minus_zero) == 0 &&
+          is_same(by_floats, by_line));
+    HOLDS(pod1_feed_floats(by_floats, POD1_ACCOUNT, 1, 1, NUMBERS) == 0 &&
+          fed(by_line, hour_line(1, DARK)) == 0 && is_same(by_floats, by_line));
     free(by_line);
     free(by_floats);
     free(before);
     free(none);
 }
 
-static pod1_tried tried(const uint8_t *account, const char *line, uint8_t *trial, size_t trial_length)
+static pod1_tried tried(
+    const uint8_t *account, const char *line, uint8_t *trial, size_t trial_length)
 {
     size_t n = strlen(line);
     uint8_t *lent = copy_of(line, n);
@@ -270,9 +314,11 @@ static pod1_tried tried(const uint8_t *account, const char *line, uint8_t *trial
 
 static void trials(void)
 {
-    uint8_t *account = after_hours(12), *before = copy_of(account, POD1_ACCOUNT), *after = after_hours(13), *trial = painted(POD1_TRIAL);
+    uint8_t *account = after_hours(12), *before = copy_of(account, POD1_ACCOUNT),
+            *after = after_hours(13), *trial = painted(POD1_TRIAL);
     pod1_tried seen = tried(account, hour_line(12, NOON), trial, POD1_TRIAL - 1);
-    HOLDS(seen.code == POD1_BUFFER && seen.answer == 0 && seen.reading.hours == 0 && is_painted(trial, POD1_TRIAL));
+    HOLDS(seen.code == POD1_BUFFER && seen.answer == 0 && seen.reading.hours == 0 &&
+          is_painted(trial, POD1_TRIAL));
     seen = tried(account, hour_line(11, NOON), trial, POD1_TRIAL);
     HOLDS(seen.code == 0 && seen.answer == POD1_DUE && seen.reading.hours == 12);
     HOLDS(pod1_take(account, POD1_ACCOUNT, trial, POD1_TRIAL) == POD1_DUE);
@@ -281,11 +327,15 @@ static void trials(void)
     HOLDS(pod1_take(account, POD1_ACCOUNT, trial, POD1_TRIAL) == with_field(POD1_RANGE, 1));
     seen = tried(account, hour_line(12, NOON), trial, POD1_TRIAL);
     HOLDS(seen.code == 0 && seen.answer == 0 && is_same(account, before));
-    HOLDS(seen.reading.code == 0 && seen.reading.hours == 13 && seen.reading.counted == 1 && seen.reading.least == 100 && seen.reading.most == 100);
-    HOLDS(seen.reading.lower == 28655 && seen.reading.upper == 28656 && seen.reading.verdict == POD1_BELOW);
-    HOLDS(pod1_take(account, POD1_ACCOUNT, trial, POD1_TRIAL - 1) == POD1_IMPOSSIBLE && is_same(account, before));
+    HOLDS(seen.reading.code == 0 && seen.reading.hours == 13 && seen.reading.counted == 1 &&
+          seen.reading.least == 100 && seen.reading.most == 100);
+    HOLDS(seen.reading.lower == 28655 && seen.reading.upper == 28656 &&
+          seen.reading.verdict == POD1_BELOW);
+    HOLDS(pod1_take(account, POD1_ACCOUNT, trial, POD1_TRIAL - 1) == POD1_IMPOSSIBLE &&
+          is_same(account, before));
     HOLDS(pod1_take(account, POD1_ACCOUNT, trial, POD1_TRIAL) == 0 && is_same(account, after));
-    HOLDS(pod1_take(account, POD1_ACCOUNT, trial, POD1_TRIAL) == POD1_TRIED && is_same(account, after));
+    HOLDS(pod1_take(account, POD1_ACCOUNT, trial, POD1_TRIAL) == POD1_TRIED &&
+          is_same(account, after));
     account[0] = 0;
     memset(trial, PAINT, POD1_TRIAL);
     seen = tried(account, "", trial, POD1_TRIAL);
@@ -324,13 +374,17 @@ static void lists(void)
 {
     for (size_t accounts = 1; accounts <= POD1_LIST; accounts++) {
         uint8_t *list = stand(accounts), *alone = stand(accounts);
-        HOLDS(fed_all(list, accounts, hour_line(0, NOON)) == 0 && fed_all(list, accounts, hour_line(1, DARK)) == 0);
+        HOLDS(fed_all(list, accounts, hour_line(0, NOON)) == 0 &&
+              fed_all(list, accounts, hour_line(1, DARK)) == 0);
         for (size_t i = 0; i < accounts; i++) {
             uint8_t *one = alone + i * POD1_ACCOUNT;
-            HOLDS(fed(one, hour_line(0, NOON)) == 0 && fed(one, hour_line(1, DARK)) == 0 && is_same(list + i * POD1_ACCOUNT, one));
+            HOLDS(fed(one, hour_line(0, NOON)) == 0 && fed(one, hour_line(1, DARK)) == 0 &&
+                  is_same(list + i * POD1_ACCOUNT, one));
         }
-        HOLDS(fed_all(list, accounts, HEADER) == POD1_TURN && memcmp(list, alone, accounts * POD1_ACCOUNT) == 0);
-        HOLDS(fed_all(list, accounts, "02000102138901F4019000E603E8012C03E8") == with_field(POD1_RANGE, 1));
+        HOLDS(fed_all(list, accounts, HEADER) == POD1_TURN &&
+              memcmp(list, alone, accounts * POD1_ACCOUNT) == 0);
+        HOLDS(fed_all(list, accounts, "02000102138901F4019000E603E8012C03E8") ==
+              with_field(POD1_RANGE, 1));
         HOLDS(memcmp(list, alone, accounts * POD1_ACCOUNT) == 0);
         free(list);
         free(alone);
@@ -341,13 +395,16 @@ static void bad_lists(void)
 {
     uint8_t *list = stand(POD1_LIST + 1), *before = copy_of(list, (POD1_LIST + 1) * POD1_ACCOUNT);
     HOLDS(pod1_feed_all(NULL, 0, NULL, 0) == POD1_LIST_SIZE);
-    HOLDS(fed_all(list, POD1_LIST + 1, hour_line(0, DARK)) == POD1_LIST_SIZE && memcmp(list, before, (POD1_LIST + 1) * POD1_ACCOUNT) == 0);
+    HOLDS(fed_all(list, POD1_LIST + 1, hour_line(0, DARK)) == POD1_LIST_SIZE &&
+          memcmp(list, before, (POD1_LIST + 1) * POD1_ACCOUNT) == 0);
     HOLDS(fed(list + POD1_ACCOUNT, hour_line(0, DARK)) == 0);
     memcpy(before, list, 2 * POD1_ACCOUNT);
-    HOLDS(fed_all(list, 2, hour_line(0, DARK)) == POD1_UNLIKE_ACCOUNTS && memcmp(list, before, 2 * POD1_ACCOUNT) == 0);
+    HOLDS(fed_all(list, 2, hour_line(0, DARK)) == POD1_UNLIKE_ACCOUNTS &&
+          memcmp(list, before, 2 * POD1_ACCOUNT) == 0);
     list[POD1_ACCOUNT] = POD1_VERSION + 1;
     memcpy(before, list, 2 * POD1_ACCOUNT);
-    HOLDS(fed_all(list, 2, hour_line(0, DARK)) == POD1_IMPOSSIBLE && memcmp(list, before, 2 * POD1_ACCOUNT) == 0);
+    HOLDS(fed_all(list, 2, hour_line(0, DARK)) == POD1_IMPOSSIBLE &&
+          memcmp(list, before, 2 * POD1_ACCOUNT) == 0);
     free(list);
     free(before);
 }
@@ -362,7 +419,8 @@ static void reports(void)
     WRITES("24 0 0 0 0 0 below\n1 0 0 0 0 0\n", pod1_report(dark, dark_length, b, n));
     WRITES("refused 11 line 2\n", pod1_report((const uint8_t *)HEADER, strlen(HEADER), b, n));
     WRITES("refused 11 line 1\n", pod1_report(NULL, 0, b, n));
-    WRITES("refused 1 line 2\n", pod1_report((const uint8_t *)HEADER "\n\n", strlen(HEADER) + 2, b, n));
+    WRITES("refused 1 line 2\n",
+        pod1_report((const uint8_t *)HEADER "\n\n", strlen(HEADER) + 2, b, n));
     free(text);
     free(dark);
 }
@@ -370,15 +428,18 @@ static void reports(void)
 static void comparisons(void)
 {
     size_t first_length, second_length, windy_length, start = strlen(HEADER) + 1 + 12 * 37;
-    uint8_t *first = day_text(NOON, &first_length), *second = day_text("020801F4019000E603E8012C03E8", &second_length);
+    uint8_t *first = day_text(NOON, &first_length),
+            *second = day_text("020801F4019000E603E8012C03E8", &second_length);
     uint8_t *windy = day_text("01F401F4019000E603E8012D03E8", &windy_length);
     pod1_comparison c = pod1_compare(first, first_length, second, second_length, 19);
-    HOLDS(c.code == 0 && c.text == 0 && c.line == 0 && c.hours == 1 && c.sum == 20 && c.start == start && c.end == start + 36);
+    HOLDS(c.code == 0 && c.text == 0 && c.line == 0 && c.hours == 1 && c.sum == 20 &&
+          c.start == start && c.end == start + 36);
     HOLDS(memcmp(second + c.start, "0200010C020801F4", 16) == 0);
     c = pod1_compare(first, first_length, second, second_length, 20);
     HOLDS(c.code == 0 && c.hours == 0 && c.sum == 20 && c.start == 0 && c.end == 0);
     c = pod1_compare(first, first_length, windy, windy_length, 0);
-    HOLDS(c.code == POD1_UNLIKE && c.text == 0 && c.line == 0 && c.hours == 0 && c.sum == 0 && c.start == 0 && c.end == 0);
+    HOLDS(c.code == POD1_UNLIKE && c.text == 0 && c.line == 0 && c.hours == 0 && c.sum == 0 &&
+          c.start == 0 && c.end == 0);
     c = pod1_compare(first, first_length, second, second_length - 7, 0);
     HOLDS(c.code == POD1_COUNT && c.text == 2 && c.line == 26 && c.hours == 0 && c.sum == 0);
     first[0] = 'x';
@@ -392,21 +453,26 @@ static void comparisons(void)
 static void stretches(void)
 {
     size_t length;
-    uint8_t *text = day_text(NOON, &length), *scratch = painted(POD1_SCRATCH(2)), zeros[POD1_SCRATCH(2)] = {0};
+    uint8_t *text = day_text(NOON, &length), *scratch = painted(POD1_SCRATCH(2)),
+            zeros[POD1_SCRATCH(2)] = {0};
     pod1_stretch s = pod1_worst_stretch(text, length, 1, scratch, POD1_SCRATCH(2));
     HOLDS(s.code == 0 && s.found == 1 && s.line == 0 && s.sum == 100 && s.day == 1);
-    HOLDS(memcmp(scratch, zeros, POD1_SCRATCH(1)) == 0 && is_painted(scratch + POD1_SCRATCH(1), POD1_SCRATCH(1)));
+    HOLDS(memcmp(scratch, zeros, POD1_SCRATCH(1)) == 0 &&
+          is_painted(scratch + POD1_SCRATCH(1), POD1_SCRATCH(1)));
     s = pod1_worst_stretch(text, length, 2, scratch, POD1_SCRATCH(2));
-    HOLDS(s.code == 0 && s.found == 0 && s.sum == 0 && s.day == 0 && memcmp(scratch, zeros, POD1_SCRATCH(2)) == 0);
+    HOLDS(s.code == 0 && s.found == 0 && s.sum == 0 && s.day == 0 &&
+          memcmp(scratch, zeros, POD1_SCRATCH(2)) == 0);
     memset(scratch, PAINT, POD1_SCRATCH(2));
     s = pod1_worst_stretch(text, length, 0, scratch, POD1_SCRATCH(2));
-    HOLDS(s.code == POD1_DAYS && s.found == 0 && s.line == 0 && is_painted(scratch, POD1_SCRATCH(2)));
+    HOLDS(
+        s.code == POD1_DAYS && s.found == 0 && s.line == 0 && is_painted(scratch, POD1_SCRATCH(2)));
     HOLDS(pod1_worst_stretch(text, length, 367, NULL, 0).code == POD1_DAYS);
     s = pod1_worst_stretch(text, length, 2, scratch, POD1_SCRATCH(2) - 1);
     HOLDS(s.code == POD1_SHORT_SCRATCH && s.line == 0 && is_painted(scratch, POD1_SCRATCH(2)));
     text[21] = 'x';
     s = pod1_worst_stretch(text, length, 2, scratch, POD1_SCRATCH(2));
-    HOLDS(s.code == POD1_DIGIT && s.found == 0 && s.line == 2 && s.sum == 0 && s.day == 0 && memcmp(scratch, zeros, POD1_SCRATCH(2)) == 0);
+    HOLDS(s.code == POD1_DIGIT && s.found == 0 && s.line == 2 && s.sum == 0 && s.day == 0 &&
+          memcmp(scratch, zeros, POD1_SCRATCH(2)) == 0);
     free(text);
     free(scratch);
 }
@@ -458,9 +524,11 @@ static void other_frames(void)
     WRITES("030018", pod1_write_end(24, b, n));
     WRITES("061388", pod1_write_ceiling(5000, b, n));
     REFUSES(POD1_CEILING, pod1_write_ceiling(5001, b, n));
-    WRITES("07009B000D003C00050010002103E80C1C003204E2004600000028001400140001", pod1_write_parameters(beech, b, n));
+    WRITES("07009B000D003C00050010002103E80C1C003204E2004600000028001400140001",
+        pod1_write_parameters(beech, b, n));
     beech.tmin = -5;
-    WRITES("07009B000D003CFFFB0010002103E80C1C003204E2004600000028001400140001", pod1_write_parameters(beech, b, n));
+    WRITES("07009B000D003CFFFB0010002103E80C1C003204E2004600000028001400140001",
+        pod1_write_parameters(beech, b, n));
     beech.gmax = 0;
     REFUSES(POD1_PARAMETER, pod1_write_parameters(beech, b, n));
     WRITES("080064006400C8", pod1_write_warmth(100, 100, 200, b, n));
@@ -480,7 +548,8 @@ static void put(uint8_t *account, size_t place, size_t width, uint64_t number)
         account[place + i] = (uint8_t)(number % 256);
 }
 
-// The account whose line is longest: tree 7's leap year, closed, every hour counted, each figure at row 13's limit.
+// The account whose line is longest: tree 7's leap year, closed, every hour counted, each figure at
+// row 13's limit.
 static uint8_t *fullest(uint64_t hours, uint64_t dose, uint64_t aot40)
 {
     uint8_t *account = fresh();
@@ -500,17 +569,22 @@ static uint8_t *fullest(uint64_t hours, uint64_t dose, uint64_t aot40)
 static void longest_texts(void)
 {
     static const int DAYS[] = {31, 29, 31, 30, 31, 30, 31, 31, 30, 31, 30, 31};
-    const uint64_t hours = 366 * HOURS, dose = 1500000, aot40 = 4600; // each hour adds at most so much
+    const uint64_t hours = 366 * HOURS, dose = 1500000,
+                   aot40 = 4600; // each hour adds at most so much
     uint8_t *account = fullest(hours, dose * hours, aot40 * hours);
-    WRITES("8784 8784 13176000000 13176000000 40406400 40406400 exceeded\n", pod1_line(account, POD1_ACCOUNT, b, n));
+    WRITES("8784 8784 13176000000 13176000000 40406400 40406400 exceeded\n",
+        pod1_line(account, POD1_ACCOUNT, b, n));
     put(account, 29, 4, aot40 * hours + 1);
     HOLDS(pod1_read(account, POD1_ACCOUNT).code == POD1_IMPOSSIBLE);
     free(account);
     // numbers, a space behind each, verdict and line feed
-    size_t line = 2 * (digits(hours) + digits(dose * hours) + digits(aot40 * hours)) + 6 + strlen("undecided") + 1, report = line;
+    size_t line = 2 * (digits(hours) + digits(dose * hours) + digits(aot40 * hours)) + 6 +
+                  strlen("undecided") + 1,
+           report = line;
     for (uint64_t m = 0; m < 12; m++) {
         uint64_t most = (uint64_t)DAYS[m] * HOURS;
-        report += digits(m + 1) + digits(most) + 2 * (digits(dose * most) + digits(aot40 * most)) + 6;
+        report +=
+            digits(m + 1) + digits(most) + 2 * (digits(dose * most) + digits(aot40 * most)) + 6;
     }
     HOLDS(line <= POD1_LINE && report <= POD1_REPORT);
     HOLDS(2 * 33 == POD1_FRAME && POD1_SCRATCH(366) == 1098);

@@ -1,10 +1,12 @@
 #!/usr/bin/env python3
-"""A station that is ended by SIGKILL at random moments of a season and started again each time: its last line is that of a season without a cut.
+"""A station that is ended by SIGKILL at random moments of a season and started again each time: its
+last line is that of a season without a cut.
 
     python3 tests/part_cuts.py FOLDER SEASON CUTS STATION..
 
-Seasons are run in FOLDER until there were CUTS cuts. Where several stations are named each start takes the next one, so that each takes up what another
-stored. Exit status 1 where a line differs, or where a station ends by itself otherwise than well.
+Seasons are run in FOLDER until there were CUTS cuts. Where several stations are named each start
+takes the next one, so that each takes up what another stored. Exit status 1 where a line differs,
+or where a station ends by itself otherwise than well.
 """
 
 import itertools
@@ -22,7 +24,9 @@ COUNT = 4  # bytes behind the account: the lines that it has had
 def run(station, state, season, seconds=None):
     """What it printed; None where it was ended after so many seconds."""
     with season.open("rb") as text:
-        process = subprocess.Popen([station, state], stdin=text, stdout=subprocess.PIPE, stderr=subprocess.PIPE)
+        process = subprocess.Popen(
+            [station, state], stdin=text, stdout=subprocess.PIPE, stderr=subprocess.PIPE
+        )
     try:
         said, complaint = process.communicate(timeout=seconds)
     except subprocess.TimeoutExpired:
@@ -51,9 +55,14 @@ def main():
         while (said := run(next(stations), state, season, random.uniform(0, longest))) is None:
             places.append(lines_had(state))
         if said != line or run(next(stations), state, season) != line:
-            sys.exit(f"part: a season with cuts after {places} lines ends with {said}, not with {line}")
+            sys.exit(
+                f"part: a season with cuts after {places} lines ends with {said}, not with {line}"
+            )
     names = " and ".join(dict.fromkeys(Path(s).name for s in sys.argv[4:]))
-    print(f"part: {names}: {len(places)} cuts at {len(set(places))} places, and each season's line as without")
+    print(
+        f"part: {names}: {len(places)} cuts at {len(set(places))} places, and each season's line "
+        "as without"
+    )
 
 
 if __name__ == "__main__":

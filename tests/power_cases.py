@@ -1,20 +1,21 @@
 #!/usr/bin/env python3
-"""What crates/power_cases must print for the rows on its standard input, reckoned anew with whole numbers.
+"""The section "power" of crates/cases, reckoned with whole numbers by the words of
+docs/SPECIFICATION.md alone ("Factors", "A laboratory's own tree").
 
-    python3 tests/power_cases.py < crates/power_cases/stdin > crates/power_cases/stdout
+    python3 tests/power_cases.py
 
-The rows themselves:
+writes it (tests/sections.py).
 
-    python3 tests/power_cases.py --rows > crates/power_cases/stdin
-
-A row is Tmin, Topt, Tmax (whole degrees above -50 °C), p, q, f_min (percent) and a reading (tenths of a degree above -50.0 °C), in hexadecimal. The words are those of
-document 01, "Factors", and of W-212; p/q is reduced by the greatest common divisor and the root is that of a quotient, so that no search of the code is repeated here.
+A row is Tmin, Topt, Tmax (whole degrees above -50 °C), p, q, f_min (percent) and a reading (tenths
+of a degree above -50.0 °C), in hexadecimal. p/q is reduced by the greatest common divisor and the
+root is that of a quotient, so that no search of the code is repeated here.
 """
 
-import sys
 from fractions import Fraction
 from itertools import product
 from math import gcd
+
+import sections
 
 ZERO = 50  # 0 °C
 MOST = 22  # of p and q
@@ -30,7 +31,11 @@ def lowest_terms(tmin, topt, tmax):
     if not tmin < topt < tmax:
         return None
     ratio = Fraction(tmax - topt, topt - tmin)
-    return (ratio.numerator, ratio.denominator) if max(ratio.numerator, ratio.denominator) <= MOST else None
+    return (
+        (ratio.numerator, ratio.denominator)
+        if max(ratio.numerator, ratio.denominator) <= MOST
+        else None
+    )
 
 
 def root(n, q):
@@ -79,11 +84,16 @@ def answer(tmin, topt, tmax, p, q, fmin, x):
 def trees():
     """Temperatures at the edges of their ranges and powers at the edges of theirs."""
     low, high = LOWEST, ZERO + 60
-    for rise, fall in ((1, 1), (1, 22), (22, 1), (21, 22), (22, 21), (22, 13), (11, 17), (2, 1), (1, 2), (2, 3), (19, 22), (5, 22)):
+    for rise, fall in (
+        (1, 1), (1, 22), (22, 1), (21, 22), (22, 21), (22, 13), (11, 17), (2, 1), (1, 2), (2, 3),
+        (19, 22), (5, 22),
+    ):
         for most in ((high - low) // (rise + fall), 1):
             yield low, low + rise * most, low + (rise + fall) * most
             yield high - (rise + fall) * most, high - fall * most, high
-    for tmin, topt, tmax in ((0, 20, 200), (5, 20, 200), (0, 14, 35), (5, 16, 33), (0, 22, 35), (1, 23, 39)):
+    for tmin, topt, tmax in (
+        (0, 20, 200), (5, 20, 200), (0, 14, 35), (5, 16, 33), (0, 22, 35), (1, 23, 39)
+    ):
         yield ZERO + tmin, ZERO + topt, ZERO + tmax
     yield LOWEST, LOWEST + 110, HIGHEST
     yield LOWEST, LOWEST + 10, HIGHEST
@@ -127,12 +137,20 @@ def rows():
     for tmin, topt, tmax in product((0, 29, 30, 31, 52, 53, 110, 65535), repeat=3):
         yield tmin, topt, tmax, 1, 1, 1, 600
     for rise, fall in product((1, 2, 21, 22, 23, 24, 44, 46), repeat=2):
-        yield 30, 30 + rise, 30 + rise + fall, fall // gcd(rise, fall), rise // gcd(rise, fall), 1, 300 + 5 * rise
+        yield (
+            30, 30 + rise, 30 + rise + fall, fall // gcd(rise, fall), rise // gcd(rise, fall), 1,
+            300 + 5 * rise,
+        )
 
 
 def unfit():
     """One past each edge, and ratios that are none."""
-    yield from ((29, 40, 51, 1, 1, 1, 420), (30, 140, 250, 1, 1, 1, 420), (31, 141, 251, 1, 1, 1, 420), (30, 140, 251, 1, 1, 1, 420))
+    yield from (
+        (29, 40, 51, 1, 1, 1, 420),
+        (30, 140, 250, 1, 1, 1, 420),
+        (31, 141, 251, 1, 1, 1, 420),
+        (30, 140, 251, 1, 1, 1, 420),
+    )
     for p, q in product((0, 1, 2, 22, 23, 65535), repeat=2):
         yield 50, 70, 90, p, q, 1, 650
         yield 50, 72, 95, p, q, 1, 650
@@ -141,14 +159,11 @@ def unfit():
     yield 50, 70, 90, 1, 1, 65535, 650
 
 
-def main(words):
-    if words == ["--rows"]:
-        for row in rows():
-            print(" ".join(f"{n:04X}" for n in row))
-        return
-    for line in sys.stdin:
-        print(answer(*(int(n, 16) for n in line.split())))
+def section():
+    given = list(rows())
+    text = "".join(" ".join(f"{n:04X}" for n in row) + "\n" for row in given)
+    return text.encode(), "".join(answer(*row) + "\n" for row in given).encode()
 
 
 if __name__ == "__main__":
-    main(sys.argv[1:])
+    sections.write("power", section())

@@ -1,10 +1,13 @@
 #!/usr/bin/env python3
-"""The report program target/bin/pod1, held to the lines that tests/report_cases.py expects of each text. The command ./pod1 has tests/command.py.
+"""The report program target/bin/pod1, held to the lines that tests/report_cases.py expects of each
+text. The command ./pod1 has tests/command.py.
 
     python3 tests/report_program.py [VECTORS]
 
-VECTORS is the folder of season texts, else ../shared/vectors beside the repository; without it those texts are left out. The program is built by
-command/build.py where it is missing or old. Printed: the number of cases, the peak memory over a leap year, and ok; or the first case that differs.
+VECTORS is the folder of season texts, else ../shared/vectors beside the repository; without it
+those texts are left out. The program is built by command/build.py where it is missing or old.
+Printed: the number of cases, the peak memory over a leap year, and ok; or the first case that
+differs.
 """
 
 import os
@@ -25,7 +28,8 @@ from vectors import REPOSITORY
 
 PROGRAM = REPOSITORY / "target" / "bin" / "pod1"
 TIME = Path("/usr/bin/time")
-LEAP_YEAR = {2: 325036, 4: 360172, 5: 325036}  # bytes of a leap year's text, by the kind of its hours
+# bytes of a leap year's text, by the kind of its hours
+LEAP_YEAR = {2: 325036, 4: 360172, 5: 325036}
 LONGEST = 360246  # the same with parameters and a ceiling; no accepted text exceeds it
 TAKEN = 364544  # bytes that the program reads; the longest text and 67 more decide any report
 MOST_MEMORY = 4096  # KiB
@@ -62,10 +66,13 @@ def leap_years():
 
 
 def longest_year():
-    """A leap year of tree 7 and kind 04 with a ceiling, ozone missing at noon: the longest text that is accepted."""
+    """A leap year of tree 7 and kind 04 with a ceiling, ozone missing at noon: the longest text
+    that is accepted."""
     header, *lines = leap_year(4, 7)
     at_noon = (line[:8] + b"FFFF" + line[12:] if line[6:8] == b"0C" else line for line in lines)
-    year = report_cases.text_of([header, parameters_line(f1=200, f4=165), ceiling_line(5000), *at_noon])
+    year = report_cases.text_of(
+        [header, parameters_line(f1=200, f4=165), ceiling_line(5000), *at_noon]
+    )
     assert len(year) == LONGEST and not report_cases.report(year).startswith(b"refused")
     return year
 
@@ -89,7 +96,10 @@ def odd_texts(day, year):
     yield "leap year twice", year + year
     yield "leap year with its ceiling again at its end", year + ceiling_line(5000)
     yield "leap year with its parameters again at its end", year + parameters_line(f1=200, f4=165)
-    yield "leap year with ramps a day too long", year.replace(parameters_line(f1=200, f4=165), parameters_line(f1=200, f4=166))
+    yield (
+        "leap year with ramps a day too long",
+        year.replace(parameters_line(f1=200, f4=165), parameters_line(f1=200, f4=166)),
+    )
 
 
 def cut_texts(day):
@@ -122,7 +132,10 @@ def padded(text, line, size):
 def border_texts(year):
     """Sizes around what the program takes, and around the longest season."""
     hours = (hour_line(kind=kind) + b"\n" for kind in HOUR_KINDS)
-    frames = (frame + b"\n" for frame in (end_line(8784), ceiling_line(), parameters_line(), header_line()))
+    frames = (
+        frame + b"\n"
+        for frame in (end_line(8784), ceiling_line(), parameters_line(), header_line())
+    )
     lines = (b"\n", b"A\n", b"A", *frames, *hours)
     for size in (TAKEN - 1, TAKEN, TAKEN + 1):
         for line in lines:
@@ -139,7 +152,8 @@ def border_texts(year):
 
 
 def run(command, text=None, stdin=subprocess.PIPE):
-    """What it printed, its messages, its exit status; ended with all that it started where it takes too long."""
+    """What it printed, its messages, its exit status; ended with all that it started where it takes
+    too long."""
     out = subprocess.PIPE
     process = subprocess.Popen(command, stdin=stdin, stdout=out, stderr=out, start_new_session=True)
     try:
@@ -219,7 +233,8 @@ def try_closed():
 
 
 def try_memory(year):
-    """The peak over a leap year. A child of this script would be counted with the script's own pages, hence the small program between."""
+    """The peak over a leap year. A child of this script would be counted with the script's own
+    pages, hence the small program between."""
     if not TIME.exists():
         print(f"peak memory not measured: no {TIME}")
         return
@@ -233,7 +248,11 @@ def try_memory(year):
 
 
 def build():
-    subprocess.run([sys.executable, REPOSITORY / "command" / "build.py", PROGRAM.name], check=True, stdout=subprocess.DEVNULL)
+    subprocess.run(
+        [sys.executable, REPOSITORY / "command" / "build.py", PROGRAM.name],
+        check=True,
+        stdout=subprocess.DEVNULL,
+    )
 
 
 def try_vectors(folder):
@@ -249,13 +268,17 @@ def main():
     day, years, year = report_cases.text_of(report_cases.day(True)), leap_years(), longest_year()
     try_vectors(vectors.folder_of(sys.argv))
     named = [(f"leap year of kind {kind}", text) for kind, text in years.items()]
-    for texts in (named, odd_texts(day, year), cut_texts(day), long_texts(day, year), border_texts(year)):
+    for texts in (
+        named, odd_texts(day, year), cut_texts(day), long_texts(day, year), border_texts(year)
+    ):
         for name, text in texts:
             try_text(name, text)
     for text in report_cases.written_by_hand():
         try_text(repr(text[:60]), text)
     sorts = report_cases.mountain_seasons, report_cases.humid_seasons, report_cases.own_seasons
-    for text in chain(map(report_cases.text_of, report_cases.month_seasons()), *(sort() for sort in sorts)):
+    for text in chain(
+        map(report_cases.text_of, report_cases.month_seasons()), *(sort() for sort in sorts)
+    ):
         try_text(f"season {text[:20].decode()}", text)
     try_fillings()
     try_pieces_of(day, year)

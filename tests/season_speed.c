@@ -1,8 +1,10 @@
-// A season's text in memory, from its first line to its last: how long one call of pod1_report takes on it, and pod1_feed line by line, over the same account in C
-// with doubles (tests/bench/season.h); and pod1_fresh with pod1_read for each line, which store and take up 88 bytes, over pod1_feed. Ratios of times, the least of
-// RUNS runs of each, in turn, in one process.
+// A season's text in memory, from its first line to its last: how long one call of pod1_report
+// takes on it, and pod1_feed line by line, over the same account in C with doubles
+// (tests/bench/season.h); and pod1_fresh with pod1_read for each line, which store and take up 88
+// bytes, over pod1_feed. Ratios of times, the least of RUNS runs of each, in turn, in one process.
 //     season_speed TEXT
-// Each finds the lines for itself, C and the feeding by memchr. C ends its months too, but prints nothing; the report prints its lines.
+// Each finds the lines for itself, C and the feeding by memchr. C ends its months too, but prints
+// nothing; the report prints its lines.
 #include "../include/pod1.h"
 #include "bench/doubles.h"
 #include "bench/lines.h"
@@ -56,9 +58,12 @@ static int agree(const struct results *r)
     uint8_t line[POD1_LINE];
     pod1_readout a = pod1_read(r->account, sizeof r->account);
     pod1_printed p = pod1_line(r->account, sizeof r->account, line, sizeof line);
-    int is_same = a.hours == (unsigned)s->hours && a.counted == (unsigned)s->counted && a.least == s->aot40[0] && a.most == s->aot40[1];
-    int is_line = p.length > 0 && p.length <= r->printed.length && memcmp(line, r->report, p.length) == 0;
-    return s->phase == CLOSED && a.code == 0 && is_same && (double)a.lower <= s->pod[0] && s->pod[1] <= (double)a.upper && is_line;
+    int is_same = a.hours == (unsigned)s->hours && a.counted == (unsigned)s->counted &&
+                  a.least == s->aot40[0] && a.most == s->aot40[1];
+    int is_line =
+        p.length > 0 && p.length <= r->printed.length && memcmp(line, r->report, p.length) == 0;
+    return s->phase == CLOSED && a.code == 0 && is_same && (double)a.lower <= s->pod[0] &&
+           s->pod[1] <= (double)a.upper && is_line;
 }
 
 int main(int argc, char **argv)

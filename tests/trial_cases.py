@@ -1,25 +1,27 @@
 #!/usr/bin/env python3
-"""The commands for crates/trial_cases and what it must print, by the book of tests/account_cases.py and the words of W-206 alone.
+"""The section "trial" of crates/cases, by the book of tests/account_cases.py and the words of
+docs/SPECIFICATION.md, "Trials", alone.
 
     python3 tests/trial_cases.py
 
-writes crates/trial_cases/stdin and stdout.
+writes it (tests/sections.py).
 
-Tried, taken, and taken a second time: every list of lines that tests/account_cases.py writes by hand, and lists drawn by lot. Forged: trials whose tried
-account, whose carried account or whose holder's account differs in one field, trials that carry each refusal, an impossible account, another
-reading; each field set to numbers on either side of what it was.
+Tried, taken, and taken a second time: every list of lines that tests/account_cases.py writes by
+hand, and lists drawn by lot. Forged: trials whose tried account, whose carried account or whose
+holder's account differs in one field, trials that carry each refusal, an impossible account,
+another reading; each field set to numbers on either side of what it was.
 """
 
 from typing import NamedTuple, Optional
 
 import account_cases as book
-import vectors
+import sections
 from account_cases import Account
 from local_trees import parameters_line
 from paper import Parameters
 
-CRATE = vectors.REPOSITORY / "crates" / "trial_cases"
-DIGITS = tuple(max(2, digits) for digits in book.DIGITS)  # of an account's fields; a phase and a kind have two here
+# of an account's fields; a phase and a kind have two here
+DIGITS = tuple(max(2, digits) for digits in book.DIGITS)
 ROWS = tuple((n,) for n in range(1, 26) if n != 10) + tuple((10, field) for field in range(1, 9))
 
 
@@ -59,7 +61,8 @@ def take(account, held):
 
 
 def shown(account):
-    """Every field; a mark where all parameters are 0, and one where warmth and the temperature sums are."""
+    """Every field; a mark where all parameters are 0, and one where warmth and the temperature sums
+    are."""
     parameters = account.parameters if account.parameters.is_fed else "-"
     warmth = (*account.warmth, account.sum, account.total) if account.is_warm else "-"
     return " ".join(str(n) for n in (*account[:15], *parameters, *warmth))
@@ -99,7 +102,9 @@ class Sheet:
         self.trial = held = trial(self.account, line)
         self.command(b"T", line)
         self.tried.add(held.row)
-        self.answers.append(shown(held.tried) + ": " + answer(held.row, held.next) + ": " + held.reading)
+        self.answers.append(
+            shown(held.tried) + ": " + answer(held.row, held.next) + ": " + held.reading
+        )
 
     def take(self):
         row, self.account = take(self.account, self.trial)
@@ -139,7 +144,9 @@ def try_and_take(sheet, line):
     made = sheet.trial
     assert sheet.account == before
     row = sheet.take()
-    assert (row, sheet.account) == book.feed(before, line) and reading(sheet.account) == made.reading
+    assert (
+        (row, sheet.account) == book.feed(before, line) and reading(sheet.account) == made.reading
+    )
     again = sheet.take()
     if not book.is_impossible(before):
         assert again == ((16,) if sheet.account != before else made.row)
@@ -153,7 +160,8 @@ def made_by_hand(sheet):
 
 
 def made_by_lot(sheet, lot):
-    """Some lines are fed after the trial, which is then another account's unless they are refused."""
+    """Some lines are fed after the trial, which is then another account's unless they are
+    refused."""
     for _ in range(8):
         sheet.hold(Account())
         for _ in range(60):
@@ -178,9 +186,13 @@ def after(*lines):
 
 
 def starts():
-    """An account and the line that it takes next: fresh, opened, with a ceiling, after 13 hours of each kind, some without ozone, all given, of a long season;
-    a closed one, which takes none; tree 7's, before its parameters and after them, before its warmth and after it, through the hour that ends a day."""
-    header, ceiling, hours, end = book.header_line(), book.ceiling_line(), list(book.day_lines()), book.end_line()
+    """An account and the line that it takes next: fresh, opened, with a ceiling, after 13 hours of
+    each kind, some without ozone, all given, of a long season; a closed one, which takes none; tree
+    7's, before its parameters and after them, before its warmth and after it, through the hour that
+    ends a day."""
+    header, ceiling, hours, end = (
+        book.header_line(), book.ceiling_line(), list(book.day_lines()), book.end_line(),
+    )
     yield Account(), header
     yield after(header), hours[0]
     yield after(header), ceiling
@@ -203,12 +215,16 @@ def starts():
     yield after(header, parameters, warmth), ceiling
     yield after(header, parameters, warmth, *hours[:23]), hours[23]
     two = book.header_line(tree=7, last=2)
-    yield after(two, parameters, warmth, ceiling, *day, book.hour_line(2, temperature=-40)), book.hour_line(2, 1, ppfd=500, radiation=400)
+    yield (
+        after(two, parameters, warmth, ceiling, *day, book.hour_line(2, temperature=-40)),
+        book.hour_line(2, 1, ppfd=500, radiation=400),
+    )
 
 
 def changed_to(account, field, was, most):
-    """What to set a field to: a step up or down, an end of its width, each other kind; of parameters that are not fed the first and the last to 1, and so of
-    warmth and the temperature sums."""
+    """What to set a field to: a step up or down, an end of its width, each other kind; of
+    parameters that are not fed the first and the last to 1, and so of warmth and the temperature
+    sums."""
     if field == "kind":
         return book.NO_KIND, *book.HOUR_KINDS
     if field in Parameters._fields and not account.parameters.is_fed:
@@ -247,7 +263,8 @@ def forged_fields(sheet, account, line):
 
 
 def forged_answers(sheet, account, line):
-    """Each refusal, and an acceptance where the line is refused; the account unchanged, and with the reading spoilt."""
+    """Each refusal, and an acceptance where the line is refused; the account unchanged, and with
+    the reading spoilt."""
     for row in ROWS:
         sheet.hold(account)
         sheet.attempt(line)
@@ -297,13 +314,10 @@ def filled():
     return sheet
 
 
-def main():
+def section():
     sheet = filled()
-    commands = b"".join(sheet.commands)
-    assert len(commands) <= book.flux_cases.BUFFER
-    (CRATE / "stdin").write_bytes(commands)
-    (CRATE / "stdout").write_text("".join(text + "\n" for text in sheet.answers))
+    return b"".join(sheet.commands), "".join(text + "\n" for text in sheet.answers).encode()
 
 
 if __name__ == "__main__":
-    main()
+    sections.write("trial", section())

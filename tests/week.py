@@ -1,9 +1,11 @@
 #!/usr/bin/env python3
-"""A week of readings as a station's logger has them, days 180 to 186 of an evergreen: writes examples/week.csv.
+"""A week of readings as a station's logger has them, days 180 to 186 of an evergreen: writes
+examples/week.csv.
 
     python3 tests/week.py
 
-Light by the sun's height, temperature and ozone highest in the afternoon, a cloudy day, a dry soil that dries on; on day 183 the analyser is calibrated from hour 10 to hour 11.
+Light by the sun's height, temperature and ozone highest in the afternoon, a cloudy day, a dry soil
+that dries on; on day 183 the analyser is calibrated from hour 10 to hour 11.
 """
 
 from math import cos, pi
@@ -12,9 +14,13 @@ from lot import Lot
 from vectors import REPOSITORY
 
 DAYS = range(180, 187)
-CLOUDS = {180: 0.95, 181: 1.0, 182: 0.9, 183: 1.0, 184: 0.45, 185: 0.7, 186: 0.98}  # light that comes through
+# light that comes through
+CLOUDS = {180: 0.95, 181: 1.0, 182: 0.9, 183: 1.0, 184: 0.45, 185: 0.7, 186: 0.98}
 CALIBRATED = {(183, 10), (183, 11)}
-NAMES = "day,hour,ozone_ppb,ppfd_umol_m2_s,radiation_w_m2,temperature_c,humidity_percent,wind_m_s,soil_suction_kpa"
+NAMES = (
+    "day,hour,ozone_ppb,ppfd_umol_m2_s,radiation_w_m2,temperature_c,humidity_percent,wind_m_s,"
+    "soil_suction_kpa"
+)
 
 
 def course(hour, highest):
@@ -32,7 +38,8 @@ def hour_row(day, hour, lot):
     wind = 1.1 + 0.9 * course(hour, 16) + lot.below(70) / 100
     shown = "" if (day, hour) in CALIBRATED else f"{ozone:.1f}"
     soil = 620 + 6 * (day - 180) + hour // 4
-    return f"{day},{hour},{shown},{round(1.98 * radiation)},{radiation},{temperature:.1f},{humidity:.1f},{wind:.2f},{soil}"
+    light = f"{round(1.98 * radiation)},{radiation}"
+    return f"{day},{hour},{shown},{light},{temperature:.1f},{humidity:.1f},{wind:.2f},{soil}"
 
 
 def main():

@@ -1,5 +1,6 @@
-/* Hours as the library writes them, for tests/command.py: on each line of standard input a kind, a day, an hour, the seven readings in steps of the frame and the
- * pressure (0 where the kind has none); on standard output their lines. */
+/* Hours as the library writes them, for tests/command.py: on each line of standard input a kind, a
+ * day, an hour, the seven readings in steps of the frame and the pressure (0 where the kind has
+ * none); on standard output their lines. */
 #include "pod1.h"
 
 #include <stdio.h>
@@ -12,13 +13,22 @@ static pod1_printed write_as(int kind, pod1_hour hour, uint16_t pressure, uint8_
 
 int main(void) {
     int kind, day, hour, ozone, ppfd, radiation, temperature, vapour, wind, soil, pressure;
-    while (scanf("%d%d%d%d%d%d%d%d%d%d%d", &kind, &day, &hour, &ozone, &ppfd, &radiation, &temperature, &vapour, &wind, &soil, &pressure) == 11) {
+    while (scanf("%d%d%d%d%d%d%d%d%d%d%d", &kind, &day, &hour, &ozone, &ppfd, &radiation,
+               &temperature, &vapour, &wind, &soil, &pressure) == 11) {
         uint8_t line[POD1_FRAME];
-        pod1_hour record = {.day = (uint16_t)day, .hour = (uint8_t)hour, .ozone = (uint16_t)ozone, .ppfd = (uint16_t)ppfd, .radiation = (uint16_t)radiation,
-                            .temperature = (int16_t)temperature, .vapour = (uint16_t)vapour, .wind = (uint16_t)wind, .soil = (uint16_t)soil};
+        pod1_hour record = {.day = (uint16_t)day,
+            .hour = (uint8_t)hour,
+            .ozone = (uint16_t)ozone,
+            .ppfd = (uint16_t)ppfd,
+            .radiation = (uint16_t)radiation,
+            .temperature = (int16_t)temperature,
+            .vapour = (uint16_t)vapour,
+            .wind = (uint16_t)wind,
+            .soil = (uint16_t)soil};
         pod1_printed written = write_as(kind, record, (uint16_t)pressure, line);
         if (written.code) {
-            printf("row %u, field %u\n", (unsigned)POD1_ROW(written.code), (unsigned)POD1_FIELD(written.code));
+            printf("row %u, field %u\n", (unsigned)POD1_ROW(written.code),
+                (unsigned)POD1_FIELD(written.code));
             continue;
         }
         printf("%.*s\n", (int)written.length, (const char *)line);

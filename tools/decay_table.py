@@ -1,8 +1,10 @@
 #!/usr/bin/env python3
-"""Writes crates/flux/src/decay.rt: exp(-n/10000) for each digit of n in base 100 (document 01, "Factors"), in whole-number arithmetic.
+"""Writes crates/dose/src/decay.rt: exp(-n/10000) for each digit of n in base 100
+(docs/SPECIFICATION.md, "Factors"), in whole-number arithmetic.
 
-An entry is 10^9 divided by 65 terms of the series of exp(n/10000), rounded down; a table ends at its last entry that is not 0. The tables
-prove themselves in the crate: this script is trusted by nobody.
+An entry is 10^9 divided by 65 terms of the series of exp(n/10000), rounded down; a table ends at
+its last entry that is not 0. The tables prove themselves in the crate: this script is trusted by
+nobody.
 """
 from math import factorial
 from pathlib import Path
@@ -28,14 +30,14 @@ def table(place: int) -> list[int]:
 
 def main() -> None:
     lines = [
-        "// exp(-n/10000) in units of 10⁻⁹, made by tools/decay_table.py: entry d of a place's table is that of n = d·place, with 65 terms, rounded",
-        "// down. Past a table's end it is 0.",
+        "// exp(-n/10000) in units of 10⁻⁹, made by tools/decay_table.py: entry d of a place's",
+        "// table is that of n = d·place, with 65 terms, rounded down. Past a table's end it is 0.",
     ]
     for name, place in PLACES.items():
         entries = table(place)
         lines += [] if lines[-1].startswith("//") else [""]
         lines += array(f"pub(crate) const {name}: [u32; {len(entries)}]", entries)
-    out = Path(__file__).resolve().parent.parent / "crates/flux/src/decay.rt"
+    out = Path(__file__).resolve().parent.parent / "crates/dose/src/decay.rt"
     out.write_text("\n".join(lines) + "\n")
 
 

@@ -1,11 +1,13 @@
 #!/usr/bin/env python3
-"""Each tree's f_temp table (document 01, "Factors"), in whole-number arithmetic, and where it begins and ends.
+"""Each tree's f_temp table (docs/SPECIFICATION.md, "Factors"), in whole-number arithmetic, and
+where it begins and ends.
 
     python3 tools/temperature_tables.py
 
-writes crates/tables/src/values.rt, specs/Trimmed.antt and proofs/TrimmedLaws.antt. An entry is the greatest whole t with t/10^9 not above a·w^(p/q).
-Entries under f_min go from both ends of a table until it begins and ends with one that is not. The proofs test every entry and every one that was cut,
-so nothing rests on this script.
+writes crates/power/src/values.rt, specs/Trimmed.antt and proofs/TrimmedLaws.antt. An entry is the
+greatest whole t with t/10^9 not above a·w^(p/q). Entries under f_min go from both ends of a table
+until it begins and ends with one that is not. The proofs test every entry and every one that was
+cut, so nothing rests on this script.
 """
 from math import gcd
 from pathlib import Path
@@ -24,7 +26,7 @@ TREES = {
 HIGHEST = 600  # tenths of °C
 ZERO = 500  # a reading of 0.0 °C: tenths of a degree above -50.0 °C
 DECIMALS = 9
-CRATE = Path(__file__).resolve().parent.parent / "crates" / "tables"
+CRATE = Path(__file__).resolve().parent.parent / "crates" / "power"
 
 
 def root_down(n: int, q: int) -> int:
@@ -68,16 +70,33 @@ def snake(tree: str) -> str:
 
 def values() -> list[str]:
     lines = [
-        "// f_temp's tables, made by tools/temperature_tables.py: a·w^(p/q) rounded down to nine decimals, for each tenth of a degree above Tmin, below",
-        "// Tmax and up to 60.0 °C, from the first to the last that is not under f_min. FIRST is the first entry's reading, tenths of a degree above -50.0 °C.",
+        "// f_temp's tables, made by tools/temperature_tables.py: a·w^(p/q) rounded down to nine",
+        "// decimals, for each tenth of a degree above Tmin, below Tmax and up to 60.0 °C, from",
+        "// the first to the last that is not under f_min. FIRST is the first entry's reading,",
+        "// tenths of a degree above -50.0 °C.",
         "use crate::lookups::Table;",
         f"use trees::{{{', '.join(sorted(TREES))}}};",
     ]
     for tree in TREES:
         entries = table(tree)
-        lines += ["", f"impl Table for {tree} {{", f"    ghost FIRST = {{ {min(entries)} }};", "", f"    const FIRST: u16 = {min(entries)};", ""]
-        lines += ["    fn entries() -> &'static [u32] {", f"        &{snake(tree).upper()}", "    }", "}", ""]
-        lines += array(f"const {snake(tree).upper()}: [u32; {len(entries)}]", list(entries.values()))
+        lines += [
+            "",
+            f"impl Table for {tree} {{",
+            f"    ghost FIRST = {{ {min(entries)} }};",
+            "",
+            f"    const FIRST: u16 = {min(entries)};",
+            "",
+        ]
+        lines += [
+            "    fn entries() -> &'static [u32] {",
+            f"        &{snake(tree).upper()}",
+            "    }",
+            "}",
+            "",
+        ]
+        lines += array(
+            f"const {snake(tree).upper()}: [u32; {len(entries)}]", list(entries.values())
+        )
     return lines
 
 
@@ -86,29 +105,41 @@ def values() -> list[str]:
 
 def trimmed() -> list[str]:
     return [
-        "-- Where each tree's table begins and ends (document 02, W-203): its first and its last reading, in tenths of a degree above -50.0 °C.",
+        "-- Where each tree's table begins and ends (docs/SPECIFICATION.md, \"Trimmed temperature",
+        "-- tables\"): its first and its last reading, in tenths of a degree above -50.0 °C.",
         "-- Made by tools/temperature_tables.py.",
         f"use Rattle.trees.specs.Figures.{{{', '.join(snake(tree) for tree in TREES)}}}",
         "use Rattle.trees.specs.TemperatureTable.{IsTrimmed}",
         "",
         "pub record Trimmed : Type 0 where",
-        *(f"  pub {snake(tree)}_table : IsTrimmed {snake(tree)} {min(table(tree))} {max(table(tree))}" for tree in TREES),
+        *(
+            f"  pub {snake(tree)}_table : IsTrimmed {snake(tree)} {min(table(tree))} "
+            f"{max(table(tree))}"
+            for tree in TREES
+        ),
     ]
 
 
 def trimmed_laws() -> list[str]:
+    sound = ", ".join(f"{snake(tree)}-sound" for tree in TREES)
     lines = [
-        "-- What was cut from each tree's table is under f_min, and its two ends are not: one computed test a tree. Made by tools/temperature_tables.py.",
+        "-- What was cut from each tree's table is under f_min, and its two ends are not: one",
+        "-- computed test a tree. Made by tools/temperature_tables.py.",
         f"use Rattle.trees.specs.Figures.{{{', '.join(snake(tree) for tree in TREES)}}}",
         "use Rattle.trees.specs.Temperature.{tried, allowed}",
         "use Rattle.trees.specs.TemperatureTable.{IsTrimmed}",
-        f"use Rattle.trees.proofs.SoundLaws.{{{', '.join(snake(tree) + '-sound' for tree in TREES)}}}",
+        f"use Rattle.trees.proofs.SoundLaws.{{{sound}}}",
         "use Rattle.trees.proofs.TemperatureTrim.{trimmed-tested}",
         "use Rattle.tables.specs.Trimmed.{Trimmed}",
     ]
     for tree in TREES:
         name, ends = snake(tree), f"{min(table(tree))} {max(table(tree))}"
-        lines += ["", f"{name}-trimmed : IsTrimmed {name} {ends}", "unfolding tried allowed", f"{name}-trimmed = trimmed-tested {name} {ends} {name}-sound tt"]
+        lines += [
+            "",
+            f"{name}-trimmed : IsTrimmed {name} {ends}",
+            "unfolding tried allowed",
+            f"{name}-trimmed = trimmed-tested {name} {ends} {name}-sound tt",
+        ]
     lines += ["", "pub trimmed : Trimmed", "trimmed = record {"]
     return lines + [f"  {snake(tree)}_table = {snake(tree)}-trimmed;" for tree in TREES] + ["}"]
 

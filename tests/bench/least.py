@@ -1,10 +1,12 @@
 #!/usr/bin/env python3
-"""The least sums that whole numbers can have: each counted hour's exact dose (tests/paper.py) rounded down, and rounded up; a missing ozone is read as 0
-for the first, and as the ceiling for the second.
+"""The least sums that whole numbers can have: each counted hour's exact dose (tests/paper.py)
+rounded down, and rounded up; a missing ozone is read as 0 for the first, and as the ceiling for the
+second.
 
     python3 tests/bench/least.py <SEASON
 
-Prints the two sums. An hour whose dose is not known to be on one side of a whole number is an error.
+Prints the two sums. An hour whose dose is not known to be on one side of a whole number is an
+error.
 """
 
 import sys
@@ -20,7 +22,9 @@ dose_of = cache(exact_dose)  # where ozone is not missing, both ends are one hou
 
 def rounded(season, hour):
     """A counted hour's dose rounded down and up."""
-    doses = [dose_of(season.tree, season.first, season.last, end) for end in ends(hour, season.ceiling)]
+    doses = [
+        dose_of(season.tree, season.first, season.last, end) for end in ends(hour, season.ceiling)
+    ]
     assert all(down(low) == down(high) and up(low) == up(high) for low, high in doses), hour
     return down(doses[0][0]), up(doses[1][1])
 

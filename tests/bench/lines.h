@@ -1,5 +1,5 @@
-// A text in memory and where its lines are, so that a program can time the feeding of them alone; and the clock. What not every includer
-// calls is inline, so that none is warned of it.
+// A text in memory and where its lines are, so that a program can time the feeding of them alone;
+// and the clock. What not every includer calls is inline, so that none is warned of it.
 #include <math.h>
 #include <stdint.h>
 #include <stdio.h>
@@ -29,7 +29,8 @@ static inline void find_lines(struct text *t)
 static struct text whole(const char *name, size_t in_front)
 {
     FILE *file = fopen(name, "rb");
-    struct text t = {calloc(MOST_BYTES, 1), 0, 0, calloc(MOST_LINES, sizeof(size_t)), calloc(MOST_LINES, sizeof(size_t))};
+    struct text t = {calloc(MOST_BYTES, 1), 0, 0, calloc(MOST_LINES, sizeof(size_t)),
+        calloc(MOST_LINES, sizeof(size_t))};
     if (!file || !t.bytes || !t.starts || !t.ends)
         exit(2);
     t.n = in_front + fread(t.bytes + in_front, 1, MOST_BYTES - in_front, file);
@@ -44,8 +45,9 @@ static double now(void)
     return (double)t.tv_sec + 1e-9 * (double)t.tv_nsec;
 }
 
-// The least times of a season's parts, PART lines each, over several runs: a part is short enough that some run of it is not disturbed by other programs. Lines
-// after the last whole part are not timed.
+// The least times of a season's parts, PART lines each, over several runs: a part is short enough
+// that some run of it is not disturbed by other programs. Lines after the last whole part are not
+// timed.
 enum { PART = 100, MOST_PARTS = MOST_LINES / PART };
 
 struct least {

@@ -2,7 +2,8 @@
 #include <stdio.h>
 #include <unistd.h>
 
-// The first 360,448 bytes are taken, which decide the report: tree 7's leap year of kind 04 with a ceiling has 360,246, and a line after it is refused by 67 more.
+// The first 360,448 bytes are taken, which decide the report: tree 7's leap year of kind 04 with a
+// ceiling has 360,246, and a line after it is refused by 67 more.
 enum { MOST_BYTES = 360448 };
 
 static uint8_t text[MOST_BYTES];

@@ -1,5 +1,5 @@
-// Programs run in turn with a text as standard input, each from its start to its end: a line for each with its name, and the least and the median
-// of its times over those of the first.
+// Programs run in turn with a text as standard input, each from its start to its end: a line for
+// each with its name, and the least and the median of its times over those of the first.
 //     turns TEXT RUNS PROGRAM..
 #define _GNU_SOURCE
 #include <fcntl.h>
@@ -51,7 +51,8 @@ int main(int argc, char **argv)
     int runs = argc > 3 ? atoi(argv[2]) : 0, programs = argc - 3;
     if (runs < 1)
         return 2;
-    int text = open(argv[1], O_RDONLY | O_CLOEXEC), nowhere = open("/dev/null", O_WRONLY | O_CLOEXEC);
+    int text = open(argv[1], O_RDONLY | O_CLOEXEC),
+        nowhere = open("/dev/null", O_WRONLY | O_CLOEXEC);
     double *times = calloc((size_t)(runs * programs), sizeof *times);
     if (text < 0 || nowhere < 0 || !times)
         return 2;
@@ -62,7 +63,8 @@ int main(int argc, char **argv)
         const double *mine = times + p * runs;
         const char *slash = strrchr(argv[3 + p], '/');
         qsort(times + p * runs, (size_t)runs, sizeof *times, by_size);
-        printf("%s %.2f %.2f\n", slash ? slash + 1 : argv[3 + p], mine[0] / times[0], mine[runs / 2] / times[runs / 2]);
+        printf("%s %.2f %.2f\n", slash ? slash + 1 : argv[3 + p], mine[0] / times[0],
+            mine[runs / 2] / times[runs / 2]);
     }
     return 0;
 }

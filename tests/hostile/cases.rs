@@ -54,7 +54,7 @@ const MAKERS: [(&str, Maker); 37] = [
     ("every sum", InTurn(every_sum)),
     ("wrong warmth", Chance(wrong_warm)),
 ];
-/// The last ones need W-204's kind, W-205's, W-207's, W-212's or W-213's.
+/// The last ones need kind 04, 05, 06, 07 or 08.
 const MAKERS_IN_USE: usize = match NEWEST {
     ..=3 => 23,
     4 => 25,
@@ -67,7 +67,8 @@ const MAKERS_IN_USE: usize = match NEWEST {
 /// A whole season instead, now and then.
 const WHOLE_EVERY: u64 = 150;
 
-/// The name and the text of a case; the makers take turns, each seed starting elsewhere in their lists.
+/// The name and the text of a case; the makers take turns, each seed starting elsewhere in their
+/// lists.
 pub fn make(seed: u64, case: u64) -> (&'static str, Vec<u8>) {
     let mut rng = Rng::new(seed, case);
     if case % WHOLE_EVERY == WHOLE_EVERY - 1 {
@@ -167,7 +168,9 @@ fn damaged_few(rng: &mut Rng) -> Vec<u8> {
             2 => wrong_kind(rng, &mut lines),
             3 => wrong_hour(rng, &mut lines),
             4 if NEWEST >= WARMTH && rng.one_in(3) => wrong_warmth(rng, &mut lines),
-            4 if NEWEST >= PARAMETERS && rng.one_in(2) => wrong_parameters(rng, &season, &mut lines),
+            4 if NEWEST >= PARAMETERS && rng.one_in(2) => {
+                wrong_parameters(rng, &season, &mut lines)
+            }
             4 if NEWEST >= CEILING => wrong_ceiling(rng, &mut lines),
             _ => wrong_turn(rng, &mut lines),
         }
@@ -221,7 +224,8 @@ fn mixed(rng: &mut Rng) -> Vec<u8> {
     text(rng, &lines)
 }
 
-/// A ceiling and hours without ozone; few hours counted, or the level near one end of the pair, now and then.
+/// A ceiling and hours without ozone; few hours counted, or the level near one end of the pair, now
+/// and then.
 fn missing(rng: &mut Rng) -> Vec<u8> {
     let mut season = if rng.one_in(3) { season(rng) } else { short_season(rng) };
     lose_ozone(rng, &mut season);
@@ -235,7 +239,8 @@ fn missing(rng: &mut Rng) -> Vec<u8> {
     season_text(rng, &season)
 }
 
-/// A laboratory's tree with its parameters at corners, its hours at theirs; now and then few of them counted or the level near.
+/// A laboratory's tree with its parameters at corners, its hours at theirs; now and then few of
+/// them counted or the level near.
 fn own_tree(rng: &mut Rng) -> Vec<u8> {
     let header = short_period(rng, MEASURED);
     let mut season = plausible(rng, header);
@@ -269,7 +274,8 @@ fn warm_season(rng: &mut Rng) -> Season {
     plausible(rng, header)
 }
 
-/// Its hours in plausible weather, at corners, with frost, or few of them counted; the level near now and then.
+/// Its hours in plausible weather, at corners, with frost, or few of them counted; the level near
+/// now and then.
 fn warm(rng: &mut Rng) -> Vec<u8> {
     let mut season = warm_season(rng);
     let days = [season.header.first, season.header.last];
@@ -295,7 +301,8 @@ fn wrong_warm(rng: &mut Rng) -> Vec<u8> {
     text(rng, &lines)
 }
 
-/// A growing season or a whole year, near the level or with corners; now and then with many lines after its end.
+/// A growing season or a whole year, near the level or with corners; now and then with many lines
+/// after its end.
 fn whole(rng: &mut Rng) -> Vec<u8> {
     let number = rng.between(1, TREES as i64);
     let days = rng.between(365, 366);

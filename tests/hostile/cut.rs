@@ -98,8 +98,10 @@ impl Cut<'_> {
     fn drop_days(&mut self) {
         while self.is_season() {
             let days = lines(&self.text).len() / 24; // with the two to five other lines no more
-            let sizes = std::iter::successors(Some(days / 2), |size| Some(size / 2)).take_while(|&size| size > 0);
-            let candidates: Vec<Vec<u8>> = sizes.flat_map(|size| [self.days(size..days), self.days(0..days - size)]).collect();
+            let sizes = std::iter::successors(Some(days / 2), |size| Some(size / 2))
+                .take_while(|&size| size > 0);
+            let candidates: Vec<Vec<u8>> =
+                sizes.flat_map(|size| [self.days(size..days), self.days(0..days - size)]).collect();
             if !candidates.into_iter().any(|candidate| self.take(candidate)) {
                 return;
             }

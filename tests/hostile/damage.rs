@@ -1,4 +1,5 @@
-//! Damaged texts: what a broken sender or a bad transmission leaves of a season, and texts that never were one.
+//! Damaged texts: what a broken sender or a bad transmission leaves of a season, and texts that
+//! never were one.
 
 use crate::account::Header;
 use crate::frames::*;
@@ -78,7 +79,8 @@ pub fn wrong_length(rng: &mut Rng, lines: &mut Lines) {
 
 /// The lengths of the frames and those next to them, in order, and 0.
 fn lengths() -> Vec<usize> {
-    let mut lengths: Vec<usize> = frames(NEWEST).iter().flat_map(|&(_, length)| [length - 1, length, length + 1]).collect();
+    let mut lengths: Vec<usize> =
+        frames(NEWEST).iter().flat_map(|&(_, length)| [length - 1, length, length + 1]).collect();
     lengths.push(0);
     lengths.sort();
     lengths.dedup();
@@ -142,7 +144,9 @@ pub fn wrong_turn(rng: &mut Rng, lines: &mut Lines) {
 pub fn wrong_hour(rng: &mut Rng, lines: &mut Lines) {
     let at = rng.below(lines.len());
     match rng.below(3) {
-        0 => put(&mut lines[at], 6, &format!("{:02X}", rng.pick(&[0, 1, 22, 23, 24, 25, 128, 255]))),
+        0 => {
+            put(&mut lines[at], 6, &format!("{:02X}", rng.pick(&[0, 1, 22, 23, 24, 25, 128, 255])))
+        }
         1 => put(&mut lines[at], 2, &pair(rng.between(0, 367))),
         _ => put(&mut lines[at], 2, &pair(rng.next() as i64)),
     }
@@ -179,7 +183,8 @@ pub fn other_kind(rng: &mut Rng, season: &Season, lines: &mut Lines) {
     }
 }
 
-/// A ceiling in range or not, put in at its place or elsewhere; or the one that is there lost or changed.
+/// A ceiling in range or not, put in at its place or elsewhere; or the one that is there lost or
+/// changed.
 pub fn wrong_ceiling(rng: &mut Rng, lines: &mut Lines) {
     let odd = rng.pick(&[0, 5001, 0x7FFF, 0x8000, 0xFFFF]);
     let ceiling = if rng.one_in(3) { odd } else { any_ceiling(rng) };
@@ -194,7 +199,8 @@ pub fn wrong_ceiling(rng: &mut Rng, lines: &mut Lines) {
     }
 }
 
-/// Parameters in range or not, in their place, twice, elsewhere, or in the place of another line; or those that are there lost or exchanged with the next line.
+/// Parameters in range or not, in their place, twice, elsewhere, or in the place of another line;
+/// or those that are there lost or exchanged with the next line.
 pub fn wrong_parameters(rng: &mut Rng, season: &Season, lines: &mut Lines) {
     let days = season.header.last - season.header.first + rng.pick(&[0, 0, 1, 200]);
     let own: Parameters = season.header.own.unwrap_or_else(|| any_parameters(rng, days));
@@ -217,7 +223,8 @@ pub fn wrong_parameters(rng: &mut Rng, season: &Season, lines: &mut Lines) {
     }
 }
 
-/// Warmth in range or not, in its place, twice, elsewhere, or in the place of another line; or what is there lost or exchanged with the next line.
+/// Warmth in range or not, in its place, twice, elsewhere, or in the place of another line; or what
+/// is there lost or exchanged with the next line.
 pub fn wrong_warmth(rng: &mut Rng, lines: &mut Lines) {
     let warmth = if rng.one_in(2) { any_warmth(rng, 5) } else { broken_warmth(rng) };
     let line = warmth.line().into_bytes();
@@ -270,7 +277,13 @@ fn early_end(rng: &mut Rng, lines: &mut Lines) {
 }
 
 pub fn after_the_end(rng: &mut Rng, season: &Season, lines: &mut Lines) {
-    let more = match rng.below(if NEWEST < PARAMETERS { 7 } else if NEWEST < WARMTH { 8 } else { 9 }) {
+    let more = match rng.below(if NEWEST < PARAMETERS {
+        7
+    } else if NEWEST < WARMTH {
+        8
+    } else {
+        9
+    }) {
         0 => vec![],
         1 => header_line(&season.header).into_bytes(),
         2 => hour_line(season.header.last + 1, 0, &season.hours[0]).into_bytes(),
@@ -300,7 +313,10 @@ fn change_field(rng: &mut Rng, header: &mut Header) {
         0 => header.tree = rng.pick(&[0, 1, 2, 3, 4, 5, 6, 7, 8, 16, 128, 255]),
         1 => header.days = rng.pick(&[0, 1, 364, 365, 366, 367, 0x6D01, 0xFFFF]),
         2 => header.first = rng.pick(&[0, 1, header.last, header.last + 1, 365, 366, 367, 0xFFFF]),
-        3 => header.last = rng.pick(&[0, 1, header.first - 1, header.first, 365, 366, 367, 0xFFFF]).max(0),
+        3 => {
+            header.last =
+                rng.pick(&[0, 1, header.first - 1, header.first, 365, 366, 367, 0xFFFF]).max(0)
+        }
         4 | 5 => header.last = shortest_last(header) + rng.between(-1, 1),
         _ => header.level = rng.pick(&[0, 1, 2, 9999, 10000, 10001, 0x8000, 0xFFFF]),
     }
@@ -308,7 +324,11 @@ fn change_field(rng: &mut Rng, header: &mut Header) {
 
 /// The earliest last day that the tree's ramps allow.
 fn shortest_last(header: &Header) -> i64 {
-    if header.first < 400 { header.first + header.fewest_days() - 1 } else { 1 }
+    if header.first < 400 {
+        header.first + header.fewest_days() - 1
+    } else {
+        1
+    }
 }
 
 // ---- bytes
@@ -318,7 +338,8 @@ pub fn cut(rng: &mut Rng, mut text: Vec<u8>) -> Vec<u8> {
     if rng.one_in(4) {
         text.drain(..rng.below(text.len().min(100)));
     }
-    let from_end = if rng.one_in(2) { rng.below(text.len() + 1) } else { rng.below(text.len().min(80)) };
+    let from_end =
+        if rng.one_in(2) { rng.below(text.len() + 1) } else { rng.below(text.len().min(80)) };
     text.truncate(text.len() - from_end);
     text
 }

@@ -1,4 +1,5 @@
-//! A season with hours without ozone, filled in several ways, held to what was printed for it (document 02, W-207).
+//! A season with hours without ozone, filled in several ways, held to what was printed for it
+//! (docs/SPECIFICATION.md, "Hours without ozone").
 
 use crate::account::{answer, lines, Answer, Figures, Month, Sums};
 use crate::dose::SLACK;
@@ -15,13 +16,17 @@ const UPPER: usize = 3;
 const LEAST: usize = 4;
 const MOST: usize = 5;
 
-/// Fills an accepted text's gaps with 0, with the ceiling and by chance, and runs the program on each: the lower figures are those with 0, the upper
-/// ones those with the ceiling; dose and AOT40 of each filling lie between them; "exceeded" never becomes "below", nor "below" "exceeded".
+/// Fills an accepted text's gaps with 0, with the ceiling and by chance, and runs the program on
+/// each: the lower figures are those with 0, the upper ones those with the ceiling; dose and AOT40
+/// of each filling lie between them; "exceeded" never becomes "below", nor "below" "exceeded".
 pub fn compare(program: &Path, text: &[u8], printed: &[u8]) -> Result<(), Difference> {
     let (Answer::Season(..), Some(gaps)) = (answer(NEWEST, text), Gaps::of(text)) else {
         return Ok(());
     };
-    let mut rng = Rng::new(text.iter().fold(0, |sum: u64, &byte| sum.wrapping_mul(31).wrapping_add(byte as u64)), 0);
+    let mut rng = Rng::new(
+        text.iter().fold(0, |sum: u64, &byte| sum.wrapping_mul(31).wrapping_add(byte as u64)),
+        0,
+    );
     let lowest = gaps.filled(text, || 0);
     compare_filled(program, &lowest, printed, &[COUNTED, LOWER, LEAST])?;
     let highest = gaps.filled(text, || gaps.ceiling);
@@ -47,7 +52,9 @@ impl Gaps {
     /// None where there is none, or no ceiling.
     fn of(text: &[u8]) -> Option<Gaps> {
         let lines = lines(text);
-        let ceiling = i64::from_str_radix(std::str::from_utf8(&lines[ceiling_at(&lines)?][2..]).ok()?, 16).ok()?;
+        let ceiling =
+            i64::from_str_radix(std::str::from_utf8(&lines[ceiling_at(&lines)?][2..]).ok()?, 16)
+                .ok()?;
         let mut places = Vec::new();
         let mut start = 0;
         for line in &lines {
@@ -68,9 +75,16 @@ impl Gaps {
     }
 }
 
-/// The filled text against what was printed before it was filled; of each line the figures named are the same.
-fn compare_filled(program: &Path, filled: &[u8], before: &[u8], same: &[usize]) -> Result<(), Difference> {
-    let (expected, after) = held(program, filled).map_err(|difference| of_filled(difference, filled))?;
+/// The filled text against what was printed before it was filled; of each line the figures named
+/// are the same.
+fn compare_filled(
+    program: &Path,
+    filled: &[u8],
+    before: &[u8],
+    same: &[usize],
+) -> Result<(), Difference> {
+    let (expected, after) =
+        held(program, filled).map_err(|difference| of_filled(difference, filled))?;
     let why = match &expected {
         Answer::Season(figures, months) => wrong_filling(figures, months, before, &after, same),
         Answer::Refused { .. } => Some("it is refused"),
@@ -79,23 +93,45 @@ fn compare_filled(program: &Path, filled: &[u8], before: &[u8], same: &[usize]) 
         return Ok(());
     };
     let shown = |printed: &[u8]| format!("{:?}", String::from_utf8_lossy(printed));
-    let difference = Difference { expected: format!("{} unfilled, {why}", shown(before)), got: shown(&after) };
+    let difference =
+        Difference { expected: format!("{} unfilled, {why}", shown(before)), got: shown(&after) };
     Err(of_filled(difference, filled))
 }
 
 /// The difference, named as one of the filled text.
 fn of_filled(difference: Difference, filled: &[u8]) -> Difference {
-    let ozone: Vec<&[u8]> = lines(filled).into_iter().filter(|line| is_hour(line)).map(|line| &line[8..12]).take(24).collect();
-    Difference { got: format!("{} with its gaps filled (first ozone readings {})", difference.got, ozone.join(&b' ').escape_ascii()), ..difference }
+    let ozone: Vec<&[u8]> = lines(filled)
+        .into_iter()
+        .filter(|line| is_hour(line))
+        .map(|line| &line[8..12])
+        .take(24)
+        .collect();
+    Difference {
+        got: format!(
+            "{} with its gaps filled (first ozone readings {})",
+            difference.got,
+            ozone.join(&b' ').escape_ascii()
+        ),
+        ..difference
+    }
 }
 
-fn wrong_filling(figures: &Figures, months: &[Month], before: &[u8], after: &[u8], same: &[usize]) -> Option<&'static str> {
+fn wrong_filling(
+    figures: &Figures,
+    months: &[Month],
+    before: &[u8],
+    after: &[u8],
+    same: &[usize],
+) -> Option<&'static str> {
     let (unfilled, filled) = (figures_of(before), figures_of(after));
-    let sums: Vec<&Sums> = std::iter::once(&figures.sums).chain(months.iter().map(|month| &month.sums)).collect();
+    let sums: Vec<&Sums> =
+        std::iter::once(&figures.sums).chain(months.iter().map(|month| &month.sums)).collect();
     if unfilled.len() != sums.len() || filled.len() != sums.len() {
         return Some("a line for the season and for each month");
     }
-    if (0..sums.len()).any(|at| same.iter().any(|&figure| unfilled[at][figure] != filled[at][figure])) {
+    if (0..sums.len())
+        .any(|at| same.iter().any(|&figure| unfilled[at][figure] != filled[at][figure]))
+    {
         return Some("a figure is another than that of the filled text");
     }
     if (0..sums.len()).any(|at| !lies_between(sums[at], &unfilled[at])) {
@@ -112,7 +148,11 @@ fn figures_of(printed: &[u8]) -> Vec<[i64; 6]> {
 }
 
 fn verdict(printed: &[u8]) -> &str {
-    std::str::from_utf8(lines(printed)[0]).unwrap_or_default().rsplit(' ').next().unwrap_or_default()
+    std::str::from_utf8(lines(printed)[0])
+        .unwrap_or_default()
+        .rsplit(' ')
+        .next()
+        .unwrap_or_default()
 }
 
 /// A filled text's sums between the two printed before: it has one dose and one AOT40.

@@ -1,13 +1,15 @@
-//! The kinds of frames (document 01, "Frames"; document 02, W-204, W-205, W-207, W-212 and W-213) and an hour's readings.
+//! The kinds of frames (docs/SPECIFICATION.md, "Frames") and an hour's readings.
 
 use crate::trees::soil_most;
 use std::ops::{Index, IndexMut};
 
-/// The newest kind that the program under test knows: 3 is document 01's, 4 that of W-204, 5 that of W-205, 6 that of W-207, 7 that of W-212, 8 that of W-213.
+/// The newest kind that the program under test knows: 3 the first three, 4 with pressure, 5 with
+/// humidity, 6 the ozone ceiling, 7 a laboratory's parameters, 8 its warmth.
 pub const NEWEST: i64 = 8;
 
 /// Each kind and its digits.
-const FRAMES: [(i64, usize); 8] = [(1, 20), (2, 36), (3, 6), (4, 40), (5, 36), (6, 6), (7, 66), (8, 14)];
+const FRAMES: [(i64, usize); 8] =
+    [(1, 20), (2, 36), (3, 6), (4, 40), (5, 36), (6, 6), (7, 66), (8, 14)];
 
 /// The kinds up to the newest, with their digits.
 pub fn frames(newest: i64) -> Vec<(i64, usize)> {
@@ -36,7 +38,7 @@ pub const SOIL: usize = 6;
 /// Kind 04's.
 pub const PRESSURE: usize = 7;
 
-/// Ozone FFFF: no reading (W-207).
+/// Ozone FFFF: no reading.
 pub const MISSING: i64 = 0xFFFF;
 
 /// An hour's readings in the order of its frame.
@@ -53,10 +55,15 @@ impl Readings {
         &self.values[..readings_of(self.kind)]
     }
 
-    /// The same weather in a frame of another kind: what a range of that kind leaves out is put to its end; a missing ozone stays missing.
+    /// The same weather in a frame of another kind: what a range of that kind leaves out is put to
+    /// its end; a missing ozone stays missing.
     pub fn as_kind(&self, number: i64, kind: i64) -> Readings {
         let mut values = self.values;
-        for (reading, value) in values.iter_mut().enumerate().filter(|(reading, _)| *reading != OZONE || !self.lacks_ozone()) {
+        for (reading, value) in values
+            .iter_mut()
+            .enumerate()
+            .filter(|(reading, _)| *reading != OZONE || !self.lacks_ozone())
+        {
             let (least, most) = range(number, kind, reading);
             *value = (*value).clamp(least, most);
         }
@@ -97,7 +104,10 @@ impl IndexMut<usize> for Readings {
 /// Whether the line has the length and the kind of an hour frame, its line feed left out.
 pub fn is_hour(line: &[u8]) -> bool {
     let digits = line.strip_suffix(b"\n").unwrap_or(line);
-    HOUR_KINDS.iter().any(|&kind| digits.len() == 8 + 4 * readings_of(kind) && digits.starts_with(format!("{kind:02X}").as_bytes()))
+    HOUR_KINDS.iter().any(|&kind| {
+        digits.len() == 8 + 4 * readings_of(kind)
+            && digits.starts_with(format!("{kind:02X}").as_bytes())
+    })
 }
 
 /// Where the ceiling's line stands among the first ones of a text, if there is one.
@@ -107,7 +117,11 @@ pub fn ceiling_at<L: AsRef<[u8]>>(lines: &[L]) -> Option<usize> {
 
 /// How many readings an hour frame of a kind has.
 pub fn readings_of(kind: i64) -> usize {
-    if kind == 4 { 8 } else { 7 }
+    if kind == 4 {
+        8
+    } else {
+        7
+    }
 }
 
 /// The least and greatest value of a reading, for a tree's number.

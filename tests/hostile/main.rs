@@ -3,14 +3,16 @@
 //!     hostile [--seed S] [--cases N] [--seconds T] [PROGRAM]
 //!     hostile --vectors FOLDER      the account itself against season texts with known answers
 //!
-//! Written from documents 01 and 02 alone, with an account of its own in doubles. Each text's answer is compared: refusals byte for byte; hours,
-//! counted hours and both AOT40 figures equal; the doses with missing ozone read as 0 and as the ceiling between lower and upper; these no more than
-//! 4 nmol m⁻² apart for each counted hour with ozone and 800000 for each without (tree 7: 40 and 1500000); the verdict by its rule; the same of each
-//! month touched, without a verdict; and the months' five figures add up to the season's. A season that lacks ozone is filled with 0, with the ceiling
-//! and by chance, and each filling held to what was printed for it (fillings.rs).
-//! Which kinds of frames the program knows is NEWEST in frames.rs.
-//! At the first difference it prints the smallest text that it can cut the case down to, and exits with 1. PROGRAM is target/bin/pod1 of the
-//! repository where none is named.
+//! Written from docs/SPECIFICATION.md alone, with an account of its own in doubles. Each text's
+//! answer is compared: refusals byte for byte; hours, counted hours and both AOT40 figures equal;
+//! the doses with missing ozone read as 0 and as the ceiling between lower and upper; these no more
+//! than 4 nmol m⁻² apart for each counted hour with ozone and 800000 for each without (tree 7: 40
+//! and 1500000); the verdict by its rule; the same of each month touched, without a verdict; and
+//! the months' five figures add up to the season's. A season that lacks ozone is filled with 0,
+//! with the ceiling and by chance, and each filling held to what was printed for it (fillings.rs).
+//! Which kinds of frames the program knows is NEWEST in frames.rs. At the first difference it
+//! prints the smallest text that it can cut the case down to, and exits with 1. PROGRAM is
+//! target/bin/pod1 of the repository where none is named.
 
 mod account;
 mod calendar;
@@ -49,16 +51,23 @@ struct Arguments {
     program: PathBuf,
 }
 
+const USAGE: &str = "[--seed S] [--cases N] [--seconds T] [PROGRAM] | --vectors FOLDER";
+
 fn main() {
     let arguments = arguments().unwrap_or_else(|wrong| {
-        eprintln!("hostile: {wrong}\nusage: hostile [--seed S] [--cases N] [--seconds T] [PROGRAM] | --vectors FOLDER");
+        eprintln!("hostile: {wrong}\nusage: hostile {USAGE}");
         exit(2);
     });
     let Arguments { seed, cases, seconds, vectors, program } = arguments;
     if let Some(folder) = vectors {
         hold_vectors(&folder);
     }
-    println!("hostile: {}, seed {seed}, cases {}, seconds {}", program.display(), limit(cases), limit(seconds));
+    println!(
+        "hostile: {}, seed {seed}, cases {}, seconds {}",
+        program.display(),
+        limit(cases),
+        limit(seconds)
+    );
     if !program.is_file() {
         eprintln!("hostile: there is no {}", program.display());
         exit(2);
@@ -74,7 +83,10 @@ fn main() {
         }
         case += 1;
     }
-    let counts: Vec<String> = answers.iter().map(|(answer, count): (&String, &u64)| format!("{answer} {count}")).collect();
+    let counts: Vec<String> = answers
+        .iter()
+        .map(|(answer, count): (&String, &u64)| format!("{answer} {count}"))
+        .collect();
     println!("hostile: {}", counts.join(", "));
     println!("hostile: {case} cases in {:.1} s, ok", started.elapsed().as_secs_f64());
 }
@@ -91,7 +103,11 @@ fn hold_vectors(folder: &Path) -> ! {
 }
 
 fn limit(number: u64) -> String {
-    if number == u64::MAX { "any".into() } else { number.to_string() }
+    if number == u64::MAX {
+        "any".into()
+    } else {
+        number.to_string()
+    }
 }
 
 /// target/bin/pod1, beside the folder target/hostile of this program.
@@ -101,14 +117,22 @@ fn default_program() -> PathBuf {
 }
 
 fn arguments() -> Result<Arguments, String> {
-    let mut found = Arguments { seed: SEED, cases: u64::MAX, seconds: u64::MAX, vectors: None, program: default_program() };
+    let mut found = Arguments {
+        seed: SEED,
+        cases: u64::MAX,
+        seconds: u64::MAX,
+        vectors: None,
+        program: default_program(),
+    };
     let mut words = std::env::args().skip(1);
     while let Some(word) = words.next() {
         if word == "--vectors" {
             found.vectors = Some(words.next().ok_or("--vectors needs a folder")?.into());
             continue;
         }
-        let mut number = || words.next().and_then(|word| word.parse().ok()).ok_or(format!("{word} needs a number"));
+        let mut number = || {
+            words.next().and_then(|word| word.parse().ok()).ok_or(format!("{word} needs a number"))
+        };
         match word.as_str() {
             "--seed" => found.seed = number()?,
             "--cases" => found.cases = number()?,
@@ -124,7 +148,13 @@ fn arguments() -> Result<Arguments, String> {
 }
 
 /// Prints the case, cut down, and keeps it as a file.
-fn fail(program: &Path, case: u64, kind: &str, text: Vec<u8>, difference: program::Difference) -> ! {
+fn fail(
+    program: &Path,
+    case: u64,
+    kind: &str,
+    text: Vec<u8>,
+    difference: program::Difference,
+) -> ! {
     println!("hostile: case {case} ({kind}), {} bytes: cutting it down", text.len());
     println!("expected {}\ngot {}", difference.expected, difference.got);
     let cut = cut::cut_down(program, text, difference);
@@ -138,7 +168,8 @@ fn fail(program: &Path, case: u64, kind: &str, text: Vec<u8>, difference: progra
     exit(1);
 }
 
-/// A line of the text on each line, bytes that do not print by their number; a long run of hours with all readings 0 by its length.
+/// A line of the text on each line, bytes that do not print by their number; a long run of hours
+/// with all readings 0 by its length.
 fn shown(text: &[u8]) -> String {
     let lines: Vec<&[u8]> = text.split_inclusive(|&byte| byte == b'\n').collect();
     let mut shown = Vec::new();

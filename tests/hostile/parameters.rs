@@ -1,4 +1,5 @@
-//! The parameters of a laboratory's own tree (document 02, W-212): their ranges, the tree that they make, and sets of them by chance.
+//! The parameters of a laboratory's own tree (docs/SPECIFICATION.md, "A laboratory's own tree"):
+//! their ranges, the tree that they make, and sets of them by chance.
 
 use crate::rng::Rng;
 use crate::season::pair;
@@ -29,8 +30,8 @@ pub const Y: usize = 15;
 /// The least and the greatest of each; temperatures, VPD and suction rise besides.
 #[rustfmt::skip]
 pub const RANGES: [(i64, i64); 16] = [
-    (1, 500), (1, 99), (1, 200), (-20, 60), (-20, 60), (-20, 60), (0, 10000), (0, 10000), (0, 10000), (0, 10000),
-    (1, 200), (0, 100), (0, 100), (0, 200), (0, 200), (0, 10),
+    (1, 500), (1, 99), (1, 200), (-20, 60), (-20, 60), (-20, 60), (0, 10000), (0, 10000),
+    (0, 10000), (0, 10000), (1, 200), (0, 100), (0, 100), (0, 200), (0, 200), (0, 10),
 ];
 
 /// In the order of the frame, temperatures with their sign.
@@ -40,7 +41,11 @@ pub struct Parameters {
 }
 
 fn common_divisor(a: i64, b: i64) -> i64 {
-    if b == 0 { a } else { common_divisor(b, a % b) }
+    if b == 0 {
+        a
+    } else {
+        common_divisor(b, a % b)
+    }
 }
 
 impl Parameters {
@@ -66,7 +71,8 @@ impl Parameters {
     /// What row 24 lets pass.
     pub fn are_sound(&self) -> bool {
         let n = &self.numbers;
-        let are_within = n.iter().zip(RANGES).all(|(number, (least, most))| (least..=most).contains(number));
+        let are_within =
+            n.iter().zip(RANGES).all(|(number, (least, most))| (least..=most).contains(number));
         let rises = |at: usize| n[at] < n[at + 1];
         if !are_within || ![TMIN, TOPT, VPD_MAX, SOIL_MAX].into_iter().all(rises) {
             return false;
@@ -154,7 +160,8 @@ fn any_pair(rng: &mut Rng) -> [i64; 2] {
     rng.pick(&[[0, 1], [9999, 10000], [0, 10000], [least, least + 1], [least, most], [least, most]])
 }
 
-/// One number at an end of its range, past it or anywhere; or two that must rise made equal or exchanged; or p or q 23.
+/// One number at an end of its range, past it or anywhere; or two that must rise made equal or
+/// exchanged; or p or q 23.
 pub fn broken(rng: &mut Rng, parameters: &Parameters) -> Parameters {
     let mut numbers = parameters.numbers;
     let at = rng.below(16);
@@ -166,7 +173,14 @@ pub fn broken(rng: &mut Rng, parameters: &Parameters) -> Parameters {
         2 => numbers[at] = rng.pick(&[0x7FFF, 0x8000, 0xFFFF]),
         3 => numbers[rising] = numbers[rising + 1],
         4 => numbers.swap(rising, rising + 1),
-        _ => numbers[TMIN..=TMAX].copy_from_slice(&rng.pick(&[[0, 1, 24], [0, 23, 24], [0, 22, 45], [0, 23, 45], [0, 46, 48], [-20, 59, 60]])),
+        _ => numbers[TMIN..=TMAX].copy_from_slice(&rng.pick(&[
+            [0, 1, 24],
+            [0, 23, 24],
+            [0, 22, 45],
+            [0, 23, 45],
+            [0, 46, 48],
+            [-20, 59, 60],
+        ])),
     }
     Parameters { numbers }
 }

@@ -20,7 +20,7 @@ pub struct Difference {
     pub got: String,
 }
 
-/// What the program answered, or how that differs from documents 01 and 02.
+/// What the program answered, or how that differs from the account in doubles.
 pub fn compare(program: &Path, text: &[u8]) -> Result<String, Difference> {
     let (_, printed) = held(program, text)?;
     fillings::compare(program, text, &printed)?;
@@ -30,7 +30,10 @@ pub fn compare(program: &Path, text: &[u8]) -> Result<String, Difference> {
 /// The account's answer and what the program printed, if that is right.
 pub fn held(program: &Path, text: &[u8]) -> Result<(Answer, Vec<u8>), Difference> {
     let expected = answer(NEWEST, text);
-    let differs = |got: String, why: &str| Difference { expected: format!("{}{why}", describe(&expected)), got };
+    let differs = |got: String, why: &str| Difference {
+        expected: format!("{}{why}", describe(&expected)),
+        got,
+    };
     let printed = run(program, text).map_err(|failure| differs(failure, ""))?;
     match wrong(&expected, &printed) {
         None => Ok((expected, printed)),
@@ -42,22 +45,36 @@ fn describe(expected: &Answer) -> String {
     match expected {
         Answer::Refused { code, line } => format!("{:?}", refusal(*code, *line)),
         Answer::Season(figures, months) => {
-            let months: String = months.iter().map(|month| format!("; month {}: {}", month.number, describe_sums(&month.sums))).collect();
-            format!("hours {}, level {}, {}{months}", figures.hours, figures.level, describe_sums(&figures.sums))
+            let months: String = months
+                .iter()
+                .map(|month| format!("; month {}: {}", month.number, describe_sums(&month.sums)))
+                .collect();
+            format!(
+                "hours {}, level {}, {}{months}",
+                figures.hours,
+                figures.level,
+                describe_sums(&figures.sums)
+            )
         }
     }
 }
 
 fn describe_sums(sums: &Sums) -> String {
     let Sums { counted, missing, dose: [low, high], aot40: [least, most] } = sums;
-    format!("counted {counted}, missing {missing}, dose {low:.3} to {high:.3}, AOT40 {least} to {most}")
+    format!(
+        "counted {counted}, missing {missing}, dose {low:.3} to {high:.3}, AOT40 {least} to {most}"
+    )
 }
 
 /// The row or the verdict of a right answer.
 fn summary(printed: &[u8]) -> String {
     let line = String::from_utf8_lossy(printed);
     let words: Vec<&str> = line.split_whitespace().collect();
-    if words[0] == "refused" { format!("row {}", words[1]) } else { words[6].to_string() }
+    if words[0] == "refused" {
+        format!("row {}", words[1])
+    } else {
+        words[6].to_string()
+    }
 }
 
 // ---- the comparison
@@ -67,7 +84,9 @@ fn wrong(expected: &Answer, printed: &[u8]) -> Option<String> {
     match expected {
         Answer::Refused { code, line } if printed == refusal(*code, *line).as_bytes() => None,
         Answer::Refused { .. } => Some(String::new()),
-        Answer::Season(figures, months) => wrong_season(figures, months, printed).map(|why| format!("; {why}")),
+        Answer::Season(figures, months) => {
+            wrong_season(figures, months, printed).map(|why| format!("; {why}"))
+        }
     }
 }
 
@@ -84,14 +103,18 @@ fn wrong_season(figures: &Figures, months: &[Month], printed: &[u8]) -> Option<S
         return Some(why.into());
     }
     let [counted, lower, upper, least, most] = sums;
-    let right = format!("{hours} {counted} {lower} {upper} {least} {most} {}\n", verdict(lower, upper, figures.level));
+    let right = format!(
+        "{hours} {counted} {lower} {upper} {least} {most} {}\n",
+        verdict(lower, upper, figures.level)
+    );
     if line != right.as_bytes() {
         return Some(format!("the line is {right:?}"));
     }
     wrong_months(figures.tree, months, &lines.collect::<Vec<_>>(), sums)
 }
 
-/// A line for each month touched and no other, in order; added up they are the season's five figures.
+/// A line for each month touched and no other, in order; added up they are the season's five
+/// figures.
 fn wrong_months(tree: i64, months: &[Month], lines: &[&[u8]], season: [i64; 5]) -> Option<String> {
     if lines.len() != months.len() {
         return Some(format!("{} months are touched, {} lines follow", months.len(), lines.len()));
@@ -108,7 +131,8 @@ fn wrong_months(tree: i64, months: &[Month], lines: &[&[u8]], season: [i64; 5]) 
 
 /// The five figures of a month's line, or why it is wrong.
 fn month_figures(tree: i64, month: &Month, line: &[u8]) -> Result<[i64; 5], String> {
-    let [number, sums @ ..] = numbers(line.strip_suffix(b"\n").unwrap_or(line)).ok_or("no line of six numbers")?;
+    let [number, sums @ ..] =
+        numbers(line.strip_suffix(b"\n").unwrap_or(line)).ok_or("no line of six numbers")?;
     if number != month.number {
         return Err("number is another".into());
     }
@@ -117,10 +141,18 @@ fn month_figures(tree: i64, month: &Month, line: &[u8]) -> Result<[i64; 5], Stri
     }
     let [counted, lower, upper, least, most] = sums;
     let right = format!("{number} {counted} {lower} {upper} {least} {most}\n");
-    if line == right.as_bytes() { Ok(sums) } else { Err(format!("the line is {right:?}")) }
+    if line == right.as_bytes() {
+        Ok(sums)
+    } else {
+        Err(format!("the line is {right:?}"))
+    }
 }
 
-fn wrong_sums(tree: i64, sums: &Sums, [counted, lower, upper, least, most]: [i64; 5]) -> Option<&'static str> {
+fn wrong_sums(
+    tree: i64,
+    sums: &Sums,
+    [counted, lower, upper, least, most]: [i64; 5],
+) -> Option<&'static str> {
     if (counted, [least, most]) != (sums.counted, sums.aot40) {
         return Some("counted or AOT40 is another");
     }

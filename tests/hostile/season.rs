@@ -76,7 +76,10 @@ impl Season {
 
     /// The temperature sum before each day, in tenths of a degree over hours.
     pub fn sums(&self) -> Vec<i64> {
-        let totals = self.hours.chunks(24).map(|day| day.iter().map(|readings| readings[TEMPERATURE]).sum::<i64>().max(0));
+        let totals = self
+            .hours
+            .chunks(24)
+            .map(|day| day.iter().map(|readings| readings[TEMPERATURE]).sum::<i64>().max(0));
         let after = totals.scan(0, |sum, total| {
             *sum += total;
             Some(*sum)
@@ -94,7 +97,11 @@ impl Season {
     }
 
     fn dose(&self, missing: i64, sums: &[i64]) -> f64 {
-        self.hours.iter().enumerate().map(|(n, readings)| self.dose_of(n, readings, missing, sums)).sum()
+        self.hours
+            .iter()
+            .enumerate()
+            .map(|(n, readings)| self.dose_of(n, readings, missing, sums))
+            .sum()
     }
 }
 
@@ -102,7 +109,11 @@ impl Season {
 
 /// One of the hour kinds; nothing is drawn where there is one only.
 pub fn any_kind(rng: &mut Rng) -> i64 {
-    if HOUR_KINDS.len() == 1 { HOUR_KINDS[0] } else { rng.pick(HOUR_KINDS) }
+    if HOUR_KINDS.len() == 1 {
+        HOUR_KINDS[0]
+    } else {
+        rng.pick(HOUR_KINDS)
+    }
 }
 
 // ---- periods
@@ -113,12 +124,20 @@ pub const TREES: u64 = if NEWEST < PARAMETERS { 6 } else { 7 };
 /// A tree; those without ramps, whose seasons may be short, more often.
 pub fn any_tree(rng: &mut Rng) -> i64 {
     let any = rng.pick(&[1, 2, 3, 3, 3, 3, 4, 5, 6, 6, 6, 6]);
-    if NEWEST >= PARAMETERS && rng.one_in(4) { MEASURED } else { any }
+    if NEWEST >= PARAMETERS && rng.one_in(4) {
+        MEASURED
+    } else {
+        any
+    }
 }
 
 /// A tree that needs no ramps.
 pub fn any_short_tree(rng: &mut Rng) -> i64 {
-    if NEWEST < PARAMETERS { rng.pick(&[3, 6]) } else { rng.pick(&[3, 6, MEASURED]) }
+    if NEWEST < PARAMETERS {
+        rng.pick(&[3, 6])
+    } else {
+        rng.pick(&[3, 6, MEASURED])
+    }
 }
 
 pub fn any_level(rng: &mut Rng) -> i64 {
@@ -135,7 +154,15 @@ pub fn period(rng: &mut Rng, tree: i64, length: i64) -> Header {
     let days = rng.between(365, 366);
     let latest = days - length + 1;
     let first = if rng.one_in(6) { rng.pick(&[1, latest]) } else { rng.between(1, latest) };
-    let header = Header { tree, days, first, last: first + length - 1, level: any_level(rng), own: None, warmth: None };
+    let header = Header {
+        tree,
+        days,
+        first,
+        last: first + length - 1,
+        level: any_level(rng),
+        own: None,
+        warmth: None,
+    };
     with_own(rng, header)
 }
 
@@ -153,7 +180,8 @@ pub fn with_own(rng: &mut Rng, mut header: Header) -> Header {
 /// As short as the tree allows, or a day or two more.
 pub fn short_period(rng: &mut Rng, number: i64) -> Header {
     let more = rng.pick(&[0, 0, 0, 1, 2]);
-    let fewest = if number == MEASURED { rng.pick(&[1, 1, 1, 2, 6]) } else { tree(number).fewest_days() };
+    let fewest =
+        if number == MEASURED { rng.pick(&[1, 1, 1, 2, 6]) } else { tree(number).fewest_days() };
     period(rng, number, fewest + more)
 }
 
@@ -169,7 +197,10 @@ struct Climate {
 }
 
 fn climate(rng: &mut Rng, of: &Tree) -> Climate {
-    let warmth = [9.0, 11.0, 13.0, 14.0, 16.0, 19.0].get(of.number as usize - 1).copied().unwrap_or((of.temperature[1] / 10) as f64);
+    let warmth = [9.0, 11.0, 13.0, 14.0, 16.0, 19.0]
+        .get(of.number as usize - 1)
+        .copied()
+        .unwrap_or((of.temperature[1] / 10) as f64);
     Climate {
         warmth: warmth + 6.0 * rng.unit() - 3.0,
         clouds: 0.2 + 0.8 * rng.unit(),
@@ -185,7 +216,11 @@ fn sun(day: i64, hour: i64) -> f64 {
     let half = 6.0 + 2.0 * summer; // hours from noon to sunset
     let from_noon = hour as f64 - 12.0;
     let height = (std::f64::consts::FRAC_PI_2 * from_noon / half).cos();
-    if from_noon.abs() < half { height * (0.7 + 0.3 * summer) } else { 0.0 }
+    if from_noon.abs() < half {
+        height * (0.7 + 0.3 * summer)
+    } else {
+        0.0
+    }
 }
 
 /// Tenths of hPa: the colder, the higher up, with a slow swing.
@@ -193,7 +228,14 @@ fn pressure(climate: &Climate, day: i64) -> f64 {
     10000.0 - 200.0 * (22.0 - climate.warmth) + 120.0 * (day as f64 / 3.0).sin()
 }
 
-fn weather(rng: &mut Rng, kind: i64, climate: &Climate, of: &Tree, day: i64, hour: i64) -> Readings {
+fn weather(
+    rng: &mut Rng,
+    kind: i64,
+    climate: &Climate,
+    of: &Tree,
+    day: i64,
+    hour: i64,
+) -> Readings {
     let sun = sun(day, hour);
     let light = sun * climate.clouds * (0.7 + 0.3 * rng.unit());
     let summer = -(std::f64::consts::TAU * (day - 20) as f64 / 365.0).cos();
@@ -203,8 +245,18 @@ fn weather(rng: &mut Rng, kind: i64, climate: &Climate, of: &Tree, day: i64, hou
     let ozone = climate.ozone * (0.6 + 0.7 * sun + 0.1 * rng.unit());
     let wind = climate.wind * (0.3 + sun + rng.unit());
     let edges = of.soil;
-    let soil = edges[0] as f64 + (edges[1] - edges[0]) as f64 * (1.4 * climate.dryness - 0.3 + 0.05 * rng.unit());
-    let exact = [ozone, 2000.0 * light, 1000.0 * light, 10.0 * degrees, moisture, wind, soil, pressure(climate, day)];
+    let soil = edges[0] as f64
+        + (edges[1] - edges[0]) as f64 * (1.4 * climate.dryness - 0.3 + 0.05 * rng.unit());
+    let exact = [
+        ozone,
+        2000.0 * light,
+        1000.0 * light,
+        10.0 * degrees,
+        moisture,
+        wind,
+        soil,
+        pressure(climate, day),
+    ];
     Readings { kind, values: exact.map(|value| value.round() as i64) }.as_kind(of.number, kind)
 }
 
@@ -218,7 +270,9 @@ pub fn plausible(rng: &mut Rng, header: Header) -> Season {
 pub fn plausible_in(rng: &mut Rng, kind: i64, header: Header) -> Season {
     let of = header.of();
     let climate = climate(rng, &of);
-    let hours = (0..header.hours()).map(|n| weather(rng, kind, &climate, &of, header.first + n / 24, n % 24)).collect();
+    let hours = (0..header.hours())
+        .map(|n| weather(rng, kind, &climate, &of, header.first + n / 24, n % 24))
+        .collect();
     let mut season = Season { header, ceiling: 0, hours };
     if NEWEST >= CEILING && rng.one_in(3) {
         lose_ozone(rng, &mut season);
@@ -252,7 +306,9 @@ fn edges(of: &Tree, readings: &Readings, reading: usize) -> Vec<i64> {
         OZONE => vec![400],
         RADIATION => vec![50],
         TEMPERATURE => of.temperature.iter().copied().chain([0]).collect(),
-        HUMIDITY if readings.kind == 5 => of.vpd.map(|pascal| humidity(readings[TEMPERATURE], pascal as f64)).to_vec(),
+        HUMIDITY if readings.kind == 5 => {
+            of.vpd.map(|pascal| humidity(readings[TEMPERATURE], pascal as f64)).to_vec()
+        }
         VPD => of.vpd.to_vec(),
         WIND => vec![10],
         SOIL => of.soil.to_vec(),
@@ -260,7 +316,8 @@ fn edges(of: &Tree, readings: &Readings, reading: usize) -> Vec<i64> {
     }
 }
 
-/// The humidity, in tenths of a percent, at which the deficit is so many Pa: below 0 where it never is.
+/// The humidity, in tenths of a percent, at which the deficit is so many Pa: below 0 where it never
+/// is.
 pub fn humidity(temperature: i64, pascal: f64) -> i64 {
     (1000.0 * (1.0 - pascal / saturation(temperature as f64 / 10.0))).round() as i64
 }
@@ -285,7 +342,8 @@ pub fn put_to_corners(rng: &mut Rng, of: &Tree, readings: &mut Readings) {
     }
 }
 
-/// Light and ozone enough that the hour adds to the dose, unless another reading stops it; a missing ozone stays missing.
+/// Light and ozone enough that the hour adds to the dose, unless another reading stops it; a
+/// missing ozone stays missing.
 pub fn light_up(rng: &mut Rng, readings: &mut Readings) {
     if !readings.lacks_ozone() {
         readings[OZONE] = rng.between(300, 5000);
@@ -311,14 +369,17 @@ pub fn freeze(rng: &mut Rng, season: &mut Season) {
     for day in season.hours.chunks_mut(24) {
         if rng.one_in(often) {
             let middle = rng.pick(&[-500, -100, -1, 0, 0]);
-            day.iter_mut().for_each(|readings| readings[TEMPERATURE] = (middle + rng.between(-20, 20)).max(-500));
+            day.iter_mut().for_each(|readings| {
+                readings[TEMPERATURE] = (middle + rng.between(-20, 20)).max(-500)
+            });
         }
     }
 }
 
 // ---- doses near the level
 
-/// Changes readings until the dose, with missing ozone read as 0 or as the ceiling, lies near a multiple of 10000, and makes that the level.
+/// Changes readings until the dose, with missing ozone read as 0 or as the ceiling, lies near a
+/// multiple of 10000, and makes that the level.
 pub fn near_level(rng: &mut Rng, season: &mut Season) {
     let nearness = rng.pick(&[0.01, 0.5, 2.0, 6.0, 50.0]);
     let missing = if season.ceiling > 0 { rng.pick(&[0, season.ceiling]) } else { 0 };
@@ -326,14 +387,16 @@ pub fn near_level(rng: &mut Rng, season: &mut Season) {
     let mut dose = season.dose(missing, &sums);
     let level = ((dose / 10000.0).round() as i64).clamp(1, 10000);
     let target = level as f64 * 10000.0 + rng.between(-4, 4) as f64;
-    let lit: Vec<usize> = (0..season.hours.len()).filter(|&n| season.hours[n].is_counted()).collect();
+    let lit: Vec<usize> =
+        (0..season.hours.len()).filter(|&n| season.hours[n].is_counted()).collect();
     for _ in 0..4000 {
         if lit.is_empty() || (dose - target).abs() < nearness {
             break;
         }
         let n = rng.pick(&lit);
         let changed = one_changed(rng, &season.header, &season.hours[n]);
-        let new = dose - season.dose_of(n, &season.hours[n], missing, &sums) + season.dose_of(n, &changed, missing, &sums);
+        let new = dose - season.dose_of(n, &season.hours[n], missing, &sums)
+            + season.dose_of(n, &changed, missing, &sums);
         if (new - target).abs() < (dose - target).abs() {
             dose = new;
             season.hours[n] = changed;
@@ -342,11 +405,13 @@ pub fn near_level(rng: &mut Rng, season: &mut Season) {
     season.header.level = level;
 }
 
-/// One reading moved, by little or by much, within its range; the hour stays counted, a missing ozone missing, and the temperature where leaf age goes by it.
+/// One reading moved, by little or by much, within its range; the hour stays counted, a missing
+/// ozone missing, and the temperature where leaf age goes by it.
 fn one_changed(rng: &mut Rng, header: &Header, readings: &Readings) -> Readings {
     let mut changed = *readings;
     let movable = [OZONE, PPFD, TEMPERATURE, VPD, WIND, SOIL, PRESSURE]; // all but radiation
-    let reading = rng.pick(&movable[readings.lacks_ozone() as usize..readings_of(readings.kind) - 1]);
+    let reading =
+        rng.pick(&movable[readings.lacks_ozone() as usize..readings_of(readings.kind) - 1]);
     let reading = if header.warmth.is_some() && reading == TEMPERATURE { WIND } else { reading };
     let (least, most) = range(header.tree, readings.kind, reading);
     let far = rng.pick(&[1, 3, 10, 100, 1000]);

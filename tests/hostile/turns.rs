@@ -1,4 +1,5 @@
-//! Cases that go through a list in turn, so that none of it is left to chance: few lines each, the rest of them by chance.
+//! Cases that go through a list in turn, so that none of it is left to chance: few lines each, the
+//! rest of them by chance.
 
 use crate::account::Header;
 use crate::calendar::last_day;
@@ -122,7 +123,8 @@ fn changed(header: &Header, turn: u64) -> Header {
     new
 }
 
-/// Tmin, Topt, Tmax and their neighbours of every tree in one lit hour, the other readings such that the leaf takes up ozone.
+/// Tmin, Topt, Tmax and their neighbours of every tree in one lit hour, the other readings such
+/// that the leaf takes up ozone.
 pub fn every_temperature(rng: &mut Rng, turn: u64) -> Vec<u8> {
     let number = (turn % TREES + 1) as i64;
     let header = short_period(rng, number);
@@ -141,7 +143,8 @@ pub fn every_temperature(rng: &mut Rng, turn: u64) -> Vec<u8> {
 
 /// The days at which the evergreen's dip bends, and days between.
 pub fn every_bend(rng: &mut Rng, turn: u64) -> Vec<u8> {
-    const BENDS: [i64; 15] = [79, 80, 81, 82, 145, 209, 210, 211, 259, 260, 261, 290, 319, 320, 321];
+    const BENDS: [i64; 15] =
+        [79, 80, 81, 82, 145, 209, 210, 211, 259, 260, 261, 290, 319, 320, 321];
     let bend = BENDS[(turn % 15) as usize];
     let mut header = short_period(rng, 6);
     header.first = bend - rng.between(0, 1);
@@ -153,9 +156,12 @@ pub fn every_bend(rng: &mut Rng, turn: u64) -> Vec<u8> {
 
 /// The days at which a ramp starts or ends, and their neighbours, of every tree with ramps.
 pub fn every_ramp(rng: &mut Rng, turn: u64) -> Vec<u8> {
-    let with_ramps: &[i64] = if NEWEST < PARAMETERS { &[1, 2, 4, 5] } else { &[1, 2, 4, 5, MEASURED] };
-    let (number, turn) = (with_ramps[turn as usize % with_ramps.len()], turn / with_ramps.len() as u64);
-    let header = if number == MEASURED { period(rng, number, 30) } else { short_period(rng, number) };
+    let with_ramps: &[i64] =
+        if NEWEST < PARAMETERS { &[1, 2, 4, 5] } else { &[1, 2, 4, 5, MEASURED] };
+    let (number, turn) =
+        (with_ramps[turn as usize % with_ramps.len()], turn / with_ramps.len() as u64);
+    let header =
+        if number == MEASURED { period(rng, number, 30) } else { short_period(rng, number) };
     let mut season = plausible(rng, header);
     let ramps = header.of().ramps;
     let bends = [header.first, header.first + ramps[0], header.last - ramps[1], header.last];
@@ -171,7 +177,15 @@ pub fn every_border(rng: &mut Rng, turn: u64) -> Vec<u8> {
     let tree = any_short_tree(rng);
     let first = border + rng.between(-2, 1);
     let last = first + rng.between(0, 3);
-    let header = Header { tree, days, first: first.min(days), last: last.min(days), level: any_level(rng), own: None, warmth: None };
+    let header = Header {
+        tree,
+        days,
+        first: first.min(days),
+        last: last.min(days),
+        level: any_level(rng),
+        own: None,
+        warmth: None,
+    };
     let header = with_own(rng, header);
     let mut season = plausible(rng, header);
     let days = [border, border + 1].map(|day| day.clamp(header.first, header.last));
@@ -179,7 +193,8 @@ pub fn every_border(rng: &mut Rng, turn: u64) -> Vec<u8> {
     text(rng, &season.lines())
 }
 
-/// Every hour kind after every other, alone and with another fault: rows 2 and 4 come before row 15, rows 9 and 10 after it.
+/// Every hour kind after every other, alone and with another fault: rows 2 and 4 come before row
+/// 15, rows 9 and 10 after it.
 pub fn every_mixture(rng: &mut Rng, turn: u64) -> Vec<u8> {
     let all = HOUR_KINDS.iter().flat_map(|&own| HOUR_KINDS.iter().map(move |&other| (own, other)));
     let pairs: Vec<(i64, i64)> = all.filter(|(own, other)| own != other).collect();
@@ -201,7 +216,8 @@ pub fn every_mixture(rng: &mut Rng, turn: u64) -> Vec<u8> {
     text(rng, &lines)
 }
 
-/// The season's n-th hour in another kind, with one of the faults that an hour's line itself can have, or with none.
+/// The season's n-th hour in another kind, with one of the faults that an hour's line itself can
+/// have, or with none.
 fn faulty(season: &Season, n: usize, kind: i64, fault: usize) -> Vec<u8> {
     let (day, mut hour) = (season.day(n), n as i64 % 24);
     let mut readings = season.hours[n].as_kind(season.header.tree, kind);
@@ -219,7 +235,8 @@ fn faulty(season: &Season, n: usize, kind: i64, fault: usize) -> Vec<u8> {
     line
 }
 
-/// Every tenth of a degree in hours of kind 05, with a humidity at which the deficit lies between the tree's two edges, where one does.
+/// Every tenth of a degree in hours of kind 05, with a humidity at which the deficit lies between
+/// the tree's two edges, where one does.
 pub fn every_tenth(rng: &mut Rng, turn: u64) -> Vec<u8> {
     let temperature = (turn % 1101) as i64 - 500;
     let some = rng.pick(&[1, 2, 3, 6]);
@@ -249,10 +266,11 @@ fn whole_ozone(rng: &mut Rng) -> Season {
     season
 }
 
-/// Every ceiling at the ends of its range and past them, in its place with no, some and all ozone missing, and in every other place: row 4 comes before
-/// row 17.
+/// Every ceiling at the ends of its range and past them, in its place with no, some and all ozone
+/// missing, and in every other place: row 4 comes before row 17.
 pub fn every_ceiling(rng: &mut Rng, turn: u64) -> Vec<u8> {
-    const CEILINGS: [i64; 14] = [0, 1, 2, 399, 400, 401, 4999, 5000, 5001, 5002, 0x7FFF, 0x8000, 0xFFFE, 0xFFFF];
+    const CEILINGS: [i64; 14] =
+        [0, 1, 2, 399, 400, 401, 4999, 5000, 5001, 5002, 0x7FFF, 0x8000, 0xFFFE, 0xFFFF];
     let ceiling = CEILINGS[turn as usize % CEILINGS.len()];
     let mut season = whole_ozone(rng);
     let place = turn as usize / CEILINGS.len() % 10;
@@ -280,8 +298,8 @@ pub fn every_ceiling(rng: &mut Rng, turn: u64) -> Vec<u8> {
     text(rng, &lines)
 }
 
-/// Ozone FFFF in the first, the last or any hour, under a ceiling and without one, alone and with another fault: rows 2, 15 and 9 come before row 18,
-/// row 10 after it.
+/// Ozone FFFF in the first, the last or any hour, under a ceiling and without one, alone and with
+/// another fault: rows 2, 15 and 9 come before row 18, row 10 after it.
 pub fn every_gap(rng: &mut Rng, turn: u64) -> Vec<u8> {
     let mut season = whole_ozone(rng);
     if turn % 2 == 0 {
@@ -302,8 +320,9 @@ pub fn every_gap(rng: &mut Rng, turn: u64) -> Vec<u8> {
         3 => put(&mut lines[at], 8, "7FFF"),
         4 => put(&mut lines[at], 8, "FFFG"),
         5 => put(&mut lines[at], 8, "fFFF"),
-        fault @ 6..=9 => put(&mut lines[at], 8 + 4 * (fault - 5), "FFFF"), // PPFD, radiation, temperature (-0.1 degrees), VPD
-        10 => put(&mut lines[at], 28, "FFFFFFFF"), // wind and soil
+        // PPFD, radiation, temperature (-0.1 degrees), VPD; then wind and soil
+        fault @ 6..=9 => put(&mut lines[at], 8 + 4 * (fault - 5), "FFFF"),
+        10 => put(&mut lines[at], 28, "FFFFFFFF"),
         _ => lines[at] = faulty(&season, n, other_than(season.kind()), 0),
     }
     text(rng, &lines)
@@ -314,7 +333,8 @@ fn other_than(kind: i64) -> i64 {
     HOUR_KINDS.iter().copied().find(|&other| other != kind).unwrap_or(kind)
 }
 
-/// Every parameter at both ends of its range and one past them, or where two bytes end: rows 24 and 7.
+/// Every parameter at both ends of its range and one past them, or where two bytes end: rows 24 and
+/// 7.
 pub fn every_parameter(rng: &mut Rng, turn: u64) -> Vec<u8> {
     let (at, place) = (turn as usize % 16, turn as usize / 16 % 6);
     let (least, most) = RANGES[at];
@@ -328,7 +348,8 @@ pub fn every_parameter(rng: &mut Rng, turn: u64) -> Vec<u8> {
     text(rng, &season.lines())
 }
 
-/// Moves the other numbers of a rising pair or three so that they rise with one of them, where they can.
+/// Moves the other numbers of a rising pair or three so that they rise with one of them, where they
+/// can.
 fn make_room(numbers: &mut [i64; 16], at: usize) {
     let n = numbers[at];
     match at {
@@ -341,8 +362,8 @@ fn make_room(numbers: &mut [i64; 16], at: usize) {
     }
 }
 
-/// Parameters in every place, sound, broken or with ramps too long, once and twice, with a ceiling and without; for tree 7 and for others: row 4 comes before rows
-/// 24 and 7.
+/// Parameters in every place, sound, broken or with ramps too long, once and twice, with a ceiling
+/// and without; for tree 7 and for others: row 4 comes before rows 24 and 7.
 pub fn every_place(rng: &mut Rng, turn: u64) -> Vec<u8> {
     let number = [MEASURED, MEASURED, 3, 6][turn as usize % 4];
     let header = short_period(rng, number);
@@ -362,7 +383,8 @@ pub fn every_place(rng: &mut Rng, turn: u64) -> Vec<u8> {
     text(rng, &lines)
 }
 
-/// Every edge of row 25, in its place and in every other: row 4 comes before row 25, and a ceiling or an hour before warmth is row 4.
+/// Every edge of row 25, in its place and in every other: row 4 comes before row 25, and a ceiling
+/// or an hour before warmth is row 4.
 pub fn every_warmth(rng: &mut Rng, turn: u64) -> Vec<u8> {
     const WARMTHS: [[i64; 3]; 20] = [
         [200, 300, 1500],
@@ -394,12 +416,15 @@ pub fn every_warmth(rng: &mut Rng, turn: u64) -> Vec<u8> {
     let season = plausible(rng, Header { warmth, ..header });
     let mut lines = season.lines();
     let last = lines.len() - 1;
-    let at = [2, 2, 2, 3, season.line_of(0), season.line_of(1), rng.pick(&[0, 1, last, last + 1]), 1][place];
+    let at =
+        [2, 2, 2, 3, season.line_of(0), season.line_of(1), rng.pick(&[0, 1, last, last + 1]), 1]
+            [place];
     lines.insert(at, Warmth { rise, fall, end }.line().into_bytes());
     text(rng, &lines)
 }
 
-/// The sums at which f_phen bends and a tenth of a degree on either side of them, in one lit day; a day of frost before it now and then.
+/// The sums at which f_phen bends and a tenth of a degree on either side of them, in one lit day; a
+/// day of frost before it now and then.
 pub fn every_sum(rng: &mut Rng, turn: u64) -> Vec<u8> {
     let length = rng.between(2, 5);
     let header = period(rng, MEASURED, length);
@@ -408,7 +433,8 @@ pub fn every_sum(rng: &mut Rng, turn: u64) -> Vec<u8> {
     let lit = rng.between(1, length - 1);
     season.hours.iter_mut().for_each(|readings| readings[TEMPERATURE] = 10 * degrees);
     if lit > 1 && rng.one_in(3) {
-        season.hours[..24].iter_mut().for_each(|readings| readings[TEMPERATURE] = -1); // the first day adds nothing
+        season.hours[..24].iter_mut().for_each(|readings| readings[TEMPERATURE] = -1);
+        // the first day adds nothing
     }
     few_lit(rng, &mut season, &[header.first + lit]);
     let reached = season.sums()[lit as usize] / DEGREE_DAY;

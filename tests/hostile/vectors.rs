@@ -1,4 +1,5 @@
-//! The account in doubles held to season texts with known answers: NAME.txt and NAME.expect in the folder of vectors and in its folders of requests.
+//! The account in doubles held to season texts with known answers: NAME.txt and NAME.expect in the
+//! folder of vectors and in the folders within it, whose texts have further kinds of lines.
 
 use crate::account::{answer, refusal, Answer, Figures, Month, Sums};
 use std::fs::read_to_string;
@@ -7,29 +8,39 @@ use std::path::{Path, PathBuf};
 /// How far the dose may lie from the exact one: nmol m⁻², and a part of the dose.
 const SLACK: (f64, f64) = (1e-6, 1e-12);
 
-/// The folders of the requests, each with the newest kind that its texts were answered for.
-const FOLDERS: [(&str, i64); 5] = [("W-204", 4), ("W-205", 5), ("W-207", 6), ("W-212", 7), ("W-213", 8)];
-
 /// Holds the account to every text; what was held, or the first text whose answer is another.
 pub fn hold(folder: &Path) -> Result<String, String> {
-    let mut held = vec![hold_folder(folder, newest_of(folder))?];
-    for (name, newest) in FOLDERS {
-        if folder.join(name).is_dir() {
-            held.push(hold_folder(&folder.join(name), newest)?);
-        }
+    let mut held = vec![hold_folder(folder)?];
+    for path in entries(folder)?.into_iter().filter(|path| path.is_dir()) {
+        held.push(hold_folder(&path)?);
     }
     Ok(held.join("\n"))
 }
 
-fn newest_of(folder: &Path) -> i64 {
-    FOLDERS.iter().find(|(name, _)| folder.ends_with(name)).map_or(3, |&(_, newest)| newest)
+/// The newest kind that the answers in the folder know: that of the lines of accepted texts.
+fn newest_in(folder: &Path) -> Result<i64, String> {
+    let mut newest = 3;
+    for path in texts(folder)? {
+        if !read_text(&path.with_extension("expect"))?.starts_with("refused") {
+            let text = read_text(&path)?;
+            let kinds =
+                text.lines().filter_map(|line| i64::from_str_radix(line.get(..2)?, 16).ok());
+            newest = kinds.fold(newest, i64::max);
+        }
+    }
+    Ok(newest)
 }
 
-fn hold_folder(folder: &Path, newest: i64) -> Result<String, String> {
+fn read_text(path: &Path) -> Result<String, String> {
+    read_to_string(path).map_err(|error| format!("{}: {error}", path.display()))
+}
+
+fn hold_folder(folder: &Path) -> Result<String, String> {
+    let newest = newest_in(folder)?;
     let (mut seasons, mut refusals) = (0, 0);
     for path in texts(folder)? {
         let text = std::fs::read(&path).map_err(|error| format!("{}: {error}", path.display()))?;
-        let expected = read_to_string(path.with_extension("expect")).map_err(|error| format!("{}: {error}", path.display()))?;
+        let expected = read_text(&path.with_extension("expect"))?;
         let found = answer(newest, &text);
         if let Some(why) = differs(&found, &expected) {
             return Err(format!("{}: {why}", path.display()));
@@ -42,11 +53,19 @@ fn hold_folder(folder: &Path, newest: i64) -> Result<String, String> {
     Ok(format!("{}: {seasons} seasons and {refusals} refusals, ok", folder.display()))
 }
 
+/// What stands in a folder, sorted.
+fn entries(folder: &Path) -> Result<Vec<PathBuf>, String> {
+    let found =
+        std::fs::read_dir(folder).map_err(|error| format!("{}: {error}", folder.display()))?;
+    let mut paths: Vec<PathBuf> = found.flatten().map(|entry| entry.path()).collect();
+    paths.sort();
+    Ok(paths)
+}
+
 fn texts(folder: &Path) -> Result<Vec<PathBuf>, String> {
-    let files = std::fs::read_dir(folder).map_err(|error| format!("{}: {error}", folder.display()))?;
-    let mut texts: Vec<PathBuf> = files.flatten().map(|file| file.path()).filter(|path| path.extension().is_some_and(|end| end == "txt")).collect();
-    texts.sort();
-    Ok(texts)
+    let mut paths = entries(folder)?;
+    paths.retain(|path| path.extension().is_some_and(|end| end == "txt"));
+    Ok(paths)
 }
 
 /// How the account's answer differs from the expected one, if it does.
@@ -57,23 +76,32 @@ fn differs(found: &Answer, expected: &str) -> Option<String> {
             let refusal = refusal(*code, *line);
             (refusal.trim_end() != season).then(|| format!("{refusal:?}, not {season}"))
         }
-        Answer::Season(figures, found) => season_differs(figures, season).or_else(|| months_differ(found, months)),
+        Answer::Season(figures, found) => {
+            season_differs(figures, season).or_else(|| months_differ(found, months))
+        }
     }
 }
 
-/// `hours counted dose AOT40 level LEVEL`, or in a request's folder `hours counted missing LOW HIGH AOT40LOW AOT40HIGH level LEVEL`.
+/// `hours counted dose AOT40 level LEVEL`, or with further kinds of lines
+/// `hours counted missing LOW HIGH AOT40LOW AOT40HIGH level LEVEL`.
 fn season_differs(figures: &Figures, expected: &str) -> Option<String> {
     let Figures { hours, sums, level, .. } = figures;
     let words: Vec<&str> = expected.split(' ').collect();
     let (exact, right) = match words.len() {
-        6 => ([words[2]; 2], format!("{hours} {} {} {} level {level}", sums.counted, words[2], sums.aot40[0])),
-        9 => ([words[3], words[4]], format!("{hours} {} level {level}", described(sums, [words[3], words[4]]))),
+        6 => (
+            [words[2]; 2],
+            format!("{hours} {} {} {} level {level}", sums.counted, words[2], sums.aot40[0]),
+        ),
+        9 => (
+            [words[3], words[4]],
+            format!("{hours} {} level {level}", described(sums, [words[3], words[4]])),
+        ),
         _ => return Some(format!("a season, not {expected}")),
     };
     differs_in(sums, exact, &right, expected)
 }
 
-/// `month counted missing LOW HIGH AOT40LOW AOT40HIGH` for each month; document 01's own vectors have none.
+/// `month counted missing LOW HIGH AOT40LOW AOT40HIGH` for each month, or none.
 fn months_differ(months: &[Month], expected: &str) -> Option<String> {
     let lines: Vec<&str> = expected.lines().collect();
     if !lines.is_empty() && lines.len() != months.len() {
@@ -82,7 +110,12 @@ fn months_differ(months: &[Month], expected: &str) -> Option<String> {
     months.iter().zip(lines).find_map(|(month, line)| {
         let mut words = line.split(' ').skip(3);
         let exact = [(); 2].map(|_| words.next().unwrap_or_default());
-        differs_in(&month.sums, exact, &format!("{} {}", month.number, described(&month.sums, exact)), line)
+        differs_in(
+            &month.sums,
+            exact,
+            &format!("{} {}", month.number, described(&month.sums, exact)),
+            line,
+        )
     })
 }
 

@@ -1,4 +1,5 @@
-//! Leaf age by warmth of a laboratory's own tree (document 02, W-213): its frame, f_phen over the temperature sum, and sets of its numbers by chance.
+//! Leaf age by warmth of a laboratory's own tree (docs/SPECIFICATION.md, "Leaf age by warmth"): its
+//! frame, f_phen over the temperature sum, and sets of its numbers by chance.
 
 use crate::rng::Rng;
 use crate::season::pair;
@@ -28,10 +29,12 @@ impl Warmth {
         self.rise + self.fall <= self.end && (1..=MOST_END).contains(&self.end)
     }
 
-    /// From a at 0 to 1 at rise, 1 to end less fall, to e at end, past that 0; the sum in tenths of a degree over hours.
+    /// From a at 0 to 1 at rise, 1 to end less fall, to e at end, past that 0; the sum in tenths of
+    /// a degree over hours.
     pub fn f_phen(&self, of: &Tree, sum: i64) -> f64 {
         let [a, e] = of.ends;
-        let [rise, falls, end] = [self.rise, self.end - self.fall, self.end].map(|days| DEGREE_DAY * days);
+        let [rise, falls, end] =
+            [self.rise, self.end - self.fall, self.end].map(|days| DEGREE_DAY * days);
         if sum > end {
             0.0
         } else if sum < rise {

@@ -1,5 +1,6 @@
--- Demand 3, and what filling gaps brings, over runs that are tied by the contracts of `feed`, of `parse` with `feed_frame` or `refused_by`, and of `read`, as they
--- stand at the functions, and by nothing else.
+-- The season promise, and what filling gaps brings, over runs that are tied by the contracts of
+-- `feed`, of `parse` with `feed_frame` or `refused_by`, and of `read`, as they stand at the
+-- functions, and by nothing else.
 use Rattle.std.specs.Prelude.{Ok, Err}
 use Prim.Native.Nat.{ℕ}
 use mathlib.Core.Path.{◌≡◌}
@@ -14,9 +15,9 @@ use Rattle.account_spec.specs.Runs.{Event, fed, taken, Run, stop, feeds, reads, 
 use Rattle.account_spec.specs.Promise.{Kept, SeasonPromise}
 use Rattle.account_spec.proofs.RuleLaws.{frame-feeds, unread-feeds}
 use Rattle.account_spec.proofs.RunLaws.{season}
-use Rattle.filling_spec.specs.Promise.{accepted_lines, FillingPromise}
-use Rattle.filling_spec.proofs.FillingLaws.{filling-promise}
-use Rattle.account_read.proofs.read.Reads as read-reads
+use Rattle.account_spec.specs.FillingPromise.{accepted_lines, FillingPromise}
+use Rattle.account_spec.proofs.FillingLaws.{filling-promise}
+use Rattle.account.proofs.reading.read.Reads as read-reads
 use Rattle.account.proofs.feed.Reads as feed-reads
 use Rattle.account.proofs.feed_frame.Reads as feed-frame-reads
 use Rattle.account.proofs.refused_by.Reads as refused-by-reads
@@ -56,7 +57,7 @@ run-tied (feeds {a = a} {l = l} {r = r} k run) =
     by-feed (record { κs = ([], tt); args = (a, (line, tt)); result = r; exit = (a, (line, tt)); holds = k }) (run-tied run)
 run-tied (reads {a = a} {r = r} k run) = by_read (record { κs = tt; args = (a, tt); result = r; exit = (a, tt); holds = k }) (run-tied run)
 
--- ---- demand 3
+-- ---- the season's promise
 
 tied-kept : {es : List Event} → Tied fresh_account es → Kept fresh_account empty_book es
 tied-kept {es} t = season.kept es (tied-run t)
@@ -64,7 +65,7 @@ tied-kept {es} t = season.kept es (tied-run t)
 pub season-cited : SeasonPromise
 season-cited = record { kept = λ es run. tied-kept (run-tied run); exists = season.exists; day = season.day; listed = season.listed; enclosed = season.enclosed }
 
--- ---- hours without ozone (W-207)
+-- ---- hours without ozone
 
 tied-alone : {es : List Event} → Tied fresh_account es → TakesAll fresh_account (accepted_lines es) (account_after fresh_account es)
 tied-alone {es} t = filling-promise.alone es (tied-run t)

@@ -1,6 +1,5 @@
-mod AgeLaws
 pub mod AddingLaws
 pub mod WarmthLaws
-pub mod RoomLaws
-pub mod EnterLaws
+pub mod FrameLaws
 pub mod Cited
+pub mod RowLaws

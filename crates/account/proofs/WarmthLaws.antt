@@ -1,4 +1,4 @@
--- The running day's total and an hour's temperature, as the machine adds them (W-213).
+-- The running day's total and an hour's temperature, as the machine adds them.
 use mathlib.Core.Path.{◌≡◌, ◌∙◌}
 use mathlib.Core.Bool.{false}
 use native.Mathlib.Omega.{arith}
@@ -6,8 +6,8 @@ use Rattle.std.proofs.lemmas.Bool.Decides.{nat_tests}
 use lib.IntN.{ℤ, ◌+ℤ◌}
 use mir.Syntax.{w16}
 use mir.Val.{SFits, to_z, of_z}
-use Rattle.records.specs.Temperature.{temperature_out}
-use Rattle.records.proofs.SignedLaws.{plain}
+use Rattle.frames.specs.Temperature.{temperature_out}
+use Rattle.frames.proofs.SignedLaws.{plain}
 use Rattle.account_spec.specs.Account.{total_out}
 use Rattle.account_spec.proofs.CarriedLaws.{total-step}
 

@@ -1,19 +1,20 @@
--- AOT40's two numbers over hours in a row: a missing ozone is read as 0 for the lower one, as the ceiling for the upper one (W-207); what they are at most.
+-- AOT40's two numbers over hours in a row: a missing ozone is read as 0 for the lower one, as the
+-- ceiling for the upper one; what they are at most.
 use Rattle.std.specs.Prelude.{Option}
 use Prim.Native.Nat.{ℕ, ◌+◌, ◌-◌, ◌*◌, ◌≤◌}
 use mathlib.Core.Path.{◌≡◌, refl}
 use mathlib.Core.Bool.{cond}
 use mathlib.Core.List.{List, [], ◌∷◌}
 use native.Mathlib.Omega.{arith}
-use Rattle.records.specs.declared.Hour.{Hour}
-use Rattle.records.specs.declared.Record.{Record}
-use Rattle.records.specs.Answers.{Outcome, accepted}
-use Rattle.records.specs.Ozone.{is_missing, tenths_or, read_as, all_read_as}
-use Rattle.records.specs.Ranges.{checked}
-use Rattle.records.proofs.OzoneLaws.{tenths_or-mono, read-passed}
+use Rattle.frames.specs.declared.records.Hour.{Hour}
+use Rattle.frames.specs.declared.records.Record.{Record}
+use Rattle.frames.specs.Answers.{Outcome, accepted}
+use Rattle.frames.specs.Ozone.{is_missing, tenths_or, read_as, all_read_as}
+use Rattle.frames.specs.Ranges.{checked}
+use Rattle.frames.proofs.OzoneLaws.{tenths_or-mono, read-passed}
 use Rattle.frames.proofs.RangeLaws.{checked-passed}
-use Rattle.flux_spec.specs.declared.Stand.{Stand}
-use Rattle.flux_spec.specs.Dose.{is_counted, excess}
+use Rattle.dose_spec.specs.declared.Stand.{Stand}
+use Rattle.dose_spec.specs.Dose.{is_counted, excess}
 use Rattle.account_spec.specs.declared.Season.{Season}
 use Rattle.account_spec.specs.declared.Sums.{Sums}
 use Rattle.account_spec.specs.Limits.{most_aot40}

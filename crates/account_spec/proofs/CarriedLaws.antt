@@ -1,4 +1,5 @@
--- The temperature sum and the running day's total (W-213): within row 13's limits hour by hour, and those of the book's days.
+-- The temperature sum and the running day's total: within row 13's limits hour by hour, and those
+-- of the book's days.
 use Prim.Native.Nat.{ℕ, zero, suc, ◌+◌, ◌*◌, ◌/◌, ◌%◌, ◌≤◌, ◌<◌}
 use mathlib.Core.Path.{◌≡◌, refl, sym, ◌∙◌}
 use mathlib.Core.Bool.{true, false}
@@ -10,9 +11,9 @@ use Rattle.std.proofs.lemmas.Bool.Decides.{nat_tests}
 use lib.ListN.{length, length-append}
 use lib.IntN.{ℤ, pos, ◌+ℤ◌, +ℤ_idl, +ℤ_idr, +ℤ_assoc}
 use borrow.Author.Tests.{eq-eqb, ne_eqb, eqb-true, eqb-false}
-use Rattle.measured.specs.Warmth.{has_warmth}
-use Rattle.records.specs.declared.Hour.{Hour}
-use Rattle.records.specs.Temperature.{temperature_out}
+use Rattle.trees.specs.Warmth.{has_warmth}
+use Rattle.frames.specs.declared.records.Hour.{Hour}
+use Rattle.frames.specs.Temperature.{temperature_out}
 use Rattle.account_spec.specs.declared.Season.{Season}
 use Rattle.account_spec.specs.declared.Carried.{Carried}
 use Rattle.account_spec.specs.Hours.{not_negative, warmer}

@@ -1,5 +1,5 @@
--- Sums that enclose doses and AOT40 enclose them added up; so do the sums of any hours in a row that row 10 lets pass, for every filling, from what those before
--- them left.
+-- Sums that enclose doses and AOT40 enclose them added up; so do the sums of any hours in a row
+-- that row 10 lets pass, for every filling, from what those before them left.
 use Prim.Native.Nat.{ℕ, ◌+◌, ◌-◌, ◌*◌, ◌≤◌, max}
 use mathlib.Core.Path.{◌≡◌, refl, sym, ap, subst}
 use mathlib.Core.List.{List, [], ◌∷◌, ◌++◌}
@@ -8,13 +8,13 @@ use native.Mathlib.Omega.{arith}
 use Rattle.exact.specs.Frac.{Frac, ◌⊕◌}
 use Rattle.exact.proofs.FracLaws.{≼_trans, ⊕-mono, ⊕-low, ⊕-high}
 use Rattle.trees.specs.Sound.{Sound}
-use Rattle.records.specs.declared.Air.{Air}
-use Rattle.records.specs.declared.Hour.{Hour}
-use Rattle.records.specs.Answers.{Outcome, accepted}
-use Rattle.records.specs.Ozone.{all_read_as, Fills, AllFill}
-use Rattle.records.proofs.OzoneLaws.{read_is}
-use Rattle.flux_spec.specs.declared.Stand.{Stand}
-use Rattle.flux_spec.specs.Enclosure.{most_dose, gap_most}
+use Rattle.frames.specs.declared.records.Air.{Air}
+use Rattle.frames.specs.declared.records.Hour.{Hour}
+use Rattle.frames.specs.Answers.{Outcome, accepted}
+use Rattle.frames.specs.Ozone.{all_read_as, Fills, AllFill}
+use Rattle.frames.proofs.OzoneLaws.{read_is}
+use Rattle.dose_spec.specs.declared.Stand.{Stand}
+use Rattle.dose_spec.specs.Enclosure.{most_dose, gap_most}
 use Rattle.account_spec.specs.declared.Season.{Season}
 use Rattle.account_spec.specs.declared.Sums.{Sums}
 use Rattle.account_spec.specs.Limits.{most_hour, gap_each}
@@ -99,7 +99,7 @@ module _ (stand : Stand) (sound : Sound stand.figures) (few : stand.ceiling ≤ 
 
   module _ (each : ℕ) where
     list-sized :
-        (c : Carried) (hs : List Hour) → AllChecked hs → AllMost stand.figures.gmax each hs →
+        (c : Carried) (hs : List Hour) → AllChecked hs → AllMost stand.figures.g_max each hs →
         SumsSized (gap_most stand.figures) each (sums_of (accepted stand) c hs)
     unfolding sums_of
     list-sized c [] all most = none-sized (gap_most stand.figures) each no_sums refl refl refl
@@ -107,7 +107,7 @@ module _ (stand : Stand) (sound : Sound stand.figures) (few : stand.ceiling ≤ 
         plus-sized (hour-sized stand sound few c h all.0 each most.0) (list-sized (carried_after (accepted stand) c h) hs all.1 most.1)
 
     pub list-enclosed :
-        (c : Carried) (hs : List Hour) → AllChecked hs → AllMost stand.figures.gmax each hs →
+        (c : Carried) (hs : List Hour) → AllChecked hs → AllMost stand.figures.g_max each hs →
         HoursEnclosed (gap_most stand.figures) each (accepted stand) c hs
     list-enclosed c hs all most = hours-read _ _ (accepted stand) c hs (list-filled c hs all) (list-sized c hs all most)
 
@@ -118,9 +118,9 @@ all-checked season [] all = tt
 all-checked season (h ∷ hs) all = (all.0.2, all-checked season hs all.1)
 
 -- of every kind
-all_most : (gmax each : ℕ) (hs : List Hour) → ((air : Air) → most_dose gmax air ≤ each) → AllMost gmax each hs
-all_most gmax each [] room = tt
-all_most gmax each (h ∷ hs) room = (room h.air, all_most gmax each hs room)
+all_most : (g_max each : ℕ) (hs : List Hour) → ((air : Air) → most_dose g_max air ≤ each) → AllMost g_max each hs
+all_most g_max each [] room = tt
+all_most g_max each (h ∷ hs) room = (room h.air, all_most g_max each hs room)
 
 pub hours-enclosed :
     (season : Season) → season.ceiling ≤ 5000 → (c : Carried) (hs : List Hour) → AllDosed season hs →
@@ -131,7 +131,7 @@ hours-enclosed season few c [] all =
 hours-enclosed season few c (h ∷ hs) all =
     let stand = all.0.0 in
     let own = season-stand season stand all.0.1 in
-    let most = all_most stand.figures.gmax (most_hour season) (h ∷ hs) own.most in
+    let most = all_most stand.figures.g_max (most_hour season) (h ∷ hs) own.most in
     let e = list-enclosed stand own.sound (omega (arith, own.ceiling)) (most_hour season) c (h ∷ hs) (all-checked season (h ∷ hs) all) most in
     subst (λ (s : Outcome Stand). HoursEnclosed (gap_hour season) (most_hour season) s c (h ∷ hs)) (sym all.0.1)
     (hours-read _ _ (accepted stand) c (h ∷ hs) e.filled (sized-more (omega (arith, own.gap)) e.sized))

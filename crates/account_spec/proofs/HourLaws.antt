@@ -1,4 +1,5 @@
--- One hour: its sums enclose the dose and AOT40 of every filling. All that is used of `flux_spec`'s pair is here: `enclosure.pair` and `enclosure.trees`.
+-- One hour: its sums enclose the dose and AOT40 of every filling. All that is used of `dose_spec`'s
+-- pair is here: `enclosure.pair` and `enclosure.trees`.
 use Prim.Native.Nat.{ℕ, ◌≤◌}
 use mathlib.Core.Path.{◌≡◌, refl, sym, ap, subst}
 use mathlib.Core.Bool.{Bool, true, false, cond}
@@ -9,30 +10,30 @@ use Rattle.exact.specs.Frac.{Frac, natural}
 use Rattle.exact.proofs.FracLaws.{≼_refl}
 use Rattle.trees.specs.Sound.{Sound}
 use Rattle.trees.specs.declared.Figures.{Figures}
-use Rattle.measured.specs.Figures.{measured_figures, figures_in}
-use Rattle.records.specs.declared.Air.{Air}
-use Rattle.records.specs.declared.Hour.{Hour}
-use Rattle.records.specs.declared.Record.{Record}
-use Rattle.records.specs.Answers.{accepted}
-use Rattle.records.specs.Ozone.{Fills}
-use Rattle.records.specs.Ranges.{checked}
-use Rattle.records.proofs.AnswerLaws.{accepted-same, onward-passed}
-use Rattle.records.proofs.OzoneLaws.{filling-within}
-use Rattle.flux_spec.specs.declared.Stand.{Stand}
-use Rattle.flux_spec.specs.Dose.{is_counted, excess, dose_at, NotAbove, NotBelow}
-use Rattle.flux_spec.specs.Pair.{hour_pair}
-use Rattle.flux_spec.specs.Enclosure.{most_dose, gap_most, PairEnclosed}
-use Rattle.flux_spec.specs.HourDose.{tree_of}
-use Rattle.flux_spec.proofs.BudgetLaws.{most_dose-le, gap_dose-most}
-use Rattle.flux_spec.proofs.HourDoseLaws.{stand-passed}
-use Rattle.flux_spec.proofs.EnclosureLaws.{TreeNamed, tree-named, enclosure}
+use Rattle.trees.specs.MeasuredFigures.{measured_figures, figures_in}
+use Rattle.frames.specs.declared.records.Air.{Air}
+use Rattle.frames.specs.declared.records.Hour.{Hour}
+use Rattle.frames.specs.declared.records.Record.{Record}
+use Rattle.frames.specs.Answers.{accepted}
+use Rattle.frames.specs.Ozone.{Fills}
+use Rattle.frames.specs.Ranges.{checked}
+use Rattle.frames.proofs.AnswerLaws.{accepted-same, onward-passed}
+use Rattle.frames.proofs.OzoneLaws.{filling-within}
+use Rattle.dose_spec.specs.declared.Stand.{Stand}
+use Rattle.dose_spec.specs.Dose.{is_counted, excess, dose_at, NotAbove, NotBelow}
+use Rattle.dose_spec.specs.Pair.{hour_pair}
+use Rattle.dose_spec.specs.Enclosure.{most_dose, gap_most, PairEnclosed}
+use Rattle.dose_spec.specs.HourDose.{tree_of}
+use Rattle.dose_spec.proofs.BudgetLaws.{most_dose-le, gap_dose-most}
+use Rattle.dose_spec.proofs.HourDoseLaws.{stand-passed}
+use Rattle.dose_spec.proofs.EnclosureLaws.{TreeNamed, tree-named, enclosure}
 use Rattle.account_spec.specs.declared.Season.{Season}
 use Rattle.account_spec.specs.declared.Sums.{Sums}
 use Rattle.account_spec.specs.Limits.{is_measured, most_hour}
 use Rattle.account_spec.specs.declared.Carried.{Carried}
 use Rattle.account_spec.specs.Hours.{stand_in, stand_at, pair_of, counted_sums, hour_sums, hour_pod}
 use Rattle.account_spec.specs.Enclosed.{HasDose, gap_hour, Encloses, SumsSized}
-use Rattle.account_spec.specs.Steps.{Dosable}
+use Rattle.account_spec.specs.steps.Account.{Dosable}
 
 -- ---- a number below one that is not above the dose, and above one that is not below it
 
@@ -88,7 +89,7 @@ module _
     hour-encloses f (Fills.given e) = grind (arith, counted-encloses f (Fills.given e), none-encloses)
     hour-encloses f (Fills.filled e n le) = grind (arith, counted-encloses f (Fills.filled e n le), none-encloses)
 
-    pub hour-sized : (each : ℕ) → most_dose stand.figures.gmax h.air ≤ each → SumsSized apart each (hour_sums (accepted stand) c h)
+    pub hour-sized : (each : ℕ) → most_dose stand.figures.g_max h.air ≤ each → SumsSized apart each (hour_sums (accepted stand) c h)
     unfolding hour_sums pair_of
     hour-sized each room = grind (arith, pair.gap, gap_dose-most stand.figures h.air, pair.order, pair.most)
 
@@ -98,7 +99,7 @@ module _
 record FiguresIn (season : Season) (f : Figures) : Type 0 where
   sound : Sound f
   gap : gap_most f ≤ gap_hour season
-  most : (air : Air) → most_dose f.gmax air ≤ most_hour season
+  most : (air : Air) → most_dose f.g_max air ≤ most_hour season
 
 figures-by : (season : Season) (f : Figures) (seventh : Bool) → is_measured season ≡ seventh → TreeNamed season.parameters season.header.tree f → FiguresIn season f
 unfolding figures_in
@@ -112,14 +113,14 @@ figures-by season f false e named =
     record {
       sound = own.sound;
       gap = rw e (omega (arith, own.gap));
-      most = λ air. rw e (omega (arith, most_dose-le f.gmax air, own.gmax));
+      most = λ air. rw e (omega (arith, most_dose-le f.g_max air, own.g_max));
     }
 
 -- the season's stand has its tree's figures, its warmth and its ceiling
 pub record SeasonStand (season : Season) (stand : Stand) : Type 0 where
   pub sound : Sound stand.figures
   pub gap : gap_most stand.figures ≤ gap_hour season
-  pub most : (air : Air) → most_dose stand.figures.gmax air ≤ most_hour season
+  pub most : (air : Air) → most_dose stand.figures.g_max air ≤ most_hour season
   pub ceiling : stand.ceiling ≡ season.ceiling
   pub warmth : stand.age.warmth ≡ season.warmth
 

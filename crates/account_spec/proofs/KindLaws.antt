@@ -8,8 +8,8 @@ use native.Mathlib.Omega.{arith}
 use borrow.Author.Tests.{eqb-true, ne_eqb, not-false}
 use lib.Dec.{eqb}
 use lib.ListN.{length, get_or}
-use Rattle.records.specs.declared.Air.{Air}
-use Rattle.records.specs.declared.Hour.{Hour}
+use Rattle.frames.specs.declared.records.Air.{Air}
+use Rattle.frames.specs.declared.records.Hour.{Hour}
 use Rattle.frames.specs.Layout.{air_kind}
 use Rattle.account_spec.specs.declared.HourKind.{HourKind}
 use Rattle.account_spec.specs.declared.HourKind.TheVariants.{Deficit, Pressure, Humidity}

@@ -15,3 +15,8 @@ pub mod ReadingLaws
 pub mod SeasonLaws
 pub mod RunLaws
 pub mod NextLaws
+pub mod LineLaws
+pub mod AnswerLaws
+pub mod BesideLaws
+pub mod NarrowLaws
+pub mod FillingLaws

@@ -8,14 +8,15 @@ use native.Mathlib.Omega.{arith}
 use lib.Dec.{eqb, ltb}
 use Rattle.std.proofs.lemmas.Bool.Decides.{nat_tests}
 use borrow.Author.Tests.{eqb-false, ltb-false}
-use Rattle.records.specs.declared.Hour.{Hour}
-use Rattle.records.specs.declared.Record.{Record}
-use Rattle.records.specs.Ozone.{is_missing}
-use Rattle.records.specs.Answers.{accepted}
-use Rattle.records.specs.Period.{period_hours}
-use Rattle.measured.specs.Warmth.{has_warmth}
-use Rattle.records.proofs.AnswerLaws.{or-neither, accepted-same, row-passed, onward-passed}
-use Rattle.records.proofs.OzoneLaws.{ceiling-le}
+use Rattle.frames.specs.declared.records.Hour.{Hour}
+use Rattle.frames.specs.declared.records.Raw.{Raw}
+use Rattle.frames.specs.declared.records.Record.{Record}
+use Rattle.frames.specs.Ozone.{is_missing}
+use Rattle.frames.specs.Answers.{accepted}
+use Rattle.frames.specs.Period.{period_hours}
+use Rattle.trees.specs.Warmth.{has_warmth}
+use Rattle.frames.proofs.AnswerLaws.{or-neither, accepted-same, row-passed, onward-passed}
+use Rattle.frames.proofs.OzoneLaws.{ceiling-le}
 use Rattle.account_spec.specs.declared.Season.{Season}
 use Rattle.account_spec.specs.declared.Sums.{Sums}
 use Rattle.account_spec.specs.declared.Account.{Account}
@@ -24,15 +25,15 @@ use Rattle.account_spec.specs.Hours.{no_sums, plus, stand_in, hour_sums, sums_of
 use Rattle.account_spec.specs.HourKinds.{hour_kind, kind_number, kind_out}
 use Rattle.account_spec.specs.Enclosed.{HasDose}
 use Rattle.account_spec.specs.Account.{awaits, carried_out, impossible}
-use Rattle.account_spec.specs.Rules.{with_ceiling, with_warmth, entered, state_of, feed_of}
+use Rattle.account_spec.specs.Rules.{with_ceiling, with_warmth, turn_of, entered, state_of, feed_of}
 use Rattle.account_spec.proofs.SumsLaws.{plus_none}
 use Rattle.account_spec.proofs.HourLaws.{dosable-has}
 use Rattle.account_spec.proofs.EnclosedLaws.{hours-in}
 use Rattle.account_spec.proofs.CarriedLaws.{ColdIn, cold-in}
-use Rattle.account_spec.proofs.PossibleLaws.{SumsIn, Possible, possible-is, possible-false}
+use Rattle.account_spec.proofs.PossibleLaws.{SumsIn, PossibleFacts, possible-is, possible-false}
 use Rattle.account_spec.proofs.KindLaws.{some-kind}
 use Rattle.account_spec.proofs.BookLaws.{SeasonSound, TakenIn, has-ozone, cold-awaiting, fed-awaits, warmth-fed, carried-next}
-use Rattle.account_spec.proofs.TurnLaws.{answer-taken}
+use Rattle.account_spec.proofs.TurnLaws.{frame-taken, answer-taken}
 
 -- ---- sums that hours can give, added up
 
@@ -75,10 +76,10 @@ unbegun-in {s = s} p none =
 -- ---- a season whose parameters are awaited has no ceiling, hours or kind
 
 unmeasured-none :
-    (a : Account) → Possible a → awaits a.season ≡ true → (not (eqb (kind_number a.kind) 0) || not (eqb a.season.ceiling 0) || ltb 0 a.sums.hours) ≡ false
+    (a : Account) → PossibleFacts a → awaits a.season ≡ true → (not (eqb (kind_number a.kind) 0) || not (eqb a.season.ceiling 0) || ltb 0 a.sums.hours) ≡ false
 unmeasured-none a p awaited = rw awaited at p.measured
 
-awaiting-hours : (a : Account) → Possible a → awaits a.season ≡ true → a.sums.hours ≡ 0
+awaiting-hours : (a : Account) → PossibleFacts a → awaits a.season ≡ true → a.sums.hours ≡ 0
 awaiting-hours a p awaited =
     let none = or-neither (not (eqb (kind_number a.kind) 0) || not (eqb a.season.ceiling 0)) (ltb 0 a.sums.hours) (unmeasured-none a p awaited) in
     omega (arith, ltb-false 0 a.sums.hours none.1)
@@ -89,7 +90,7 @@ none-carried season hours c has none cold = grind (arith, nat_tests)
 
 -- ---- an accepted record
 
-entered-possible : (a : Account) (r : Record) → Possible a → TakenIn (state_of a) r → Possible (entered a r)
+entered-possible : (a : Account) (r : Record) → PossibleFacts a → TakenIn (state_of a) r → PossibleFacts (entered a r)
 unfolding entered
 entered-possible a (Record.Header h) p t = grind arith
 entered-possible a (Record.Hour h) p t =
@@ -135,6 +136,14 @@ entered-possible a (Record.Warmth w) p t =
     let sums = unbegun-in {season = a.season} {next = with_warmth a.season w} p.sums t.4 in
     grind (arith, fed-awaits a.season t.1)
 
+-- of a frame
+pub entered-on :
+    (a : Account) → impossible a ≡ false → (frame : Raw) (r : Record) →
+    turn_of (state_of a) frame ≡ accepted r → impossible (entered a r) ≡ false
+entered-on a possible frame r e =
+    possible-false _ (entered-possible a r (possible-is a possible) (frame-taken (state_of a) frame r e))
+
+-- of a line
 pub next-possible : (a b : Account) (l : List ℕ) → feed_of a l ≡ accepted b → impossible b ≡ false
 unfolding feed_of
 next-possible a b l e =

@@ -1,4 +1,5 @@
--- An account that row 13 lets pass: what each of the row's conditions says of it, and that it has room for another hour.
+-- An account that row 13 lets pass: what each of the row's conditions says of it, and that it has
+-- room for another hour.
 use Prim.Native.Nat.{◌+◌, ◌-◌, ◌*◌, ◌≤◌}
 use mathlib.Core.Path.{◌≡◌, ap}
 use mathlib.Core.Bool.{Bool, true, false, not, ◌&&◌, ◌||◌}
@@ -7,10 +8,10 @@ use native.Mathlib.Omega.{arith}
 use lib.Dec.{ltb}
 use Rattle.std.proofs.lemmas.Bool.Decides.{nat_tests}
 use borrow.Author.Tests.{ltb-false, le-ltb}
-use Rattle.records.specs.declared.Record.{Record}
-use Rattle.records.specs.Answers.{Outcome, accepted}
-use Rattle.records.specs.Ranges.{checked, ceiling_out, warmth_broken}
-use Rattle.records.specs.Period.{period_hours, all_given}
+use Rattle.frames.specs.declared.records.Record.{Record}
+use Rattle.frames.specs.Answers.{Outcome, accepted}
+use Rattle.frames.specs.Ranges.{checked, ceiling_out, warmth_broken}
+use Rattle.frames.specs.Period.{period_hours, all_given}
 use Rattle.frames.proofs.RangeLaws.{period-le}
 use Rattle.account_spec.specs.declared.Season.{Season}
 use Rattle.account_spec.specs.declared.Sums.{Sums}
@@ -18,7 +19,7 @@ use Rattle.account_spec.specs.declared.Account.{Account}
 use Rattle.account_spec.specs.Limits.{most_hour, gap_each, most_aot40}
 use Rattle.account_spec.specs.HourKinds.{kind_out}
 use Rattle.account_spec.specs.Account.{is_fresh, is_closed, is_begun, is_refused, parameters_broken, is_broken, unmeasured_in, warmth_alone, carried_out, is_blank, any_of, sums_out, impossible}
-use Rattle.account_spec.specs.Steps.{Room}
+use Rattle.account_spec.specs.steps.Account.{Room}
 use Rattle.account_spec.proofs.CarriedLaws.{sum-le, total-in}
 
 -- sums that hours can give
@@ -33,7 +34,7 @@ pub record SumsIn (season : Season) (s : Sums) : Type 0 where
   pub aot40-most : s.most ≤ most_aot40 season * s.counted
   pub aot40-width : s.most ≤ s.least + most_aot40 season * s.missing
 
-pub record Possible (a : Account) : Type 0 where
+pub record PossibleFacts (a : Account) : Type 0 where
   pub header : is_begun a.phase ≡ true → checked (Record.Header a.season.header) ≡ accepted tt
   pub ceiling : is_begun a.phase ≡ true → ceiling_out a.season.ceiling ≡ false
   pub parameters : is_begun a.phase ≡ true → parameters_broken a.season ≡ false
@@ -85,7 +86,7 @@ module _ (season : Season) (s : Sums) where
   in-sums p = grind (arith, nat_tests)
 
 module _ (a : Account) where
-  pub possible-is : impossible a ≡ false → Possible a
+  pub possible-is : impossible a ≡ false → PossibleFacts a
   unfolding impossible
   possible-is e =
       let season = a.season in
@@ -108,7 +109,7 @@ module _ (a : Account) where
         given = then-true (is_closed a.phase) (all_given season.header a.sums.hours) rows.8;
       }
 
-  pub possible-false : Possible a → impossible a ≡ false
+  pub possible-false : PossibleFacts a → impossible a ≡ false
   unfolding impossible
   possible-false p =
       simp (
@@ -133,7 +134,7 @@ most_hour-le season = grind arith
 blank-last : (a : Account) → is_blank a ≡ true → a.season.header.last ≡ 0
 blank-last a e = grind (arith, nat_tests)
 
-hours-le : (a : Account) → Possible a → period_hours a.season.header ≤ 8784
+hours-le : (a : Account) → PossibleFacts a → period_hours a.season.header ≤ 8784
 hours-le a p = grind (arith, blank-last a, period-le a.season.header, p.blank, p.header)
 
 pub room-is : (a : Account) → impossible a ≡ false → Room a

@@ -1,22 +1,23 @@
--- A reading of the account that stands for a book: it gives the book's figures, and is right for every filling of its hours (W-207).
+-- A reading of the account that stands for a book: it gives the book's figures, and is right for
+-- every filling of its hours.
 use Rattle.account_spec.specs.declared.Totals.{Totals}
-use Rattle.records.specs.declared.Refusal.{Refusal}
+use Rattle.frames.specs.declared.records.Refusal.{Refusal}
 use Rattle.std.specs.Prelude.{Result, Ok, Err}
 use Prim.Native.Nat.{ℕ, ◌+◌, ◌-◌, ◌*◌, ◌≤◌}
 use mathlib.Core.Path.{◌≡◌, refl, sym, ap, ◌∙◌}
 use mathlib.Core.List.{List}
 use native.Mathlib.Omega.{arith}
-use Rattle.records.specs.declared.Hour.{Hour}
-use Rattle.records.specs.Ozone.{all_read_as, AllFill}
-use Rattle.records.specs.Answers.{accepted}
-use Rattle.records.proofs.AnswerLaws.{refused-not-accepted, accepted-same}
+use Rattle.frames.specs.declared.records.Hour.{Hour}
+use Rattle.frames.specs.Ozone.{all_read_as, AllFill}
+use Rattle.frames.specs.Answers.{accepted}
+use Rattle.frames.proofs.AnswerLaws.{refused-not-accepted, accepted-same}
 use Rattle.account_spec.specs.Limits.{most_hour, gap_each}
 use Rattle.account_spec.specs.Hours.{stand_in, none_carried}
 use Rattle.account_spec.specs.Enclosed.{AllRead, Encloses}
 use Rattle.account_spec.specs.Reading.{word_of, verdict_word, totals_of, read_of, Reads}
 use Rattle.account_spec.specs.Book.{Book, counted_of, excess_over, book_sums, pod_in}
 use Rattle.account_spec.specs.Promise.{FillingKept, ReadKept, TotalsKept}
-use Rattle.account_spec.specs.Steps.{account_of, Proper}
+use Rattle.account_spec.specs.steps.Account.{account_of, Proper}
 use Rattle.account_spec.proofs.SumsLaws.{missing-none}
 use Rattle.account_spec.proofs.HourLaws.{not_below-le}
 use Rattle.account_spec.proofs.EnclosedLaws.{season-fill, season-read, read-fill, read_same}

@@ -9,12 +9,12 @@ use native.Mathlib.Omega.{arith}
 use lib.Dec.{eqb}
 use Rattle.std.proofs.lemmas.Bool.Decides.{nat_tests}
 use lib.ListN.{get_or}
-use Rattle.records.specs.declared.Raw.{Raw}
-use Rattle.records.specs.declared.Refusal.{Refusal}
-use Rattle.records.specs.declared.Refusal.TheVariants.{Length, Digit, Kind, Turn, Tree, Year, Period, Level, Due, Range, Count, Buffer, Account, Place, Mixed, Tried, Ceiling, NoCeiling, Parameter, Warmth}
-use Rattle.records.specs.Answers.{refused, row_of}
-use Rattle.records.proofs.AnswerLaws.{and_both, or-either}
-use Rattle.records.specs.Ranges.{lacks_ceiling, ramps_out}
+use Rattle.frames.specs.declared.records.Raw.{Raw}
+use Rattle.frames.specs.declared.records.Refusal.{Refusal}
+use Rattle.frames.specs.declared.records.Refusal.TheVariants.{Length, Digit, Kind, Turn, Tree, Year, Period, Level, Due, Range, Count, Buffer, Account, Place, Mixed, Tried, Ceiling, NoCeiling, Parameter, Warmth}
+use Rattle.frames.specs.Answers.{refused, row_of}
+use Rattle.frames.proofs.AnswerLaws.{and_both, or-either}
+use Rattle.frames.specs.Ranges.{lacks_ceiling, ramps_out}
 use Rattle.frames.specs.Digits.{within}
 use Rattle.frames.specs.Layout.{ozone_of}
 use Rattle.frames.specs.Kinds.{among}

@@ -6,18 +6,18 @@ use Prim.Native.Nat.{ℕ}
 use mathlib.Core.List.{List}
 use native.Mathlib.Omega.{arith}
 use Rattle.trees.specs.declared.Warmth.{Warmth}
-use Rattle.records.specs.declared.Header.{Header}
-use Rattle.records.specs.declared.Raw.{Raw}
-use Rattle.records.specs.declared.RawHour.{RawHour}
-use Rattle.records.specs.declared.End.{End}
-use Rattle.records.specs.declared.Ceiling.{Ceiling}
-use Rattle.records.specs.declared.Record.{Record}
-use Rattle.records.specs.declared.Refusal.{Refusal}
-use Rattle.records.specs.Answers.{accepted, refused, row_of, outcome_of}
-use Rattle.measured.specs.declared.Parameters.{Parameters}
-use Rattle.records.proofs.AnswerLaws.{row-passed, onward-passed}
-use Rattle.records.specs.Parameters.{parameter_out}
-use Rattle.records.specs.Ranges.{checked, lacks_ceiling, ramps_out}
+use Rattle.frames.specs.declared.records.Header.{Header}
+use Rattle.frames.specs.declared.records.Raw.{Raw}
+use Rattle.frames.specs.declared.records.RawHour.{RawHour}
+use Rattle.frames.specs.declared.records.End.{End}
+use Rattle.frames.specs.declared.records.Ceiling.{Ceiling}
+use Rattle.frames.specs.declared.records.Record.{Record}
+use Rattle.frames.specs.declared.records.Refusal.{Refusal}
+use Rattle.frames.specs.Answers.{accepted, refused, row_of, outcome_of}
+use Rattle.trees.specs.declared.measured.Parameters.{Parameters}
+use Rattle.frames.proofs.AnswerLaws.{row-passed, onward-passed}
+use Rattle.frames.specs.Parameters.{parameter_out}
+use Rattle.frames.specs.Ranges.{checked, lacks_ceiling, ramps_out}
 use Rattle.frames.specs.Layout.{ozone_of}
 use Rattle.frames.specs.Frames.{parsed_of, sound_of, record_of}
 use Rattle.account_spec.specs.declared.Phase.{Phase}
@@ -32,7 +32,8 @@ use Rattle.account_spec.specs.Rules.{is_due, count_wrong, due_of, answer_of, fee
 pub fresh-false : (p : Phase) → (p ≡ Fresh → ⊥) → is_fresh p ≡ false
 fresh-false p k = grind (arith, k)
 
--- ---- a header's rows; row 15, then 9 and 18, before row 10; row 11; row 17; row 25; row 24, then 7
+-- ---- a header's rows; row 15, then 9 and 18, before row 10; row 11; row 17; row 25; row 24, then
+-- 7
 
 module _ (s : State) where
   pub header-in : (h : Header) → record_of s.season.header.tree (Raw.Header h) ≡ due_of s (Raw.Header h)

@@ -1,25 +1,27 @@
--- Every list of calls has a run, and its replies to the lines are the book's; document 01's evergreen day is such a list.
+-- Every list of calls has a run, and its replies to the lines are the book's; the evergreen's day
+-- of
+-- "Report" is such a list.
 use Rattle.std.specs.Prelude.{Ok, Err}
 use Prim.Native.Nat.{ℕ}
 use mathlib.Core.Path.{◌≡◌, refl, sym, ap, subst, ◌∙◌}
 use mathlib.Core.List.{List, [], ◌∷◌}
-use Rattle.records.specs.declared.Record.{Record}
-use Rattle.records.specs.Answers.{Outcome, accepted, refused, reply}
+use Rattle.frames.specs.declared.records.Record.{Record}
+use Rattle.frames.specs.Answers.{Outcome, accepted, refused, reply}
 use Rattle.frames.specs.Digits.{is_digit, value_of, all_digits, byte_at, number_at, digit_of}
 use Rattle.frames.specs.Kinds.{among, length_of}
-use Rattle.records.specs.Temperature.{signed_of, temperature_out}
+use Rattle.frames.specs.Temperature.{signed_of, temperature_out}
 use Rattle.frames.specs.Layout.{frame_of, frame_at, hour_of}
-use Rattle.records.specs.Ranges.{checked}
+use Rattle.frames.specs.Ranges.{checked}
 use Rattle.frames.specs.Frames.{parsed_of, sound_of, record_of}
 use Rattle.trees.specs.Figures.{figures_of}
-use Rattle.measured.specs.Figures.{figures_in}
+use Rattle.trees.specs.MeasuredFigures.{figures_in}
 use Rattle.account_spec.specs.declared.Account.{Account}
 use Rattle.account_spec.specs.Rules.{due_of, turn_of, answer_of, entered, left_by, Feeds, Fed}
 use Rattle.account_spec.specs.Reading.{totals_of}
 use Rattle.account_spec.specs.Book.{Book, empty_book, book_answer, book_next}
 use Rattle.account_spec.specs.Runs.{Event, fed, taken, Run, stop, feeds, reads, Call, line, reading, calls_of, RunOf, replies_of}
 use Rattle.account_spec.specs.Promise.{Kept, day_calls, acceptances, SeasonPromise}
-use Rattle.account_spec.specs.Steps.{account_of, Proper}
+use Rattle.account_spec.specs.steps.Account.{account_of, Proper}
 use Rattle.account_spec.proofs.BookLaws.{fresh-same}
 use Rattle.account_spec.proofs.EnclosedLaws.{list-enclosed, hours-enclosed}
 use Rattle.account_spec.proofs.RowLaws.{answer-row}

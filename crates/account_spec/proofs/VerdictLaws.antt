@@ -1,4 +1,5 @@
--- A verdict's word by the rule, and what "exceeded" and "below" say of the exact POD1 that the sums enclose.
+-- A verdict's word by the rule, and what "exceeded" and "below" say of the exact POD1 that the sums
+-- enclose.
 use Prim.Native.Nat.{ℕ, ◌*◌, ◌≤◌, ◌<◌}
 use mathlib.Core.Path.{◌≡◌}
 use mathlib.Core.Bool.{false}
@@ -6,7 +7,7 @@ use native.Mathlib.Omega.{arith}
 use native.Mathlib.Nat.{mul-le-mul_right}
 use Rattle.std.proofs.lemmas.Bool.Decides.{nat_tests}
 use Rattle.exact.specs.Frac.{Frac}
-use Rattle.flux_spec.specs.Dose.{NotAbove}
+use Rattle.dose_spec.specs.Dose.{NotAbove}
 use Rattle.account_spec.specs.declared.Phase.{Phase}
 use Rattle.account_spec.specs.declared.Season.{Season}
 use Rattle.account_spec.specs.declared.Sums.{Sums}

@@ -1,6 +1,6 @@
--- The kind of a season's hours (W-204): that of its first.
-use Rattle.std.specs.Prelude.{ℕ, Bool, ◌&&◌, not, eqb, ltb, cond, Option, Some, None}
-use Rattle.records.specs.declared.Air.{Air}
+-- The kind of a season's hours ("Station pressure"): that of its first.
+use Rattle.std.specs.Prelude.{ℕ, Bool, ◌&&◌, not, Option, Some, None, ◌==◌, nat_lt, if◌then◌else◌}
+use Rattle.frames.specs.declared.records.Air.{Air}
 use Rattle.frames.specs.Layout.{air_kind}
 use Rattle.account_spec.specs.declared.HourKind.{HourKind}
 use Rattle.account_spec.specs.declared.HourKind.TheVariants.{Deficit, Pressure, Humidity}
@@ -19,13 +19,15 @@ kind_number (Some Humidity) = 5
 
 -- the kind with that number
 abbrev pub numbered_kind : ℕ → Option HourKind
-numbered_kind n = cond (eqb n 2) (Some Deficit) (cond (eqb n 4) (Some Pressure) (cond (eqb n 5) (Some Humidity) None))
+numbered_kind n =
+    if n == 2 then Some Deficit
+    else (if n == 4 then Some Pressure else (if n == 5 then Some Humidity else None))
 
 -- row 15: a kind other than the season's first, 02, 04 or 05
 abbrev pub is_mixed : Option HourKind → Air → Bool
-is_mixed kind air = not (eqb (kind_number kind) 0) && not (eqb (kind_number kind) (air_kind air))
+is_mixed kind air = not (kind_number kind == 0) && not (kind_number kind == air_kind air)
 
 -- hours without a kind, or a kind without hours
 abbrev pub kind_out : Option HourKind → ℕ → Bool
-kind_out None hours = ltb 0 hours
-kind_out (Some kind) hours = eqb hours 0
+kind_out None hours = nat_lt 0 hours
+kind_out (Some kind) hours = hours == 0

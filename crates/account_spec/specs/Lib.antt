@@ -9,4 +9,6 @@ pub mod Reading
 pub mod Book
 pub mod Runs
 pub mod Promise
-pub mod Steps
+pub mod Lines
+pub mod FillingPromise
+pub mod steps

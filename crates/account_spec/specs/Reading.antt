@@ -1,7 +1,8 @@
--- Reading the account: the sums that it carries and the verdict, refused only by row 13 (document 01, "Account").
-use Rattle.std.specs.Prelude.{ℕ, ◌*◌, ◌≡◌, cond, List, [], ◌∷◌, ltb, leb, Result}
-use Rattle.records.specs.declared.Refusal.{Refusal}
-use Rattle.records.specs.Answers.{Outcome, accepted, row, outcome_of}
+-- Reading the account ("Account"): the sums that it carries and the verdict, refused only by row
+-- 13.
+use Rattle.std.specs.Prelude.{ℕ, ◌*◌, ◌≡◌, List, [], ◌∷◌, Result, nat_lt, nat_le, if◌then◌else◌}
+use Rattle.frames.specs.declared.records.Refusal.{Refusal}
+use Rattle.frames.specs.Answers.{Outcome, accepted, row, outcome_of}
 use Rattle.account_spec.specs.declared.Phase.{Phase}
 use Rattle.account_spec.specs.declared.Season.{Season}
 use Rattle.account_spec.specs.declared.Sums.{Sums}
@@ -26,21 +27,21 @@ below_word = 98 ∷ 101 ∷ 108 ∷ 111 ∷ 119 ∷ []
 abbrev pub undecided_word : List ℕ
 undecided_word = 117 ∷ 110 ∷ 100 ∷ 101 ∷ 99 ∷ 105 ∷ 100 ∷ 101 ∷ 100 ∷ []
 
--- document 01's word for each case of a verdict
+-- the word of each case of a verdict
 abbrev pub word_of : Verdict → List ℕ
 word_of None = none_word
 word_of Exceeded = exceeded_word
 word_of Below = below_word
 word_of Undecided = undecided_word
 
--- the rule, for words and for cases alike: fresh is "none"; lower above level × 10000 "exceeded"; upper at most that "below"; else "undecided"
+-- the rule, for words and for cases alike: fresh is "none"; lower above level × 10000 "exceeded";
+-- upper at most that "below"; else "undecided"
 abbrev by_rule : {A : Type 0} → A → A → A → A → Phase → Season → Sums → A
 by_rule none exceeded below undecided phase season sums =
     let level = season.header.level * 10000 in
-    cond (is_fresh phase) none
-    (cond (ltb level sums.lower) exceeded
-    (cond (leb sums.upper level) below
-    undecided))
+    if is_fresh phase then none
+    else (if nat_lt level sums.lower then exceeded
+    else (if nat_le sums.upper level then below else undecided))
 
 unfoldable pub verdict_word : Phase → Season → Sums → List ℕ
 verdict_word = by_rule none_word exceeded_word below_word undecided_word

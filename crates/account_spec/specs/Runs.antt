@@ -1,8 +1,9 @@
--- Lists of lines fed and readings taken (document 01, "The book of demand 3"): each call gets the account that the one before left.
+-- Lists of lines fed and readings taken ("The book"): each call gets the account that the one
+-- before left.
 use Rattle.std.specs.Prelude.{ℕ, ◌≡◌, List, [], ◌∷◌, Result, Ok, Err}
 use Rattle.account_spec.specs.declared.Totals.{Totals}
-use Rattle.records.specs.declared.Refusal.{Refusal}
-use Rattle.records.specs.Answers.{Outcome, accepted, refused, row_of}
+use Rattle.frames.specs.declared.records.Refusal.{Refusal}
+use Rattle.frames.specs.Answers.{Outcome, accepted, refused, row_of}
 use Rattle.account_spec.specs.declared.Account.{Account}
 use Rattle.account_spec.specs.Rules.{feed_of, left_by, Feeds, Fed}
 use Rattle.account_spec.specs.Reading.{Reads}
@@ -12,11 +13,16 @@ pub data Event : Type 0 where
   fed : List ℕ → Fed → Event
   taken : Result Totals Refusal → Event
 
--- each call gets the account that the one before left; each reply is tied by what `feed` or `read` promises, and by nothing else
+-- each call gets the account that the one before left; each reply is tied by what `feed` or `read`
+-- promises, and by nothing else
 pub data Run : Account → List Event → Type 0 where
   stop : {a : Account} → Run a []
-  feeds : {a : Account} {l : List ℕ} {r : Fed} {es : List Event} → Feeds a l r → Run (left_by r) es → Run a (fed l r ∷ es)
-  reads : {a : Account} {r : Result Totals Refusal} {es : List Event} → Reads a r → Run a es → Run a (taken r ∷ es)
+  feeds :
+      {a : Account} {l : List ℕ} {r : Fed} {es : List Event} → Feeds a l r → Run (left_by r) es →
+      Run a (fed l r ∷ es)
+  reads :
+      {a : Account} {r : Result Totals Refusal} {es : List Event} → Reads a r → Run a es →
+      Run a (taken r ∷ es)
 
 -- ---- runs of given calls
 
@@ -55,4 +61,6 @@ account_after a (taken r ∷ es) = account_after a es
 -- an account takes every line of a list, and is left as another
 pub data TakesAll : Account → List (List ℕ) → Account → Type 0 where
   none : {a : Account} → TakesAll a [] a
-  line : {a b c : Account} {l : List ℕ} {ls : List (List ℕ)} → feed_of a l ≡ accepted b → TakesAll b ls c → TakesAll a (l ∷ ls) c
+  line :
+      {a b c : Account} {l : List ℕ} {ls : List (List ℕ)} → feed_of a l ≡ accepted b →
+      TakesAll b ls c → TakesAll a (l ∷ ls) c

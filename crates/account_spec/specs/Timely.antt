@@ -1,8 +1,9 @@
--- The rows of an hour that look at no reading: 13, 4, 15 and 9 (W-214 tests the readings between these and row 18).
+-- The rows of an hour that look at no reading: 13, 4, 15 and 9. An hour of floats is tested by row
+-- 26 between these and row 18 ("Loggers that hold floats").
 use Rattle.std.specs.Prelude.{not}
-use Rattle.records.specs.declared.Raw.{Raw}
-use Rattle.records.specs.declared.RawHour.{RawHour}
-use Rattle.records.specs.Answers.{Outcome, accepted, row}
+use Rattle.frames.specs.declared.records.Raw.{Raw}
+use Rattle.frames.specs.declared.records.RawHour.{RawHour}
+use Rattle.frames.specs.Answers.{Outcome, accepted, row}
 use Rattle.account_spec.specs.declared.Account.{Account}
 use Rattle.account_spec.specs.declared.State.{State}
 use Rattle.account_spec.specs.HourKinds.{is_mixed}

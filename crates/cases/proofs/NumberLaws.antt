@@ -1,4 +1,5 @@
--- What hexadecimal digits say: 0 past the line's end, and below the power of 16 that their count gives.
+-- What hexadecimal digits say: 0 past the line's end, and below the power of 16 that their count
+-- gives.
 use Prim.Native.Nat.{ℕ, zero, suc, ◌+◌, ◌*◌, ◌^◌, ◌≤◌, ◌<◌}
 use mathlib.Core.Path.{◌≡◌}
 use mathlib.Core.List.{List}

@@ -1,9 +1,8 @@
-// Refusals as text.
+//! Refusals as text.
 use frames::Refusal;
 use std::fmt;
 
 // The field that a refusal names.
-// Kept: `answers` needs 0 for no field, as part of a code; here no field is no text.
 fn field_of(refusal: Refusal) -> Option<u8> {
     match refusal {
         Refusal::Range(field) | Refusal::Float(field) => Some(field),
@@ -11,9 +10,9 @@ fn field_of(refusal: Refusal) -> Option<u8> {
     }
 }
 
-// As `row 10 field 3`, the field where the refusal names one.
+/// As `row 10 field 3`, the field where the refusal names one.
 #[derive(Clone, Copy)]
-pub struct Row(pub Refusal);
+pub(crate) struct Row(pub(crate) Refusal);
 
 impl fmt::Display for Row {
     fn fmt<W: fmt::Write>(&self, f: &mut fmt::Formatter<W>) -> fmt::Result {
@@ -25,10 +24,9 @@ impl fmt::Display for Row {
     }
 }
 
-// As `refused 10 3`, the field where the refusal names one.
-// Kept: `Row` and this are two texts that outputs have, alike in the two numbers alone.
+/// As `refused 10 3`, the field where the refusal names one.
 #[derive(Clone, Copy)]
-pub struct Refused(pub Refusal);
+pub(crate) struct Refused(pub(crate) Refusal);
 
 impl fmt::Display for Refused {
     fn fmt<W: fmt::Write>(&self, f: &mut fmt::Formatter<W>) -> fmt::Result {

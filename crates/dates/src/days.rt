@@ -1,6 +1,7 @@
-// The model's days, computed in hundredths of a day: a tenth of a degree is 15 of them at the start and 20 at the end, a metre 1.
+//! The model's days, computed in hundredths of a day: a tenth of a degree is 15 of them at the
+//! start and 20 at the end, a metre 1.
 ghost use Rattle.std.specs.Prelude.{◌≡◌, ◌-◌};
-ghost use Rattle.dates_spec.specs.Model.{first_day, last_day};
+ghost use Rattle.dates.specs.Model.{first_day, last_day};
 
 // Tenths of a degree north of 50° N, and south of it; the one that does not apply is 0.
 fn north_and_south(latitude: u16) -> (u32, u32)
@@ -12,7 +13,7 @@ fn north_and_south(latitude: u16) -> (u32, u32)
 }
 
 // The model's start, rounded up.
-#[tactic(auto, using(dates_spec::proofs::ModelLaws::days))]
+#[tactic(auto, using(crate::proofs::ModelLaws::days))]
 pub(crate) fn first_day(latitude: u16, height: u16) -> u16
     ensures { result ≡ first_day latitude height }
 {
@@ -22,7 +23,7 @@ pub(crate) fn first_day(latitude: u16, height: u16) -> u16
 }
 
 // The model's end, rounded down.
-#[tactic(auto, using(dates_spec::proofs::ModelLaws::days))]
+#[tactic(auto, using(crate::proofs::ModelLaws::days))]
 pub(crate) fn last_day(latitude: u16, height: u16) -> u16
     ensures { result ≡ last_day latitude height }
 {

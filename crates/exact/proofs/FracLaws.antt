@@ -1,4 +1,5 @@
--- Fractions are ordered, sums and products keep the order, and the straight line lies between its ends and falls from the higher to the lower.
+-- Fractions are ordered, sums and products keep the order, and the straight line lies between its
+-- ends and falls from the higher to the lower.
 use Prim.Native.Nat.{ℕ, ◌+◌, ◌-◌, ◌*◌, ◌≤◌, ◌<◌, max}
 use mathlib.Core.Path.{◌≡◌}
 use mathlib.Core.Logic.{⊎_elim}

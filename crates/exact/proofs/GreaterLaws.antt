@@ -1,4 +1,5 @@
--- The greater of two fractions is above both, below what is above both, and never falls as the second grows; so with two numbers over one scale.
+-- The greater of two fractions is above both, below what is above both, and never falls as the
+-- second grows; so with two numbers over one scale.
 use Prim.Native.Nat.{ℕ, ◌*◌, max}
 use mathlib.Core.Bool.{Bool, true, false, not, cond}
 use native.Mathlib.Nat.{le_of_lt}

@@ -1,5 +1,5 @@
--- (n/(n - z))^n never rises as n grows; it is at least the series of exp(z), however many terms, and from some n on at most that of a number
--- as close above z as one likes.
+-- (n/(n - z))^n never rises as n grows; it is at least the series of exp(z), however many terms,
+-- and from some n on at most that of a number as close above z as one likes.
 use Prim.Native.Nat.{ℕ, zero, suc, ◌+◌, ◌-◌, ◌*◌, ◌^◌, ◌≤◌, ◌<◌, max}
 use mathlib.Core.Path.{◌≡◌, refl, ap}
 use native.Mathlib.Omega.{arith}

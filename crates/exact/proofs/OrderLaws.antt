@@ -1,4 +1,5 @@
--- Two numbers stand one way or the other, whichever is picked is at most what both are, and a power of 10 is not 0.
+-- Two numbers stand one way or the other, whichever is picked is at most what both are, and a power
+-- of 10 is not 0.
 use Prim.Native.Nat.{ℕ, ◌^◌, ◌≤◌, ◌<◌}
 use mathlib.Core.Bool.{Bool, true, false, cond}
 use mathlib.Core.Logic.{◌⊎◌, inl, inr}

@@ -1,4 +1,5 @@
--- `greatest` passes the test and nothing greater does; where a rising f t is held to r, it is the one t with f t ≤ r < f (t + 1).
+-- `greatest` passes the test and nothing greater does; where a rising f t is held to r, it is the
+-- one t with f t ≤ r < f (t + 1).
 use Prim.Native.Nat.{ℕ, zero, suc, ◌+◌, ◌≤◌, ◌<◌, zero-le}
 use mathlib.Core.Bool.{Bool}
 use native.Mathlib.Nat.{eq-or-lt_of_le}

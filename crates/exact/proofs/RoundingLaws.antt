@@ -1,5 +1,5 @@
--- Rounded up is the least whole number not below, rounded down the greatest not above; a number times a fraction, so rounded, encloses the product
--- and stays close to it.
+-- Rounded up is the least whole number not below, rounded down the greatest not above; a number
+-- times a fraction, so rounded, encloses the product and stays close to it.
 use Prim.Native.Nat.{ℕ, ◌+◌, ◌-◌, ◌*◌, ◌/◌, ◌≤◌, ◌<◌, max}
 use mathlib.Core.Path.{◌≡◌, ap}
 use native.Mathlib.Nat.{

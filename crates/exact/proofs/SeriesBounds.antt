@@ -1,4 +1,5 @@
--- exp(-n/d) at k by whole numbers: rounded down, and bounded from below at every k by one test at one of them; so the series is bounded from above.
+-- exp(-n/d) at k by whole numbers: rounded down, and bounded from below at every k by one test at
+-- one of them; so the series is bounded from above.
 use mathlib.Core.Path.{◌≡◌, ap, ap₂, sym, ◌∙◌}
 use Prim.Native.Nat.{ℕ, suc, ◌+◌, ◌-◌, ◌*◌, ◌/◌, ◌^◌, ◌≤◌, ◌<◌, max}
 use native.Mathlib.Nat.{pow-suc, mul-le-mul_left, mul-le-mul_right, le_of_mul-le-mul_right, le-add_right, le-add_left, mul-div-mul_right}

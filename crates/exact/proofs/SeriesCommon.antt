@@ -1,4 +1,5 @@
--- The series of exp(n/d) over the common denominator d^k·k!, on which it is computed and compared; it is `series_at`.
+-- The series of exp(n/d) over the common denominator d^k·k!, on which it is computed and compared;
+-- it is `series_at`.
 use mathlib.Core.Path.{◌≡◌, refl, ap}
 use Prim.Native.Nat.{ℕ, zero, suc, ◌+◌, ◌*◌, ◌^◌, ◌<◌, max}
 use native.Mathlib.Nat.{pow-zero, pow-suc, mul-pos, zero-lt-suc}

@@ -1,4 +1,5 @@
--- Sums and convolutions of sequences of numbers; `conv-step` is the binomial theorem without binomials.
+-- Sums and convolutions of sequences of numbers; `conv-step` is the binomial theorem without
+-- binomials.
 use mathlib.Core.Path.{◌≡◌, refl, ap}
 use Prim.Native.Nat.{ℕ, zero, suc, ◌+◌, ◌*◌, ◌≤◌}
 use native.Mathlib.Nat.{mul-le-mul_left, le_refl}
@@ -57,7 +58,8 @@ module _ (h : ℕ → ℕ) (grows : (k n : ℕ) → k ≤ n → h k ≤ h n) whe
       rw (sum_left f j)
       (omega (arith, mul-le-mul_left (f 0) (grows k (suc n) (omega arith)), conv-ge (λ i. f (suc i)) j k n (omega arith)))
 
--- ---- sequences in which each term is the one before it times x / (d * (i + 1)); the induction counts the first one's terms from a
+-- ---- sequences in which each term is the one before it times x / (d * (i + 1)); the induction
+-- counts the first one's terms from a
 pub conv-step :
     (d x y n a : ℕ) (f g : ℕ → ℕ) → ((i : ℕ) → i ≤ n → d * (a + suc i) * f (suc i) ≡ x * f i) →
     ((j : ℕ) → j ≤ n → d * suc j * g (suc j) ≡ y * g j) →

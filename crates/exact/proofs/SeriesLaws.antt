@@ -1,4 +1,5 @@
--- The series at k never falls as k grows, and its values multiply where its arguments add; 1 divided by it never rises.
+-- The series at k never falls as k grows, and its values multiply where its arguments add; 1
+-- divided by it never rises.
 use Prim.Native.Nat.{ℕ, zero, suc, ◌+◌, ◌*◌, ◌^◌, ◌≤◌, ◌<◌, zero-le, max}
 use mathlib.Core.Path.{◌≡◌, refl, ap}
 use native.Mathlib.Nat.{mul-pos, le_refl, mul-le-mul_left, zero-lt-suc}

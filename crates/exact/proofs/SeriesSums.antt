@@ -1,5 +1,7 @@
--- On the common denominator: S_k(x+y) ≤ S_k(x)·S_k(y), S_j(x)·S_k(y) ≤ S_n(x+y) where j + k ≤ n, and S_j ≤ S_k where j ≤ k.
--- The terms of S_k times one number are a sequence of whole numbers, and the convolution of two such sequences is one for x + y.
+-- On the common denominator: S_k(x+y) ≤ S_k(x)·S_k(y), S_j(x)·S_k(y) ≤ S_n(x+y) where j + k ≤ n,
+-- and S_j ≤ S_k where j ≤ k.
+-- The terms of S_k times one number are a sequence of whole numbers, and the convolution of two
+-- such sequences is one for x + y.
 use mathlib.Core.Path.{◌≡◌, refl, ap}
 use Prim.Native.Nat.{ℕ, zero, suc, ◌+◌, ◌-◌, ◌*◌, ◌^◌, ◌≤◌, ◌<◌}
 use native.Mathlib.Nat.{le_of_mul-le-mul_left, pow-zero, pow-suc, mul-pos, zero-lt-suc, mul-le-mul_right, le_refl}

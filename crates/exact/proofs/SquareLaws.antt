@@ -1,4 +1,5 @@
--- Squares keep the order both ways, and the square root of n, rounded down, is the one r with r² ≤ n < (r + 1)².
+-- Squares keep the order both ways, and the square root of n, rounded down, is the one r with
+-- r² ≤ n < (r + 1)².
 use mathlib.Core.Path.{◌≡◌}
 use Prim.Native.Nat.{ℕ, zero, suc, ◌+◌, ◌*◌, ◌≤◌, ◌<◌, zero-le}
 use native.Mathlib.Nat.{lt_of_mul-lt-mul_right, le-mul_of_pos_right, zero-lt-suc}

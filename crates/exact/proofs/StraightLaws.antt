@@ -1,4 +1,5 @@
--- The straight line is the same in finer steps, and e of its s steps are at most e/s of what it falls by.
+-- The straight line is the same in finer steps, and e of its s steps are at most e/s of what it
+-- falls by.
 use Prim.Native.Nat.{ℕ, ◌+◌, ◌-◌, ◌*◌, ◌≤◌, ◌<◌, max}
 use mathlib.Core.Path.{◌≡◌, ap}
 use mathlib.Core.Logic.{⊎_elim}

@@ -1,5 +1,5 @@
--- A number times a fraction, rounded: the one s with s ≤ product < s + 1; by the digits of the number; and near the product with a fraction that is a little
--- smaller.
+-- A number times a fraction, rounded: the one s with s ≤ product < s + 1; by the digits of the
+-- number; and near the product with a fraction that is a little smaller.
 use Prim.Native.Nat.{ℕ, ◌+◌, ◌*◌, ◌/◌, ◌%◌, ◌≤◌, ◌<◌}
 use mathlib.Core.Path.{◌≡◌, ap}
 use native.Mathlib.Nat.{div-eq_of_lt-le, div-add-mod', add-mul-div_right, lt-div-mul-add, mul-le-mul_right, mul-le-mul_left}

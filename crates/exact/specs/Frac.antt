@@ -1,5 +1,7 @@
--- Fractions of naturals, not in lowest terms; the denominator is never 0, so that an order is never vacuous.
-use Rattle.std.specs.Prelude.{ℕ, ◌+◌, ◌-◌, ◌*◌, ◌^◌, ◌≤◌, ◌<◌, max, ◌≡◌, cond, ltb, leb}
+-- Fractions of naturals, not in lowest terms; the denominator is never 0, so that an order is never
+-- vacuous.
+use Rattle.std.specs.Prelude.{ℕ, ◌+◌, ◌-◌, ◌*◌, ◌^◌, ◌≤◌, ◌<◌, max, ◌≡◌, nat_lt, nat_le}
+use Rattle.std.specs.Prelude.{if◌then◌else◌}
 use Rattle.std.proofs.Common.{mul-pos, arith}
 use Rattle.std.proofs.Math.Nat.{one-le-pow}
 use Rattle.exact.specs.declared.Fraction.{Fraction}
@@ -25,14 +27,26 @@ abbrev pub natural : ℕ → Frac
 natural n = record { num = n; den = 1; positive = omega arith }
 
 abbrev pub ◌⊕◌ : Frac → Frac → Frac
-x ⊕ y = record { num = x.num * y.den + y.num * x.den; den = x.den * y.den; positive = mul-pos x.positive y.positive }
+x ⊕ y = record {
+  num = x.num * y.den + y.num * x.den;
+  den = x.den * y.den;
+  positive = mul-pos x.positive y.positive;
+}
 
 -- x - y, or 0 where y is the greater
 abbrev pub ◌⊖◌ : Frac → Frac → Frac
-x ⊖ y = record { num = x.num * y.den - y.num * x.den; den = x.den * y.den; positive = mul-pos x.positive y.positive }
+x ⊖ y = record {
+  num = x.num * y.den - y.num * x.den;
+  den = x.den * y.den;
+  positive = mul-pos x.positive y.positive;
+}
 
 abbrev pub ◌⊗◌ : Frac → Frac → Frac
-x ⊗ y = record { num = x.num * y.num; den = x.den * y.den; positive = mul-pos x.positive y.positive }
+x ⊗ y = record {
+  num = x.num * y.num;
+  den = x.den * y.den;
+  positive = mul-pos x.positive y.positive;
+}
 
 -- 1 / x; x is not 0 where it is used
 abbrev pub inverse : Frac → Frac
@@ -61,7 +75,7 @@ pub record Between (low high x : Frac) : Type 0 where
 
 -- the greater of two
 abbrev pub greater : Frac → Frac → Frac
-greater x y = cond (leb (x.num * y.den) (y.num * x.den)) y x
+greater x y = if nat_le (x.num * y.den) (y.num * x.den) then y else x
 
 -- the same number, whatever its terms
 pub record ◌≈◌ (x y : Frac) : Type 0 where
@@ -76,6 +90,7 @@ pub record Is (r : Fraction) (x : Frac) : Type 0 where
   pub num : r.num ≡ x.num
   pub den : r.den ≡ x.den
 
--- the straight line from one percentage to another, d of s steps along it; past its end, and where it has no step, its end
+-- the straight line from one percentage to another, d of s steps along it; past its end, and where
+-- it has no step, its end
 unfoldable pub straight : ℕ → ℕ → ℕ → ℕ → Frac
-straight from to d s = cond (ltb d s) (((s - d) * from + d * to) over (100 * s)) (to over 100)
+straight from to d s = if nat_lt d s then ((s - d) * from + d * to) over (100 * s) else to over 100

@@ -1,4 +1,5 @@
--- exp(-z) at k (document 01, "The exact dose"): 1 divided by the first k+1 terms of the series of exp(z), for z = n/d. exp(z) as a power (document 02, W-205).
+-- What stands for the exponential at each k ("The exact dose"): for exp(-z), z = n/d, 1 divided by
+-- the first k+1 terms of the series of exp(z); for exp(z), z not under 0, a power.
 use Rattle.std.specs.Prelude.{ℕ, zero, suc, ◌*◌, ◌^◌}
 use Rattle.exact.specs.Frac.{Frac, natural, ◌over◌, ◌⊕◌, ◌⊖◌, ◌⊘◌, inverse, power}
 

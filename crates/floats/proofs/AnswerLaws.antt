@@ -1,18 +1,18 @@
 -- What `feed_floats` answers: the frame's answer, or row 26 after the rows that look at no reading.
 use Rattle.std.specs.Prelude.{Err}
 use Rattle.std.proofs.Common.{◌≡◌, ℕ, sym, refl, ap, ◌∙◌, subst}
-use Rattle.records.specs.declared.Raw.{Raw}
-use Rattle.records.specs.declared.RawHour.{RawHour}
-use Rattle.records.specs.declared.Refusal.{Refusal}
-use Rattle.records.specs.Answers.{Outcome, accepted, refused, onward, row_of}
-use Rattle.records.proofs.AnswerLaws.{refused-not-accepted, accepted-same, onward-passed}
+use Rattle.frames.specs.declared.records.Raw.{Raw}
+use Rattle.frames.specs.declared.records.RawHour.{RawHour}
+use Rattle.frames.specs.declared.records.Refusal.{Refusal}
+use Rattle.frames.specs.Answers.{Outcome, accepted, refused, onward, row_of}
+use Rattle.frames.proofs.AnswerLaws.{refused-not-accepted, accepted-same, onward-passed}
 use Rattle.account_spec.specs.declared.Account.{Account}
 use Rattle.account_spec.specs.Rules.{feed_frame_of, Answers, Fed}
 use Rattle.account_spec.specs.Timely.{timely_of}
-use Rattle.floats_spec.specs.declared.FloatReadings.{FloatReadings}
-use Rattle.floats_spec.specs.Numbers.{raw_of}
-use Rattle.floats_spec.specs.Feeding.{hour_at, feed_floats_of, wholes_of}
-use Rattle.floats_spec.proofs.FeedLaws.{feed-whole}
+use Rattle.floats.specs.declared.FloatReadings.{FloatReadings}
+use Rattle.floats.specs.Numbers.{raw_of}
+use Rattle.floats.specs.Feeding.{hour_at, feed_floats_of, wholes_of}
+use Rattle.floats.proofs.FeedLaws.{feed-whole}
 
 -- a step that refuses nothing
 refused-first : {A B : Type 0} (o : Outcome A) (f : A → B) (w : ℕ × ℕ) → refused w ≡ onward o (λ a. accepted (f a)) → o ≡ refused w

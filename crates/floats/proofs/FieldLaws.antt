@@ -1,19 +1,20 @@
--- A field's bytes by the cut number, and the seven fields together: the frame of the numbers, or row 26.
+-- A field's bytes by the cut number, and the seven fields together: the frame of the numbers, or
+-- row 26.
 use Rattle.std.specs.Prelude.{Option, Some, None, Result, Ok, Err, FitsSigned, unsigned_abs}
 use Rattle.std.specs.Int.{FitsUnsignedBits, w16}
 use Rattle.std.specs.Result.{OkIff, MatchResult, result_unwrap_or}
-use Rattle.records.specs.Temperature.{complement_of}
+use Rattle.frames.specs.Temperature.{complement_of}
 use Rattle.std.proofs.Common.{◌≡◌, ℕ, ◌-◌, ◌<◌, ◌≤◌, min, Bool, true, false, cond, ltb, ℤ, pos, negsuc, sym, refl, ap, ◌∙◌, arith, ltb-false, ltb-true, le-ltb, lt-ltb, w32, to_z, of_z, subst}
 use Rattle.std.proofs.Math.Facts.{to_z-of_z}
 use lib.Ieee.{Float}
-use Rattle.records.specs.declared.RawHour.{RawHour}
-use Rattle.records.specs.declared.Air.{Air}
-use Rattle.records.specs.Answers.{Outcome, accepted, refused, onward}
-use Rattle.floats_spec.specs.declared.FloatReadings.{FloatReadings}
-use Rattle.floats_spec.specs.Whole.{Wholeness, whole, broken, whole_of}
-use Rattle.floats_spec.specs.Numbers.{natural_bytes, complement_bytes, raw_of}
-use Rattle.floats_spec.specs.Feeding.{in_field, wholes_of}
-use Rattle.floats.specs.Steps.{cut}
+use Rattle.frames.specs.declared.records.RawHour.{RawHour}
+use Rattle.frames.specs.declared.records.Air.{Air}
+use Rattle.frames.specs.Answers.{Outcome, accepted, refused, onward}
+use Rattle.floats.specs.declared.FloatReadings.{FloatReadings}
+use Rattle.floats.specs.Whole.{Wholeness, whole, broken, whole_of}
+use Rattle.floats.specs.Numbers.{natural_bytes, complement_bytes, raw_of}
+use Rattle.floats.specs.Feeding.{in_field, wholes_of}
+use Rattle.floats.specs.steps.Floats.{cut}
 
 -- ---- one field
 

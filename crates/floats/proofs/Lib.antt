@@ -1,3 +1,7 @@
+pub mod WholeLaws
+pub mod RangeLaws
+pub mod FeedLaws
+pub mod PromiseLaws
 pub mod OrderLaws
 pub mod SizeLaws
 pub mod SignLaws

@@ -4,8 +4,8 @@ use Rattle.std.proofs.Common.{◌≡◌, ℕ, zero, suc, ◌+◌, ◌-◌, ◌*�
 use Rattle.std.proofs.Math.Facts.{to_z_pos, to_z-of_z}
 use lib.Ieee.{Float, nan, inf, fin, up, down, lt, le, neg}
 use lib.Ieee.Fits.{and_i, eq→eqb}
-use Rattle.floats_spec.specs.Whole.{signed, whole, broken, whole_of}
-use Rattle.floats.specs.Steps.{cut_size, cut}
+use Rattle.floats.specs.Whole.{signed, whole, broken, whole_of}
+use Rattle.floats.specs.steps.Floats.{cut_size, cut}
 use Rattle.floats.proofs.OrderLaws.{is_T, is-not, minus-size-zero}
 use Rattle.floats.proofs.SizeLaws.{size-whole}
 

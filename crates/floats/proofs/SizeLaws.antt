@@ -1,4 +1,5 @@
--- The size of a float that is not below 0: what a cast to an integer and back says of one below 2 ^ 24, and that every one from there on is whole.
+-- The size of a float that is not below 0: what a cast to an integer and back says of one below 2 ^
+-- 24, and that every one from there on is whole.
 use Rattle.std.specs.Prelude.{Some, None}
 use Rattle.std.proofs.Common.{◌≡◌, ℕ, zero, suc, ◌+◌, ◌-◌, ◌*◌, ◌/◌, ◌%◌, ◌^◌, ◌<◌, ◌≤◌, min, Bool, true, false, not, ◌&&◌, ◌||◌, T, eqb, ltb, leb, ℤ, pos, negsuc, sym, refl, ap, ◌∙◌, subst, true≢false, div-lt_iff_lt-mul, mul-le-mul_left, zero-mul, mul-one, arith, eqb→eq, ltb→lt, lt→ltb, T_not, pow_pos}
 use native.Mathlib.Nat.{eq_of_mul-eq-mul_right, zero-div}
@@ -7,8 +8,8 @@ use lib.Ieee.{Float, nan, inf, fin, binary32, up, down, lt, le, eq, to_unsigned,
 use lib.Ieee.Fits.{down_pos, and_i, and_l, and_r, eq→eqb}
 use lib.Ieee.Exact.{HasValue}
 use lib.Ieee.Back.{round_whole}
-use Rattle.floats_spec.proofs.WholeLaws.{divided, undivided, divided-back}
-use Rattle.floats.specs.Steps.{cut_size}
+use Rattle.floats.proofs.WholeLaws.{divided, undivided, divided-back}
+use Rattle.floats.specs.steps.Floats.{cut_size}
 use Rattle.floats.proofs.OrderLaws.{is_T, is-not, large-ge, minus-size-zero, small-lt}
 
 -- ---- from 2 ^ 24 on

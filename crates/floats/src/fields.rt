@@ -1,15 +1,16 @@
-// The frame that seven floats say, each turned to its field's two bytes.
+//! The frame that seven floats say, each turned to its field's two bytes.
 ghost use Rattle.std.specs.Prelude.{◌≡◌};
-ghost use Rattle.records.specs.Answers.{accepted, outcome_of, onward};
-ghost use Rattle.floats_spec.specs.Whole.{whole_of};
-ghost use Rattle.floats_spec.specs.Numbers.{natural_bytes, complement_bytes, raw_of};
-ghost use Rattle.floats_spec.specs.Feeding.{in_field, wholes_of};
+ghost use Rattle.frames.specs.Answers.{accepted, outcome_of, onward};
+ghost use Rattle.floats.specs.Whole.{whole_of};
+ghost use Rattle.floats.specs.Numbers.{natural_bytes, complement_bytes, raw_of};
+ghost use Rattle.floats.specs.Feeding.{in_field, wholes_of};
 
+use crate::FloatReadings;
 use crate::whole::whole_number;
-use floats_spec::FloatReadings;
 use frames::{Air, RawHour, Refusal};
 
-// A field from 0 up, by its number: row 26 where the float is no whole number, 65534, which row 10 refuses, where two bytes do not hold it.
+// A field from 0 up, by its number: row 26 where the float is no whole number, 65534, which row 10
+// refuses, where two bytes do not hold it.
 fn natural_field(field: u8, x: f32) -> Result<u16, Refusal>
     ensures { outcome_of result ≡ in_field field (whole_of x) (λ z. accepted (natural_bytes z)) }
 {

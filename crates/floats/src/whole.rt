@@ -1,12 +1,12 @@
-// The whole number that a float is, its size cut where no field needs more.
+//! The whole number that a float is, its size cut where no field needs more.
 ghost use Rattle.std.specs.Prelude.{◌≡◌, false, T, pos};
 ghost use Rattle.std.specs.Float.Ieee as Ieee;
 ghost use Rattle.std.specs.Float.{fin};
-ghost use Rattle.floats_spec.specs.Whole.{whole_of};
-ghost use Rattle.floats.specs.Steps.{cut_size, cut};
+ghost use Rattle.floats.specs.Whole.{whole_of};
+ghost use Rattle.floats.specs.steps.Floats.{cut_size, cut};
 
-// The size of an x that is not below 0, 16777216 where it is larger; none where x is not finite or not whole. From 2^24 on every f32 but the infinity is a
-// whole number.
+// The size of an x that is not below 0, 16777216 where it is larger; none where x is not finite or
+// not whole. From 2^24 on every f32 but the infinity is a whole number.
 fn size_of(x: f32) -> Option<u32>
     requires { T (Ieee.le (fin false 0 (pos 0)) x) }
     ensures { result ≡ cut_size x }

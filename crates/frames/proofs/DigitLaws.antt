@@ -11,7 +11,7 @@ use lib.ListN.{length, get_or, drop}
 use lib.Seq.{drop-cons}
 use Rattle.exact.proofs.OrderLaws.{le-or-lt}
 use Rattle.frames.specs.Digits.{is_digit, value_of, bits_of, all_digits}
-use Rattle.records.proofs.AnswerLaws.{and_both}
+use Rattle.frames.proofs.AnswerLaws.{and_both}
 
 -- where a byte lies: a decimal digit, a letter, or one of the three gaps
 pub data DigitCase (c : ℕ) : Type 0 where

@@ -7,16 +7,16 @@ use native.Mathlib.Nat.{le_of_eq}
 use native.Mathlib.Omega.{arith}
 use lib.Dec.{eqb}
 use lib.ListN.{length}
-use Rattle.records.specs.Answers.{accepted, refused}
+use Rattle.frames.specs.Answers.{accepted, refused}
 use Rattle.frames.specs.Digits.{all_digits, byte_at}
 use Rattle.frames.specs.Kinds.{one, kinds, size_of, is_length, length_of}
 use Rattle.frames.specs.Fields.{fields_at}
 use Rattle.frames.specs.Layout.{air_of, raw_hour_of, frame_of, frame_at}
-use Rattle.frames.specs.Steps.{IsHour, with_deficit, with_pressure, with_humidity, Sized}
+use Rattle.frames.specs.steps.Frames.{IsHour, with_deficit, with_pressure, with_humidity, Sized}
 use Rattle.frames.specs.Frames.{parsed_of}
 use Rattle.frames.proofs.KindLaws.{length-ge, kind-within}
-use Rattle.records.specs.declared.Air.{Air}
-use Rattle.records.specs.declared.Raw.{Raw}
+use Rattle.frames.specs.declared.records.Air.{Air}
+use Rattle.frames.specs.declared.records.Raw.{Raw}
 
 -- ---- a line by the first of rows 1 to 3 that refuses it
 

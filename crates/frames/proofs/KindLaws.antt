@@ -9,9 +9,9 @@ use borrow.Author.Tests.{eqb-true}
 use lib.Dec.{eqb}
 use lib.ListN.{length, get_or, get_or-eq_default}
 use Rattle.frames.specs.Kinds.{Width, one, kinds, widths_of, size_of, digits_in, lengths, longest, among, is_length, length_of}
-use Rattle.frames.specs.Steps.{IsHour, with_deficit, with_pressure, with_humidity}
+use Rattle.frames.specs.steps.Frames.{IsHour, with_deficit, with_pressure, with_humidity}
 use Rattle.exact.proofs.OrderLaws.{le-or-lt}
-use Rattle.records.proofs.AnswerLaws.{and_both, or-either}
+use Rattle.frames.proofs.AnswerLaws.{and_both, or-either}
 
 -- a test that every number of a list passes is passed by each that is among them
 abbrev pub all_pass : (ℕ → Bool) → List ℕ → Bool

@@ -1,3 +1,10 @@
+pub mod AnswerLaws
+pub mod NumberLaws
+pub mod BufferLaws
+pub mod CheckLaws
+pub mod OzoneLaws
+pub mod ParameterLaws
+pub mod SignedLaws
 pub mod DigitLaws
 pub mod ValueLaws
 pub mod KindLaws
@@ -6,3 +13,14 @@ pub mod RangeLaws
 pub mod TemperatureLaws
 pub mod ReadLaws
 pub mod RowLaws
+pub mod WrittenDigitLaws
+pub mod WrittenOzoneLaws
+pub mod FieldLaws
+pub mod WidthLaws
+pub mod LineLaws
+pub mod WriterLaws
+pub mod WriterRowLaws
+pub mod RoundTrip
+pub mod HourLineLaws
+pub mod ChunkLaws
+pub mod HourLaws

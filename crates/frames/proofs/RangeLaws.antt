@@ -12,26 +12,26 @@ use Rattle.trees.specs.declared.Figures.{Figures}
 use Rattle.trees.specs.declared.Warmth.{Warmth}
 use Rattle.trees.specs.Figures.{figures_of}
 use Rattle.trees.specs.Sound.{Sound}
-use Rattle.measured.specs.declared.Parameters.{Parameters}
-use Rattle.measured.specs.Parameters.{no_parameters}
-use Rattle.measured.specs.Figures.{measured_figures, figures_in}
-use Rattle.records.specs.Answers.{accepted}
-use Rattle.records.specs.Temperature.{temperature_out}
+use Rattle.trees.specs.declared.measured.Parameters.{Parameters}
+use Rattle.trees.specs.Parameters.{no_parameters}
+use Rattle.trees.specs.MeasuredFigures.{measured_figures, figures_in}
+use Rattle.frames.specs.Answers.{accepted}
+use Rattle.frames.specs.Temperature.{temperature_out}
 use Rattle.frames.specs.Layout.{vapour_number, soil_number}
-use Rattle.records.specs.Ozone.{tenths_or}
-use Rattle.records.specs.Numbers.{is_outside}
-use Rattle.records.specs.Ranges.{ozone_out, vapour_out, soil_out, pressure_out, period_out, warmth_out, checked}
-use Rattle.records.specs.Period.{period_hours}
-use Rattle.records.specs.declared.Header.{Header}
-use Rattle.records.specs.declared.Ceiling.{Ceiling}
-use Rattle.records.specs.declared.Air.{Air}
-use Rattle.records.specs.declared.Air.TheVariants.{Deficit, Pressure, Humidity}
-use Rattle.records.specs.declared.Soil.{Soil}
-use Rattle.records.specs.declared.Soil.TheVariants.{Suction, Water}
-use Rattle.records.specs.declared.Hour.{Hour}
-use Rattle.records.specs.declared.Record.{Record}
-use Rattle.records.proofs.AnswerLaws.{or-neither, row-passed, on_tree-passed}
-use Rattle.records.proofs.ParameterLaws.{parameters-sound, parameters-passed}
+use Rattle.frames.specs.Ozone.{tenths_or}
+use Rattle.frames.specs.Numbers.{is_outside}
+use Rattle.frames.specs.Ranges.{ozone_out, vapour_out, soil_out, pressure_out, period_out, warmth_out, checked}
+use Rattle.frames.specs.Period.{period_hours}
+use Rattle.frames.specs.declared.records.Header.{Header}
+use Rattle.frames.specs.declared.records.Ceiling.{Ceiling}
+use Rattle.frames.specs.declared.records.Air.{Air}
+use Rattle.frames.specs.declared.records.Air.TheVariants.{Deficit, Pressure, Humidity}
+use Rattle.frames.specs.declared.records.Soil.{Soil}
+use Rattle.frames.specs.declared.records.Soil.TheVariants.{Suction, Water}
+use Rattle.frames.specs.declared.records.Hour.{Hour}
+use Rattle.frames.specs.declared.records.Record.{Record}
+use Rattle.frames.proofs.AnswerLaws.{or-neither, row-passed, on_tree-passed}
+use Rattle.frames.proofs.ParameterLaws.{parameters-sound, parameters-passed}
 
 -- from low to high
 pub record Inside (low high n : ℕ) : Type 0 where

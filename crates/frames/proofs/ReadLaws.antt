@@ -1,4 +1,5 @@
--- A line that is read has passed rows 1 to 3, its record its own rows; an hour's soil is in the tree's measure.
+-- A line that is read has passed rows 1 to 3, its record its own rows; an hour's soil is in the
+-- tree's measure.
 use Rattle.std.specs.Prelude.{Some}
 use Prim.Native.Nat.{ℕ}
 use mathlib.Core.Path.{◌≡◌, sym}
@@ -8,18 +9,18 @@ use borrow.Author.Tests.{not-false, eqb-true}
 use lib.Dec.{eqb}
 use lib.ListN.{length}
 use Rattle.trees.specs.declared.Figures.{Figures}
-use Rattle.measured.specs.Parameters.{no_parameters}
-use Rattle.measured.specs.Figures.{figures_in}
-use Rattle.records.specs.Answers.{accepted}
-use Rattle.records.specs.Ranges.{checked}
-use Rattle.records.specs.declared.Raw.{Raw}
-use Rattle.records.specs.declared.RawHour.{RawHour}
-use Rattle.records.specs.declared.Record.{Record}
-use Rattle.records.proofs.AnswerLaws.{accepted-same, row-passed, onward-passed, on_tree-passed}
+use Rattle.trees.specs.Parameters.{no_parameters}
+use Rattle.trees.specs.MeasuredFigures.{figures_in}
+use Rattle.frames.specs.Answers.{accepted}
+use Rattle.frames.specs.Ranges.{checked}
+use Rattle.frames.specs.declared.records.Raw.{Raw}
+use Rattle.frames.specs.declared.records.RawHour.{RawHour}
+use Rattle.frames.specs.declared.records.Record.{Record}
+use Rattle.frames.proofs.AnswerLaws.{accepted-same, row-passed, onward-passed, on_tree-passed}
 use Rattle.frames.specs.Digits.{all_digits, byte_at}
 use Rattle.frames.specs.Kinds.{is_length, length_of}
 use Rattle.frames.specs.Layout.{frame_at, hour_of}
-use Rattle.frames.specs.Steps.{Sized}
+use Rattle.frames.specs.steps.Frames.{Sized}
 use Rattle.frames.specs.Frames.{parsed_of, sound_of, record_of}
 
 -- ---- a line that rows 1 to 3 let pass

@@ -8,20 +8,20 @@ use mathlib.Core.List.{List}
 use lib.Dec.{eqb, ltb}
 use lib.ListN.{length}
 use Rattle.trees.specs.declared.Figures.{Figures}
-use Rattle.measured.specs.Parameters.{no_parameters}
-use Rattle.measured.specs.Figures.{figures_in}
-use Rattle.records.specs.Answers.{Outcome, accepted, refused, onward}
+use Rattle.trees.specs.Parameters.{no_parameters}
+use Rattle.trees.specs.MeasuredFigures.{figures_in}
+use Rattle.frames.specs.Answers.{Outcome, accepted, refused, onward}
 use Rattle.frames.specs.Digits.{within, all_digits, byte_at}
 use Rattle.frames.specs.Kinds.{among, is_length, length_of}
-use Rattle.records.specs.Temperature.{temperature_out}
-use Rattle.records.specs.Numbers.{is_outside}
-use Rattle.records.specs.Parameters.{parameter_out}
-use Rattle.records.specs.Ranges.{on_tree, period_out, ozone_out, vapour_out, soil_out, pressure_out, warmth_out, checked}
+use Rattle.frames.specs.Temperature.{temperature_out}
+use Rattle.frames.specs.Numbers.{is_outside}
+use Rattle.frames.specs.Parameters.{parameter_out}
+use Rattle.frames.specs.Ranges.{on_tree, period_out, ozone_out, vapour_out, soil_out, pressure_out, warmth_out, checked}
 use Rattle.frames.specs.Frames.{parsed_of, sound_of, record_of, read_frame_of}
 use Rattle.frames.specs.Rows.{one_of, reader_rows, ReaderRows}
-use Rattle.records.specs.declared.Raw.{Raw}
-use Rattle.records.specs.declared.Record.{Record}
-use Rattle.records.proofs.AnswerLaws.{and_both, or-either, refused-not-accepted}
+use Rattle.frames.specs.declared.records.Raw.{Raw}
+use Rattle.frames.specs.declared.records.Record.{Record}
+use Rattle.frames.proofs.AnswerLaws.{and_both, or-either, refused-not-accepted}
 use Rattle.frames.proofs.KindLaws.{all_pass, among-passes}
 use Rattle.frames.proofs.FrameLaws.{length-out, digits-out, kind-out, kind-in}
 

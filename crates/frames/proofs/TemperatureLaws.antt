@@ -1,4 +1,5 @@
--- Two's complement in two bytes says every temperature from -500 to 600, and each number one temperature.
+-- Two's complement in two bytes says every temperature from -500 to 600, and each number one
+-- temperature.
 use Prim.Native.Nat.{ℕ, ◌-◌, ◌≤◌, ◌<◌}
 use mathlib.Core.Path.{◌≡◌, refl, sym, ap, ◌∙◌}
 use mathlib.Core.Bool.{false, or-false}
@@ -10,7 +11,7 @@ use lib.IntN.{ℤ, pos, negsuc}
 use mir.Syntax.{w16}
 use mir.Val.{to_z, of_z}
 use mir.ValLaws.{to_z_pos}
-use Rattle.records.specs.Temperature.{signed_of, complement_of, temperature_out}
+use Rattle.frames.specs.Temperature.{signed_of, complement_of, temperature_out}
 use Rattle.exact.proofs.OrderLaws.{le-or-lt}
 
 signed_low : (n : ℕ) → n < 32768 → signed_of n ≡ pos n
@@ -21,7 +22,7 @@ signed_high : (n : ℕ) → 32768 ≤ n → signed_of n ≡ negsuc (65535 - n)
 unfolding signed_of
 signed_high n h = simp (le-ltb n 32768 h)
 
--- the machine's two's complement is document 01's
+-- the machine's two's complement is the frames'
 pub signed-is : (n : ℕ) → to_z w16 n ≡ signed_of n
 signed-is n = ⊎_elim (λ p. rw (signed_high n p) (rw (le-ltb n 32768 p) (ap negsuc (omega arith)))) (λ p. rw (signed_low n p) (to_z_pos w16 n p)) (le-or-lt 32768 n)
 

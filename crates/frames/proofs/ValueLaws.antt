@@ -9,12 +9,12 @@ use lib.ListN.{length, get_or, set, length-set, replicate, get_or-replicate, len
 use lib.Seq.{get_or-set_same, get_or-set_other}
 use Rattle.frames.specs.Digits.{bits_of, all_digits}
 use Rattle.frames.specs.Kinds.{longest}
-use Rattle.frames.specs.Steps.{Values, Says}
+use Rattle.frames.specs.steps.Frames.{Values, SaysValues}
 use Rattle.exact.proofs.OrderLaws.{le-or-lt}
 use Rattle.frames.proofs.DigitLaws.{bits-lt, bits-value, digit_at}
 
 -- the first n values are those of the line's characters
-pub record ReadTo (l : List ℕ) (n : ℕ) (vs : List ℕ) : Type 0 where
+pub record ReadValues (l : List ℕ) (n : ℕ) (vs : List ℕ) : Type 0 where
   pub values : Values vs
   pub bits : (i : ℕ) → i < n → get_or vs i 0 ≡ bits_of (get_or l i 0)
 
@@ -25,10 +25,10 @@ zeros-small i =
     (λ h. omega (arith, get_or-replicate {A = ℕ} longest i 0 0 h))
     (le-or-lt longest i)
 
-pub read_none : (l : List ℕ) → ReadTo l 0 (replicate longest 0)
+pub read_none : (l : List ℕ) → ReadValues l 0 (replicate longest 0)
 read_none l = record { values = record { size = length-replicate {A = ℕ} longest 0; small = zeros-small }; bits = λ i h. absurd (omega arith) }
 
-module _ (l : List ℕ) (n : ℕ) (vs : List ℕ) (h : n < longest) (r : ReadTo l n vs) where
+module _ (l : List ℕ) (n : ℕ) (vs : List ℕ) (h : n < longest) (r : ReadValues l n vs) where
   abbrev more : List ℕ
   more = set vs n (bits_of (get_or l n 0))
 
@@ -43,7 +43,7 @@ module _ (l : List ℕ) (n : ℕ) (vs : List ℕ) (h : n < longest) (r : ReadTo 
       (λ gt. rw (get_or-set_other vs n i (bits_of (get_or l n 0)) 0 (λ e. absurd (omega arith))) (others i (λ e. absurd (omega arith))))
       (le-or-lt i n)
 
-  pub read_more : ReadTo l (n + 1) more
+  pub read_more : ReadValues l (n + 1) more
   read_more =
       record {
         values = record {
@@ -53,5 +53,5 @@ module _ (l : List ℕ) (n : ℕ) (vs : List ℕ) (h : n < longest) (r : ReadTo 
         bits = places (λ i v. i < n + 1 → v ≡ bits_of (get_or l i 0)) (λ i ne lt. r.bits i (omega (arith, ne))) (λ lt. refl);
       }
 
-pub read-says : (l vs : List ℕ) → ReadTo l (length l) vs → all_digits l ≡ true → Says vs l
+pub read-says : (l vs : List ℕ) → ReadValues l (length l) vs → all_digits l ≡ true → SaysValues vs l
 read-says l vs r d = record { values = λ i h. r.bits i h ∙ bits-value (get_or l i 0) (digit_at l i d h) }

@@ -1,9 +1,11 @@
--- The fields of a line (document 01, "Frames"): after the byte of its kind the kind's numbers in order, as wide as the table of Kinds has them.
+-- The fields of a line ("Frames"): after the byte of its kind the kind's numbers in order, as wide
+-- as the table of Kinds has them.
 use Rattle.std.specs.Prelude.{ℕ, ◌+◌, List, [], ◌∷◌}
 use Rattle.frames.specs.Digits.{byte_at, number_at, byte, number}
 use Rattle.frames.specs.Kinds.{Width, one, two, widths_of, size_of}
 
--- the number of this width at a place of the line l, and its digits before those of the rest of a line
+-- the number of this width at a place of the line l, and its digits before those of the rest of a
+-- line
 abbrev pub value_at : Width → ℕ → List ℕ → ℕ
 value_at one at l = byte_at at l
 value_at two at l = number_at at l

@@ -1,5 +1,6 @@
--- The kinds of frame: one table of the widths of their fields, and by it the digits of their lines (document 01, "Frames", rows 1 and 3).
-use Rattle.std.specs.Prelude.{ℕ, ◌+◌, max, Bool, false, ◌||◌, get_or, eqb}
+-- The kinds of frame ("Frames"): one table of the widths of their fields, and by it the digits of
+-- their lines, which rows 1 and 3 go by.
+use Rattle.std.specs.Prelude.{ℕ, ◌+◌, max, Bool, false, ◌||◌, ◌==◌, slice_index, slice_index_or}
 use mathlib.Core.List.{List, [], ◌∷◌, ◌++◌, map, foldr}
 
 -- a field is a byte or a two-byte number
@@ -18,33 +19,37 @@ hour_widths = two ∷ one ∷ two ∷ two ∷ two ∷ two ∷ two ∷ two ∷ tw
 abbrev end_widths : List Width
 end_widths = two ∷ []
 
--- 04: those of 02, then pressure (W-204)
+-- 04: those of 02, then pressure ("Station pressure")
 abbrev pressure_widths : List Width
 pressure_widths = hour_widths ++ two ∷ []
 
--- 05: those of 02, humidity in VPD's place (W-205)
+-- 05: those of 02, humidity in VPD's place ("Humidity in place of VPD")
 abbrev humidity_widths : List Width
 humidity_widths = hour_widths
 
--- 06: ozone ceiling (W-207)
+-- 06: ozone ceiling ("Hours without ozone")
 abbrev ceiling_widths : List Width
 ceiling_widths = two ∷ []
 
--- 07: a measured tree's sixteen parameters (W-212)
+-- 07: sixteen parameters ("A laboratory's own tree")
 abbrev parameter_widths : List Width
-parameter_widths = two ∷ two ∷ two ∷ two ∷ two ∷ two ∷ two ∷ two ∷ two ∷ two ∷ two ∷ two ∷ two ∷ two ∷ two ∷ two ∷ []
+parameter_widths =
+    two ∷ two ∷ two ∷ two ∷ two ∷ two ∷ two ∷ two ∷ two ∷ two ∷ two ∷ two ∷ two ∷ two ∷ two ∷ two
+    ∷ []
 
--- 08: rise, fall and end of leaf age by warmth (W-213)
+-- 08: rise, fall and end ("Leaf age by warmth")
 abbrev warmth_widths : List Width
 warmth_widths = two ∷ two ∷ two ∷ []
 
 -- the table, from kind 01 on: the widths of the fields that follow the kind's byte
 abbrev pub kinds : List (List Width)
-kinds = header_widths ∷ hour_widths ∷ end_widths ∷ pressure_widths ∷ humidity_widths ∷ ceiling_widths ∷ parameter_widths ∷ warmth_widths ∷ []
+kinds =
+    header_widths ∷ hour_widths ∷ end_widths ∷ pressure_widths ∷ humidity_widths ∷ ceiling_widths
+    ∷ parameter_widths ∷ warmth_widths ∷ []
 
 -- the widths of a kind's fields, none where there is no such kind
 abbrev pub widths_of : ℕ → List Width
-widths_of kind = get_or ([] ∷ kinds) kind []
+widths_of kind = slice_index_or ([] ∷ kinds) kind []
 
 -- ---- digits
 
@@ -73,7 +78,7 @@ longest = foldr max 0 lengths
 -- n is one of the list
 unfoldable pub among : List ℕ → ℕ → Bool
 among [] n = false
-among (m ∷ ms) n = eqb m n || among ms n
+among (m ∷ ms) n = m == n || among ms n
 
 -- some kind's lines have n digits
 abbrev pub is_length : ℕ → Bool
@@ -81,4 +86,4 @@ is_length n = among lengths n
 
 -- the digits of a kind's lines, 0 where there is no such kind
 unfoldable pub length_of : ℕ → ℕ
-length_of kind = get_or (0 ∷ lengths) kind 0
+length_of kind = slice_index (0 ∷ lengths) kind

@@ -1,23 +1,25 @@
--- What a line says (document 01, "Frames"): each kind's fields as a record, the frame of a line, the line of a record.
-use Rattle.std.specs.Prelude.{ℕ, cond, List, [], ◌∷◌, get_or, eqb, Option, Some, None}
+-- What a line says ("Frames"): each kind's fields as a record, the frame of a line, the line of a
+-- record.
+use Rattle.std.specs.Prelude.{ℕ, List, [], ◌∷◌, Option, Some, None, ◌==◌, slice_index}
+use Rattle.std.specs.Prelude.{if◌then◌else◌}
 use Rattle.trees.specs.declared.Measure.{Measure}
-use Rattle.measured.specs.Parameters.{parameter_numbers, parameters_of}
-use Rattle.measured.specs.Warmth.{warmth_numbers, warmth_of}
+use Rattle.trees.specs.Parameters.{parameter_numbers, parameters_of}
+use Rattle.trees.specs.Warmth.{warmth_numbers, warmth_of}
 use Rattle.frames.specs.Digits.{byte_at}
 use Rattle.frames.specs.Kinds.{one, widths_of}
 use Rattle.frames.specs.Fields.{digits_of, fields_at}
-use Rattle.records.specs.Temperature.{signed_of, complement_of}
-use Rattle.records.specs.declared.Header.{Header}
-use Rattle.records.specs.declared.Air.{Air}
-use Rattle.records.specs.declared.Air.TheVariants.{Deficit, Pressure, Humidity}
-use Rattle.records.specs.declared.Soil.{Soil}
-use Rattle.records.specs.declared.Soil.TheVariants.{Suction, Water}
-use Rattle.records.specs.declared.Hour.{Hour}
-use Rattle.records.specs.declared.RawHour.{RawHour}
-use Rattle.records.specs.declared.End.{End}
-use Rattle.records.specs.declared.Ceiling.{Ceiling}
-use Rattle.records.specs.declared.Raw.{Raw}
-use Rattle.records.specs.declared.Record.{Record}
+use Rattle.frames.specs.Temperature.{signed_of, complement_of}
+use Rattle.frames.specs.declared.records.Header.{Header}
+use Rattle.frames.specs.declared.records.Air.{Air}
+use Rattle.frames.specs.declared.records.Air.TheVariants.{Deficit, Pressure, Humidity}
+use Rattle.frames.specs.declared.records.Soil.{Soil}
+use Rattle.frames.specs.declared.records.Soil.TheVariants.{Suction, Water}
+use Rattle.frames.specs.declared.records.Hour.{Hour}
+use Rattle.frames.specs.declared.records.RawHour.{RawHour}
+use Rattle.frames.specs.declared.records.End.{End}
+use Rattle.frames.specs.declared.records.Ceiling.{Ceiling}
+use Rattle.frames.specs.declared.records.Raw.{Raw}
+use Rattle.frames.specs.declared.records.Record.{Record}
 
 -- ---- a record's numbers in the order of the line, and the record of such numbers
 
@@ -25,19 +27,25 @@ abbrev header_numbers : Header → List ℕ
 header_numbers h = h.tree ∷ h.days ∷ h.first ∷ h.last ∷ h.level ∷ []
 
 abbrev pub header_of : List ℕ → Header
-header_of ns = record { tree = get_or ns 0 0; days = get_or ns 1 0; first = get_or ns 2 0; last = get_or ns 3 0; level = get_or ns 4 0 }
+header_of ns = record {
+  tree = slice_index ns 0;
+  days = slice_index ns 1;
+  first = slice_index ns 2;
+  last = slice_index ns 3;
+  level = slice_index ns 4;
+}
 
 abbrev pub soil_number : Soil → ℕ
 soil_number (Suction n) = n
 soil_number (Water n) = n
 
--- FFFF is missing (W-207)
+-- FFFF is missing ("Hours without ozone")
 abbrev pub ozone_number : Option ℕ → ℕ
 ozone_number (Some n) = n
 ozone_number None = 65535
 
 abbrev pub ozone_of : ℕ → Option ℕ
-ozone_of n = cond (eqb n 65535) None (Some n)
+ozone_of n = if n == 65535 then None else Some n
 
 -- what the air says in VPD's place, and past soil
 abbrev pub vapour_number : Air → ℕ
@@ -51,31 +59,34 @@ past_soil (Pressure n p) = p ∷ []
 past_soil (Humidity n) = []
 
 abbrev pub hour_numbers : Hour → List ℕ
-hour_numbers h = h.day ∷ h.hour ∷ ozone_number h.ozone ∷ h.ppfd ∷ h.radiation ∷ complement_of h.temperature ∷ vapour_number h.air ∷ h.wind ∷ soil_number h.soil ∷ past_soil h.air
+hour_numbers h =
+    h.day ∷ h.hour ∷ ozone_number h.ozone ∷ h.ppfd ∷ h.radiation ∷ complement_of h.temperature
+    ∷ vapour_number h.air ∷ h.wind ∷ soil_number h.soil ∷ past_soil h.air
 
 -- the air of an hour frame's numbers, by its kind, 04, 05 or 02
 abbrev pub air_of : ℕ → List ℕ → Air
 air_of kind ns =
-    cond (eqb kind 4) (Pressure (get_or ns 6 0) (get_or ns 9 0)) (cond (eqb kind 5) (Humidity (get_or ns 6 0)) (Deficit (get_or ns 6 0)))
+    if kind == 4 then Pressure (slice_index ns 6) (slice_index ns 9)
+    else (if kind == 5 then Humidity (slice_index ns 6) else Deficit (slice_index ns 6))
 
 abbrev pub raw_hour_of : Air → List ℕ → RawHour
 raw_hour_of air ns = record {
-  day = get_or ns 0 0;
-  hour = get_or ns 1 0;
-  ozone = get_or ns 2 0;
-  ppfd = get_or ns 3 0;
-  radiation = get_or ns 4 0;
-  temperature = get_or ns 5 0;
+  day = slice_index ns 0;
+  hour = slice_index ns 1;
+  ozone = slice_index ns 2;
+  ppfd = slice_index ns 3;
+  radiation = slice_index ns 4;
+  temperature = slice_index ns 5;
   air = air;
-  wind = get_or ns 7 0;
-  soil = get_or ns 8 0;
+  wind = slice_index ns 7;
+  soil = slice_index ns 8;
 }
 
 abbrev pub end_of : List ℕ → End
-end_of ns = record { hours = get_or ns 0 0 }
+end_of ns = record { hours = slice_index ns 0 }
 
 abbrev pub ceiling_of : List ℕ → Ceiling
-ceiling_of ns = record { ozone = get_or ns 0 0 }
+ceiling_of ns = record { ozone = slice_index ns 0 }
 
 -- the soil number n in a measure, and the hour of a frame's numbers, its soil in that measure
 abbrev pub soil_of : Measure → ℕ → Soil
@@ -97,15 +108,16 @@ hour_of raw m = record {
 
 -- ---- a kind's frame and its line: a case for each kind
 
--- the frame of a kind with these numbers: a header, an end, a ceiling, parameters, warmth, else an hour
+-- the frame of a kind with these numbers: a header, an end, a ceiling, parameters, warmth, else an
+-- hour
 unfoldable pub frame_of : ℕ → List ℕ → Raw
 frame_of kind ns =
-    cond (eqb kind 1) (Raw.Header (header_of ns))
-    (cond (eqb kind 3) (Raw.End (end_of ns))
-    (cond (eqb kind 6) (Raw.Ceiling (ceiling_of ns))
-    (cond (eqb kind 7) (Raw.Parameters (parameters_of ns))
-    (cond (eqb kind 8) (Raw.Warmth (warmth_of ns))
-    (Raw.Hour (raw_hour_of (air_of kind ns) ns))))))
+    if kind == 1 then Raw.Header (header_of ns)
+    else (if kind == 3 then Raw.End (end_of ns)
+    else (if kind == 6 then Raw.Ceiling (ceiling_of ns)
+    else (if kind == 7 then Raw.Parameters (parameters_of ns)
+    else (if kind == 8 then Raw.Warmth (warmth_of ns)
+    else Raw.Hour (raw_hour_of (air_of kind ns) ns)))))
 
 unfoldable pub frame_at : List ℕ → Raw
 frame_at l = frame_of (byte_at 0 l) (fields_at (byte_at 0 l) l)

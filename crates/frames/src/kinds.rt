@@ -1,4 +1,6 @@
-// The number of digits of a line of each kind (rows 1 and 3), by the kind's number. A later kind is one more name in `widths`, where `KINDS` is the last, and one more arm here and in `frame_at`.
+//! The number of digits of a line of each kind (rows 1 and 3), by the kind's number. A later kind
+//! is one more name in `widths`, where `KINDS` is the last, and one more arm here and in
+//! `frame_at`.
 ghost use Rattle.std.specs.Prelude.{◌≡◌};
 ghost use Rattle.frames.specs.Kinds.{is_length, length_of};
 
@@ -8,8 +10,8 @@ use crate::widths::{
     WARMTH_KIND, WarmthLine,
 };
 
-// The digits of a line of a kind, 0 where there is no such kind.
-// Kept: the definition says 0 too, and no line that is read has 0 digits, so one comparison is enough; an enum of kinds would be one more match from the byte.
+// The digits of a line of a kind, 0 where there is no such kind: no line that is read has 0 digits,
+// so one comparison is enough.
 #[tactic(auto, unfolding(crate::specs::Kinds::length_of))]
 pub(crate) fn length_of(kind: u8) -> usize
     ensures { result ≡ length_of kind }
@@ -27,7 +29,7 @@ pub(crate) fn length_of(kind: u8) -> usize
     }
 }
 
-// Some kind has lines of so many digits.
+// Whether some kind has lines of so many digits.
 pub(crate) fn is_length(digits: usize) -> bool
     ensures { result ≡ is_length digits }
 {

@@ -1,9 +1,11 @@
-// The fields of a line, by their places, and the hour that an hour frame's numbers say.
+//! The fields of a line, by their places, and the hour that an hour frame's numbers say.
 ghost use Rattle.std.specs.Prelude.{◌≡◌, List, ℕ};
-ghost use Rattle.measured.specs.Parameters.{parameters_of};
-ghost use Rattle.measured.specs.Warmth.{warmth_of};
-ghost use Rattle.frames.specs.Steps.{Says, IsHour, Makes, Sized};
-ghost use Rattle.frames.specs.Layout.{ozone_number, ozone_of, vapour_number, soil_number, header_of, air_of, raw_hour_of, frame_at, air_kind, soil_of, hour_of};
+ghost use Rattle.trees.specs.Parameters.{parameters_of};
+ghost use Rattle.trees.specs.Warmth.{warmth_of};
+ghost use Rattle.frames.specs.steps.Frames.{SaysValues, IsHour, Makes, Sized};
+ghost use Rattle.frames.specs.Layout.{ozone_number, ozone_of, vapour_number, soil_number};
+ghost use Rattle.frames.specs.Layout.{header_of, air_of, raw_hour_of, frame_at, air_kind, soil_of};
+ghost use Rattle.frames.specs.Layout.{hour_of};
 
 use crate::digits::Line;
 use crate::widths::{
@@ -27,8 +29,9 @@ fn header_at(line: &Line) -> Header
     }
 }
 
-// An hour's air, by the kind of its frame. The pressure's place is read whatever the kind: no branch before it.
-// Kept: a kind is a line's byte, and an enum of an hour's kinds would be a match from the byte besides this one.
+// An hour's air, by the kind of its frame. The pressure's place is read whatever the kind: no
+// branch before it. The kind is the line's byte: an enum of an hour's kinds would be one more match
+// from it.
 #[tactic(auto, unfolding(crate::specs::Kinds::length_of))]
 fn air_at(kind: u8, line: &Line) -> Air
     ensures { IsHour kind → Makes line.now.values kind result (air_of kind) }
@@ -45,10 +48,11 @@ fn air_at(kind: u8, line: &Line) -> Air
     }
 }
 
-// Kept: the kind is the line's byte, passed on to `air_at`.
+// The kind is the line's byte, passed on to `air_at`.
 #[tactic(auto, unfolding(crate::specs::Kinds::length_of))]
 fn hour_at(kind: u8, line: &Line) -> RawHour
-    ensures { IsHour kind → Makes line.now.values kind result (λ ns. raw_hour_of (air_of kind ns) ns) }
+    ensures { IsHour kind →
+        Makes line.now.values kind result (λ ns. raw_hour_of (air_of kind ns) ns) }
 {
     RawHour {
         day: line.number_at(HourLine::DAY),
@@ -68,16 +72,16 @@ fn parameters_at(line: &Line) -> Parameters
     ensures { Makes line.now.values 7 result parameters_of }
 {
     Parameters {
-        gmax: line.number_at(ParameterLine::GMAX),
-        fmin: line.number_at(ParameterLine::FMIN),
-        lighta: line.number_at(ParameterLine::LIGHTA),
-        tmin: line.number_at(ParameterLine::TMIN),
-        topt: line.number_at(ParameterLine::TOPT),
-        tmax: line.number_at(ParameterLine::TMAX),
-        vpdmax: line.number_at(ParameterLine::VPDMAX),
-        vpdmin: line.number_at(ParameterLine::VPDMIN),
-        soilmax: line.number_at(ParameterLine::SOILMAX),
-        soilmin: line.number_at(ParameterLine::SOILMIN),
+        g_max: line.number_at(ParameterLine::GMAX),
+        f_min: line.number_at(ParameterLine::FMIN),
+        light_a: line.number_at(ParameterLine::LIGHTA),
+        t_min: line.number_at(ParameterLine::TMIN),
+        t_opt: line.number_at(ParameterLine::TOPT),
+        t_max: line.number_at(ParameterLine::TMAX),
+        vpd_max: line.number_at(ParameterLine::VPDMAX),
+        vpd_min: line.number_at(ParameterLine::VPDMIN),
+        soil_max: line.number_at(ParameterLine::SOILMAX),
+        soil_min: line.number_at(ParameterLine::SOILMIN),
         leaf: line.number_at(ParameterLine::LEAF),
         a: line.number_at(ParameterLine::A),
         e: line.number_at(ParameterLine::E),
@@ -98,9 +102,10 @@ fn warmth_at(line: &Line) -> Warmth
     }
 }
 
-// The frame of a line that rows 1 to 3 let pass, by its kind. One call of `hour_at` for every kind of hour: called at one place it is inlined.
+// The frame of a line that rows 1 to 3 let pass, by its kind. One call of `hour_at` for every kind
+// of hour: called at one place it is inlined.
 pub(crate) fn frame_at(line: &Line) -> Raw
-    ensures { (l : List ℕ) → Says line.now.values l → Sized l → result ≡ frame_at l }
+    ensures { (l : List ℕ) → SaysValues line.now.values l → Sized l → result ≡ frame_at l }
 {
     let kind = line.byte_at(KIND);
     match kind {
@@ -129,21 +134,22 @@ fn soil_of(measure: Measure, n: u16) -> Soil
     }
 }
 
-// A reading of ozone, out of the number in its place.
+/// A reading of ozone out of the number in its place: `FFFF` says that it is missing ("Hours
+/// without ozone").
 pub fn ozone_of(n: u16) -> Option<u16>
     ensures { result ≡ ozone_of n }
 {
     (n != 65535).then_some(n)
 }
 
-// The number in ozone's place.
-pub fn ozone_number(ozone: Option<u16>) -> u16
+/// The number in ozone's place: `FFFF` for a missing reading.
+pub(crate) fn ozone_number(ozone: Option<u16>) -> u16
     ensures { result ≡ ozone_number ozone }
 {
     ozone.unwrap_or(65535)
 }
 
-// The number in VPD's place.
+/// The number in VPD's place: a deficit in Pa, or humidity in tenths of a percent.
 pub fn vapour_number(air: Air) -> u16
     ensures { result ≡ vapour_number air }
 {
@@ -152,8 +158,8 @@ pub fn vapour_number(air: Air) -> u16
     }
 }
 
-// The kind of an hour's frame, by its air.
-// Kept: the byte itself is written and compared.
+/// The kind of an hour's frame, 2, 4 or 5, by its air.
+// The byte itself, since it is written and compared.
 pub fn air_kind(air: Air) -> u8
     ensures { result ≡ air_kind air }
 {
@@ -164,7 +170,7 @@ pub fn air_kind(air: Air) -> u8
     }
 }
 
-// A soil reading's number, in its measure's unit.
+/// A soil reading's number, in its measure's unit.
 pub fn soil_number(soil: Soil) -> u16
     ensures { result ≡ soil_number soil }
 {
@@ -173,8 +179,8 @@ pub fn soil_number(soil: Soil) -> u16
     }
 }
 
-// The hour of a frame's numbers, its soil in a measure.
-// Kept: the measure is a second argument, so no From can stand here, and a struct update takes its own type alone.
+/// The hour of a frame's numbers, its soil in a measure.
+// Field by field: the measure is a second argument, so no `From` can stand here.
 #[tactic(auto, unfolding(crate::specs::Layout::hour_of))]
 pub fn hour_of(raw: RawHour, measure: Measure) -> Hour
     ensures { result ≡ hour_of raw measure }

@@ -6,20 +6,20 @@ use denote.MutBor.{MutBor}
 use denote.Ref.{Bor}
 use Rattle.account_spec.specs.Account.{fresh_account}
 use Rattle.account_spec.specs.Promise.{SeasonPromise}
-use Rattle.filling_spec.specs.Promise.{FillingPromise}
-use Rattle.floats_spec.specs.declared.FloatReadings.{FloatReadings}
-use Rattle.floats_spec.proofs.PromiseLaws.{float-promise}
-use Rattle.stored_list.proofs.RunLaws.{listed-promise}
-use Rattle.answers.specs.declared.Printed.{Printed}
-use Rattle.answers.specs.declared.Readout.{Readout}
-use Rattle.answers.specs.declared.Tried.{Tried}
-use Rattle.part_spec.specs.Calls.{Stores}
-use Rattle.part_spec.specs.Trials.{TakesBytes}
-use Rattle.part_spec.specs.Told.{Told, CallTold, Calls}
-use Rattle.part_spec.specs.Promise.{PartPromise}
-use Rattle.part_spec.proofs.FloatLaws.{float-bytes-promise}
-use Rattle.part_spec.proofs.TakenLaws.{trial-bytes-promise}
-use Rattle.part_spec.proofs.PromiseLaws.{part-promise}
+use Rattle.account_spec.specs.FillingPromise.{FillingPromise}
+use Rattle.floats.specs.declared.FloatReadings.{FloatReadings}
+use Rattle.floats.proofs.PromiseLaws.{float-promise}
+use Rattle.stored.proofs.RunLaws.{listed-promise}
+use Rattle.stored.specs.declared.answers.Printed.{Printed}
+use Rattle.stored.specs.declared.answers.Readout.{Readout}
+use Rattle.stored.specs.declared.answers.Tried.{Tried}
+use Rattle.part.specs.Calls.{Stores}
+use Rattle.part.specs.Trials.{TakesBytes}
+use Rattle.part.specs.Told.{Told, CallTold, Calls}
+use Rattle.part.specs.Promise.{PartPromise}
+use Rattle.part.proofs.FloatLaws.{float-bytes-promise}
+use Rattle.part.proofs.TakenLaws.{trial-bytes-promise}
+use Rattle.part.proofs.PromiseLaws.{part-promise}
 use Rattle.part.proofs.pod1_fresh.Reads as fresh-reads
 use Rattle.part.proofs.pod1_feed.Reads as feed-reads
 use Rattle.part.proofs.pod1_read.Reads as read-reads
@@ -27,7 +27,7 @@ use Rattle.part.proofs.pod1_line.Reads as line-reads
 use Rattle.part.proofs.logger.pod1_feed_floats.Reads as floats-reads
 use Rattle.part.proofs.trials.pod1_trial.Reads as trial-reads
 use Rattle.part.proofs.trials.pod1_take.Reads as take-reads
-use Rattle.part.proofs.stand.pod1_feed_all.Reads as all-reads
+use Rattle.part.proofs.several.pod1_feed_all.Reads as all-reads
 
 -- bytes lent for a call
 abbrev pub lent : List ℕ → Bor (List ℕ)

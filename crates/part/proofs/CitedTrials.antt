@@ -1,11 +1,12 @@
--- The promise of trials in bytes, over trials and takings that are tied by the contracts of `pod1_trial` and `pod1_take`, as they stand at the functions.
+-- The promise of trials in bytes, over trials and takings that are tied by the contracts of
+-- `pod1_trial` and `pod1_take`, as they stand at the functions.
 use Prim.Native.Nat.{ℕ}
 use mathlib.Core.Path.{◌≡◌}
 use mathlib.Core.List.{List, []}
 use Rattle.stored.specs.Layout.{take_up_of}
-use Rattle.answers.specs.declared.Tried.{Tried}
-use Rattle.part_spec.specs.Trials.{TakenAsFed, TrialBytesPromise}
-use Rattle.part_spec.proofs.TakenLaws.{trial-bytes-promise}
+use Rattle.stored.specs.declared.answers.Tried.{Tried}
+use Rattle.part.specs.Trials.{TakenAsFed, TrialBytesPromise}
+use Rattle.part.proofs.TakenLaws.{trial-bytes-promise}
 use Rattle.part.proofs.Cited.{lent, lent-mut}
 use Rattle.part.proofs.trials.pod1_trial.Reads as trial-reads
 use Rattle.part.proofs.trials.pod1_take.Reads as take-reads

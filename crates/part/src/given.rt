@@ -1,11 +1,11 @@
-// The hour that a maker's numbers say.
+//! The hour that a maker's numbers say.
 ghost use Rattle.std.specs.Prelude.{◌≡◌};
-ghost use Rattle.part_spec.specs.Frames.{soil_from, hour_from};
+ghost use Rattle.part.specs.Frames.{soil_from, hour_from};
 
+use crate::HourReadings;
 use frames::{Air, Hour, Soil};
-use part_spec::HourReadings;
 
-// Kept for the C interface: soil's kind is a number beside its value; a From would take the two as a pair that names neither.
+// Soil's kind is a number beside its value, as C hands them.
 fn soil_from(water: u8, n: u16) -> Soil
     ensures { result ≡ soil_from water n }
 {
@@ -16,7 +16,7 @@ fn soil_from(water: u8, n: u16) -> Soil
     }
 }
 
-// Kept: the air is the call's, by its kind; a From would take readings and air as a pair, which is no plainer than two arguments.
+// The air is the call's, by the kind of frame that it writes.
 pub(crate) fn hour_from(readings: HourReadings, air: Air) -> Hour
     ensures { result ≡ hour_from readings air }
 {

@@ -1,4 +1,5 @@
--- What the tests say of the answer: figures that fit have their pair, worked out between Tmin and Tmax and f_min outside.
+-- What the tests say of the answer: figures that fit have their pair, worked out between Tmin and
+-- Tmax and f_min outside.
 use Rattle.std.specs.Prelude.{Option, Some, None}
 use Rattle.std.proofs.Common.{◌≡◌, ℕ, Bool, true, false, T, sym, ap, ◌∙◌, subst}
 use Rattle.exact.specs.declared.Bounds.{Bounds}

@@ -1,4 +1,5 @@
--- Where rounded powers decide the root: l ≤ r < l·(1 + q/t), and l·(1 + q/t) is not above what t + 1 gives.
+-- Where rounded powers decide the root: l ≤ r < l·(1 + q/t), and l·(1 + q/t) is not above what
+-- t + 1 gives.
 use Rattle.std.proofs.Common.{◌≡◌, ℕ, ◌+◌, ◌-◌, ◌*◌, ◌/◌, ◌^◌, ◌<◌, ◌≤◌, Bool, false, T, ltb, sym, ap, ◌∙◌, subst, le_trans, lt_of_lt_of_le, lt_of_le_of_lt, mul-le-mul_right, mul_assoc, lt_of_mul-lt-mul_right, mul-le-mul_left, mul-lt-mul_of_pos_right, mul-pos, div-mul-le_self, le_of_mul-le-mul_right, arith, ltb-true}
 use mathlib.Core.Path.{subst⁻¹}
 use native.Mathlib.Nat.{one-le-pow}
@@ -6,7 +7,7 @@ use Rattle.exact.proofs.MeanLaws.{bernoulli}
 use Rattle.std.proofs.lemmas.Nat.{mul-pow}
 use Rattle.power.specs.declared.terms.Terms.{Terms}
 use Rattle.power.specs.declared.rounded.Rounded.{Rounded}
-use Rattle.power.specs.Steps.{full, StandsFor, left, right, Decided, Certain}
+use Rattle.power.specs.steps.Power.{full, StandsFor, left, right, Decided, Certain}
 use Rattle.power.proofs.RoundedLaws.{full-pos}
 
 pub undecided : (l r : Rounded) (t q : ℕ) → Decided l r t q false
@@ -15,7 +16,8 @@ undecided l r t q = record { order = λ e. absurd (subst⁻¹ T e tt) }
 pub uncertain : (s : Terms) (t : ℕ) → Certain s t false
 uncertain s t = record { root = λ e. absurd (subst⁻¹ T e tt) }
 
--- ---- two rounded numbers with one exponent: m and k of v, n and l of w, P is a power of 2, u is m/t
+-- ---- two rounded numbers with one exponent: m and k of v, n and l of w, P is a power of 2, u is
+-- m/t
 
 module _ (B P m n k l v w : ℕ) (B-pos : 0 < B) where
   order_le : v * B ≤ (m + k) * P → n * P ≤ w * B → m + k ≤ n → v ≤ w

@@ -6,16 +6,16 @@ use Rattle.trees.specs.declared.Figures.{Figures}
 use Rattle.trees.specs.Sound.{Sound}
 use Rattle.trees.specs.Temperature.{temperature_pair}
 use Rattle.power.specs.Answers.{rising, is_power, in_ratio, fit, factor_of}
-use Rattle.power.specs.Steps.{Fits}
+use Rattle.power.specs.steps.Power.{Fits}
 
-pub rising-lt : (tmin topt tmax : ℕ) → T (rising tmin topt tmax) → (30 ≤ tmin) × (tmin < topt) × (topt < tmax) × (tmax ≤ 250)
-rising-lt tmin topt tmax h =
-    let low = and_l (leb 30 tmin && ltb tmin topt) (ltb topt tmax && leb tmax 250) h in
-    let high = and_r (leb 30 tmin && ltb tmin topt) (ltb topt tmax && leb tmax 250) h in (
-      leb→le 30 tmin (and_l (leb 30 tmin) (ltb tmin topt) low),
-      ltb→lt tmin topt (and_r (leb 30 tmin) (ltb tmin topt) low),
-      ltb→lt topt tmax (and_l (ltb topt tmax) (leb tmax 250) high),
-      leb→le tmax 250 (and_r (ltb topt tmax) (leb tmax 250) high),
+pub rising-lt : (t_min t_opt t_max : ℕ) → T (rising t_min t_opt t_max) → (30 ≤ t_min) × (t_min < t_opt) × (t_opt < t_max) × (t_max ≤ 250)
+rising-lt t_min t_opt t_max h =
+    let low = and_l (leb 30 t_min && ltb t_min t_opt) (ltb t_opt t_max && leb t_max 250) h in
+    let high = and_r (leb 30 t_min && ltb t_min t_opt) (ltb t_opt t_max && leb t_max 250) h in (
+      leb→le 30 t_min (and_l (leb 30 t_min) (ltb t_min t_opt) low),
+      ltb→lt t_min t_opt (and_r (leb 30 t_min) (ltb t_min t_opt) low),
+      ltb→lt t_opt t_max (and_l (ltb t_opt t_max) (leb t_max 250) high),
+      leb→le t_max 250 (and_r (ltb t_opt t_max) (leb t_max 250) high),
     )
 
 power_le : (n : ℕ) → T (is_power n) → (1 ≤ n) × (n ≤ 22)
@@ -28,29 +28,32 @@ pub fit-fits : (f : Figures) → T (fit f) → Fits f
 unfolding fit
 fit-fits f h =
     let powers : Bool = is_power f.p && is_power f.q in
-    let warm = rising-lt f.tmin f.topt f.tmax (and_l (rising f.tmin f.topt f.tmax) (powers && in_ratio f) h) in
-    let rest = and_r (rising f.tmin f.topt f.tmax) (powers && in_ratio f) h in
+    let warm = rising-lt f.t_min f.t_opt f.t_max (and_l (rising f.t_min f.t_opt f.t_max) (powers && in_ratio f) h) in
+    let rest = and_r (rising f.t_min f.t_opt f.t_max) (powers && in_ratio f) h in
     let both = and_l powers (in_ratio f) rest in
     record {
-      tmin = warm.0;
-      topt = warm.1;
-      tmax = (warm.2, warm.3);
+      t_min = warm.0;
+      t_opt = warm.1;
+      t_max = (warm.2, warm.3);
       p = power_le f.p (and_l (is_power f.p) (is_power f.q) both);
       q = power_le f.q (and_r (is_power f.p) (is_power f.q) both);
-      ratio = eqb→eq (f.p * (f.topt - f.tmin)) (f.q * (f.tmax - f.topt)) (and_r powers (in_ratio f) rest);
+      ratio = eqb→eq (f.p * (f.t_opt - f.t_min)) (f.q * (f.t_max - f.t_opt)) (and_r powers (in_ratio f) rest);
     }
+
+pub sound-fits : (f : Figures) → Sound f → Fits f
+sound-fits f s = record { t_min = s.t_min; t_opt = s.t_opt; t_max = s.t_max; p = s.p; q = s.q; ratio = s.ratio }
 
 sound-fit : (f : Figures) → Sound f → fit f ≡ true
 unfolding fit
 sound-fit f s =
     rw (
-      le-leb 30 f.tmin s.tmin,
-      lt-ltb f.tmin f.topt s.topt,
-      lt-ltb f.topt f.tmax s.tmax.0,
-      le-leb f.tmax 250 s.tmax.1,
+      le-leb 30 f.t_min s.t_min,
+      lt-ltb f.t_min f.t_opt s.t_opt,
+      lt-ltb f.t_opt f.t_max s.t_max.0,
+      le-leb f.t_max 250 s.t_max.1,
       power-true f.p s.p,
       power-true f.q s.q,
-      eq-eqb (f.p * (f.topt - f.tmin)) (f.q * (f.tmax - f.topt)) s.ratio,
+      eq-eqb (f.p * (f.t_opt - f.t_min)) (f.q * (f.t_max - f.t_opt)) s.ratio,
     )
 
 pub sound-factor : (f : Figures) → Sound f → (x : ℕ) → factor_of f x ≡ Some (temperature_pair f x)

@@ -6,4 +6,5 @@ mod CertainLaws
 pub mod FitLaws
 mod TermLaws
 mod AnswerLaws
-pub mod LowestLaws
+mod TableEntryLaws
+mod TrimmedLaws

@@ -4,7 +4,7 @@ use mathlib.Core.Path.{subst⁻¹}
 use native.Mathlib.Nat.{pow-zero}
 use native.Mathlib.Numerals.{unary_clauses}
 use Rattle.power.specs.declared.rounded.Rounded.{Rounded}
-use Rattle.power.specs.Steps.{StandsFor, IsProduct, IsOddProduct, IsStep}
+use Rattle.power.specs.steps.Power.{StandsFor, IsProduct, IsOddProduct, IsStep}
 
 -- ---- one factor more, or none
 

@@ -2,7 +2,7 @@
 use Rattle.std.proofs.Common.{◌<◌, ◌*◌, ◌^◌, ◌≤◌, zero-le, zero-mul}
 use Rattle.exact.proofs.PowerLaws.{zero-pow}
 use Rattle.power.specs.declared.terms.Terms.{Terms}
-use Rattle.power.specs.Steps.{left, right}
+use Rattle.power.specs.steps.Power.{left, right}
 
 pub zero-under : (s : Terms) → 0 < s.q → left s 0 ≤ right s
 unfolding left

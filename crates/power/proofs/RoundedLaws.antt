@@ -3,7 +3,7 @@ use Rattle.std.proofs.Common.{◌≡◌, ℕ, suc, ◌+◌, ◌-◌, ◌*◌, �
 use native.Mathlib.Nat.{one-le-pow}
 use lib.Count.{count_leading_zeros, leading_top}
 use Rattle.power.specs.declared.rounded.Rounded.{Rounded}
-use Rattle.power.specs.Steps.{full, IsHigh, StandsFor}
+use Rattle.power.specs.steps.Power.{full, IsHigh, StandsFor}
 
 -- ---- the product of two rounded numbers
 

@@ -7,43 +7,43 @@ use Rattle.trees.proofs.TemperatureRoot.{root_at-is}
 use Rattle.exact.proofs.MeanLaws.{mean-le}
 use Rattle.exact.proofs.PowerLaws.{pow-mul}
 use Rattle.power.specs.declared.terms.Terms.{Terms}
-use Rattle.power.specs.Asked.{Asked}
-use Rattle.power.specs.Steps.{Fits, AreTerms, left, right, IsRoot}
+use Rattle.power.specs.steps.Asked.{Asked}
+use Rattle.power.specs.steps.Power.{Fits, AreTerms, left, right, IsRoot}
 
-module _ (f : Figures) (x : ℕ) (fits : Fits f) (low : 10 * f.tmin < x) (high : x < 10 * f.tmax) where
+module _ (f : Figures) (x : ℕ) (fits : Fits f) (low : 10 * f.t_min < x) (high : x < 10 * f.t_max) where
   abbrev above : ℕ
-  above = x - 10 * f.tmin
+  above = x - 10 * f.t_min
 
   abbrev rise : ℕ
-  rise = 10 * (f.topt - f.tmin)
+  rise = 10 * (f.t_opt - f.t_min)
 
   abbrev below : ℕ
-  below = 10 * f.tmax - x
+  below = 10 * f.t_max - x
 
   abbrev fall : ℕ
-  fall = 10 * (f.tmax - f.topt)
+  fall = 10 * (f.t_max - f.t_opt)
 
   ratio : f.p * rise ≡ f.q * fall
-  ratio = tenfold f.p f.q (f.topt - f.tmin) (f.tmax - f.topt) fits.ratio
+  ratio = tenfold f.p f.q (f.t_opt - f.t_min) (f.t_max - f.t_opt) fits.ratio
     where
       tenfold : (p q d e : ℕ) → p * d ≡ q * e → p * (10 * d) ≡ q * (10 * e)
       tenfold p q d e h = omega arith
 
   at_most_one : above ^ f.q * below ^ f.p ≤ rise ^ f.q * fall ^ f.p
-  at_most_one = mean-le rise fall above below f.p f.q fits.p.0 fits.q.0 (omega (arith, fits.topt)) (omega (arith, fits.tmax)) ratio (omega (arith, fits.topt, fits.tmax))
+  at_most_one = mean-le rise fall above below f.p f.q fits.p.0 fits.q.0 (omega (arith, fits.t_opt)) (omega (arith, fits.t_max)) ratio (omega (arith, fits.t_opt, fits.t_max))
 
   one-too-much : 1000000000 ^ f.q * (above ^ f.q * below ^ f.p) < 1000000001 ^ f.q * (rise ^ f.q * fall ^ f.p)
   one-too-much =
       lt_of_le_of_lt (mul-le-mul_left (1000000000 ^ f.q) at_most_one)
       (mul-lt-mul_of_pos_right (pow-lt-pow_left {a = 1000000000} {b = 1000000001} (omega arith) (λ e. omega (arith, e, fits.q)))
-      (mul-pos (one-le-pow f.q rise (omega (arith, fits.topt))) (one-le-pow f.p fall (omega (arith, fits.tmax)))))
+      (mul-pos (one-le-pow f.q rise (omega (arith, fits.t_opt))) (one-le-pow f.p fall (omega (arith, fits.t_max)))))
 
   pub terms-asked : Asked above rise below fall f.p f.q
   terms-asked = record {
-    rise_in = (omega (arith, fits.topt), omega (arith, fits.tmin, fits.tmax));
-    fall_in = (omega (arith, fits.tmax), omega (arith, fits.tmin, fits.tmax));
-    above_in = (omega arith, omega (arith, fits.tmin, fits.tmax));
-    below_in = (omega arith, omega (arith, fits.tmin, fits.tmax));
+    rise_in = (omega (arith, fits.t_opt), omega (arith, fits.t_min, fits.t_max));
+    fall_in = (omega (arith, fits.t_max), omega (arith, fits.t_min, fits.t_max));
+    above_in = (omega arith, omega (arith, fits.t_min, fits.t_max));
+    below_in = (omega arith, omega (arith, fits.t_min, fits.t_max));
     p_in = fits.p.1;
     q_in = fits.q;
     most = one-too-much;
@@ -53,8 +53,8 @@ module _ {f : Figures} {x : ℕ} {s : Terms} (fits : Fits f) (are : AreTerms f x
   left_is : (t : ℕ) → left s t ≡ tried f x t
   unfolding left tried
   left_is t =
-      let r : s.rise ≡ (a f x).den = omega (arith, are.rise, fits.topt) in
-      let g : s.fall ≡ (w f x).den = omega (arith, are.fall, fits.tmax) in
+      let r : s.rise ≡ (a f x).den = omega (arith, are.rise, fits.t_opt) in
+      let g : s.fall ≡ (w f x).den = omega (arith, are.fall, fits.t_max) in
       ap₂ (λ (m n : ℕ). t ^ n * (m ^ n * s.fall ^ s.p)) r are.q ∙ ap₂ (λ (m n : ℕ). t ^ f.q * ((a f x).den ^ f.q * m ^ n)) g are.p
 
   right_is : right s ≡ allowed 9 f x

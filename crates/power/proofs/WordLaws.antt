@@ -1,10 +1,11 @@
--- Words of base 2³²: what a store, a product with one word and a comparison do to the number that they stand for.
+-- Words of base 2³²: what a store, a product with one word and a comparison do to the number that
+-- they stand for.
 use Rattle.std.proofs.Common.{◌≡◌, ℕ, zero, suc, ◌+◌, ◌*◌, ◌/◌, ◌%◌, ◌^◌, ◌<◌, ◌≤◌, Bool, leb, List, length, get_or, set, replicate, sym, refl, ap, ◌∙◌, ap₂, ⊎_elim, mul-le-mul_right, mul_assoc, mul-le-mul, eq-or-lt_of_le, pow-suc, mul-one, add-one, arith, get_or-set_other, get_or-set_same, le-leb}
 use native.Mathlib.Nat.{pow-le-pow_right}
 use native.Mathlib.Numerals.{unary_clauses}
 use borrow.Author.Tests.{lt-leb}
 use Rattle.exact.proofs.OrderLaws.{le-or-lt}
-use Rattle.power.specs.Steps.{worth, Holds, Settled}
+use Rattle.power.specs.steps.Power.{worth, Holds, Settled}
 
 worth-next : (i : ℕ) (a : List ℕ) → worth (i + 1) a ≡ worth i a + get_or a i 0 * 4294967296 ^ i
 unfolding worth

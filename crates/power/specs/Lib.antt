@@ -1,4 +1,3 @@
-pub mod Powers
 pub mod Answers
-pub mod Asked
-pub mod Steps
+pub mod Trimmed
+pub mod steps

@@ -1,4 +1,5 @@
-// A first guess at a·w^(p/q), with doubles. Nothing is shown of it but that it is from 1 to 10⁹: a wrong one costs time only.
+//! A first guess at a·w^(p/q), with doubles. Nothing is shown of it but that it is from 1 to 10⁹: a
+//! wrong one costs time only.
 ghost use Rattle.std.specs.Prelude.{◌<◌, ◌≤◌};
 
 use crate::terms::Terms;
@@ -51,8 +52,8 @@ fn value(s: Terms) -> f64 {
     1000000000.0 * a * exponential((s.p as f64) / (s.q as f64) * l) + 0.0001
 }
 
-// From 1 to 10⁹.
-// Kept: `search` and `is_certain` ask for these limits as well, each of a bare number; both would take the number out of a struct at once.
+// From 1 to 10⁹: a bare number, since `search` and `is_certain` would take it out of a struct at
+// once.
 pub(crate) fn guess(s: Terms) -> u32
     ensures { (0 < result) × (result ≤ 1000000000) }
 {

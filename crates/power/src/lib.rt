@@ -1,60 +1,54 @@
-// f_temp of a measured tree (document 02, W-212): worked out at nine decimals for any reading, nothing tabled; and p and q out of the temperatures.
-// Temperatures are whole degrees above -50 °C, a reading is tenths of a degree above -50.0 °C.
+//! f_temp ("Factors"): out of the table of one of the six trees, or worked out at nine decimals for
+//! a laboratory's own tree. A tree's temperatures are whole degrees above -50 °C, a reading is
+//! tenths of a degree above -50.0 °C.
 #![tactic(auto)]
 
+mod entries;
 mod guess;
+mod lookups;
 mod root;
 mod rounded;
+pub mod tables;
 mod terms;
+mod values;
 mod words;
 
 ghost use Rattle.std.specs.Prelude.{◌≡◌, ◌*◌, ◌<◌, ◌≤◌};
 ghost use Rattle.trees.specs.Temperature.{root_at, temperature_pair};
 ghost use Rattle.power.specs.Answers.{rising, is_power, in_ratio, fit, factor_of, SoundFactor};
-ghost use Rattle.power.specs.Powers.{lowest_p, lowest_q, both_small, powers_of, PowersFacts};
-ghost use Rattle.power.specs.Steps.{Fits, AreTerms};
+ghost use Rattle.power.specs.steps.Power.{Fits, AreTerms};
 
 use exact::Bounds;
 use root::root;
 use terms::Terms;
-use trees::Figures;
+use trees::{Figures, GREATEST_POWER};
 
 // One percent of f_min, in units of 10⁻⁹.
 const PERCENT: u64 = 10000000;
-
-// The greatest p and q.
-const MOST: u32 = 22;
 
 // -20 °C, the lowest Tmin, and 200 °C, the highest Tmax.
 const LOWEST: u16 = 30;
 
 const HIGHEST: u16 = 250;
 
-// p/q in lowest terms.
-#[derive(Clone, Copy, Default)]
-pub struct Ratio {
-    pub p: u16,
-    pub q: u16,
-}
-
-fn is_rising(tmin: u16, topt: u16, tmax: u16) -> bool
-    ensures { result ≡ rising tmin topt tmax }
+fn is_rising(t_min: u16, t_opt: u16, t_max: u16) -> bool
+    ensures { result ≡ rising t_min t_opt t_max }
 {
-    ((LOWEST <= tmin) & (tmin < topt)) & ((topt < tmax) & (tmax <= HIGHEST))
+    ((LOWEST <= t_min) & (t_min < t_opt)) & ((t_opt < t_max) & (t_max <= HIGHEST))
 }
 
 fn is_power(n: u16) -> bool
     ensures { result ≡ is_power n }
 {
-    (1 <= n) & ((n as u32) <= MOST)
+    (1 <= n) & ((n as u32) <= GREATEST_POWER)
 }
 
 fn is_in_ratio(f: Figures) -> bool
-    requires { (f.tmin < f.topt) × (f.topt < f.tmax) × (f.tmax ≤ 250) }
+    requires { (f.t_min < f.t_opt) × (f.t_opt < f.t_max) × (f.t_max ≤ 250) }
     ensures { result ≡ in_ratio f }
 {
-    let rise = (f.topt - f.tmin) as u32;
-    let fall = (f.tmax - f.topt) as u32;
+    let rise = (f.t_opt - f.t_min) as u32;
+    let fall = (f.t_max - f.t_opt) as u32;
     (f.p as u32) * rise == (f.q as u32) * fall
 }
 
@@ -62,113 +56,80 @@ fn is_in_ratio(f: Figures) -> bool
 fn is_fit(f: Figures) -> bool
     ensures { result ≡ fit f }
 {
-    is_rising(f.tmin, f.topt, f.tmax) && (is_power(f.p) & is_power(f.q)) & is_in_ratio(f)
+    is_rising(f.t_min, f.t_opt, f.t_max) && (is_power(f.p) & is_power(f.q)) & is_in_ratio(f)
 }
 
-fn terms_at(f: Figures, x: u16) -> Terms
-    requires { Fits f × (10 * f.tmin < x) × (x < 10 * f.tmax) }
-    ensures { AreTerms f x result }
+/// Figures whose temperatures and powers fit, so that f_temp can be worked out from them.
+#[derive(Clone, Copy)]
+pub struct Fitting {
+    /// The figures.
+    pub figures: Figures,
+    pub ghost fits: { Fits figures },
+}
+
+fn terms_at(own: Fitting, x: u16) -> Terms
+    requires { (10 * own.figures.t_min < x) × (x < 10 * own.figures.t_max) }
+    ensures { AreTerms own.figures x result }
 {
+    let f = own.figures;
     let t = x as u32;
     Terms {
-        above: t - 10 * (f.tmin as u32),
-        rise: 10 * ((f.topt - f.tmin) as u32),
-        below: 10 * (f.tmax as u32) - t,
-        fall: 10 * ((f.tmax - f.topt) as u32),
+        above: t - 10 * (f.t_min as u32),
+        rise: 10 * ((f.t_opt - f.t_min) as u32),
+        below: 10 * (f.t_max as u32) - t,
+        fall: 10 * ((f.t_max - f.t_opt) as u32),
         p: f.p as u32,
         q: f.q as u32,
     }
 }
 
-fn root_at(f: Figures, x: u16) -> u64
-    requires { Fits f × (10 * f.tmin < x) × (x < 10 * f.tmax) }
-    ensures { (result ≡ root_at 9 f x) × (result < 4294967296) }
+fn root_at(own: Fitting, x: u16) -> u64
+    requires { (10 * own.figures.t_min < x) × (x < 10 * own.figures.t_max) }
+    ensures { (result ≡ root_at 9 own.figures x) × (result < 4294967296) }
 {
-    root(terms_at(f, x)) as u64
+    root(terms_at(own, x)) as u64
 }
 
-// f_min as a pair.
-pub fn floor_of(fmin: u16) -> Bounds
-    ensures { (result.lower ≡ fmin * 10000000) × (result.upper ≡ fmin * 10000000) }
+/// f_min, given in percent, as a pair in units of 10⁻⁹: both numbers are it.
+pub fn floor_of(f_min: u16) -> Bounds
+    ensures { (result.lower ≡ f_min * 10000000) × (result.upper ≡ f_min * 10000000) }
 {
-    let least = (fmin as u64) * PERCENT;
+    let least = (f_min as u64) * PERCENT;
     Bounds {
         lower: least,
         upper: least,
     }
 }
 
-// Kept: `Fits` stands in three private functions of one chain; a struct adds a type and a field, and takes out one clause and a part of two.
+/// f_temp at tenths of a degree above -50.0 °C, of figures that fit, as a pair in units of 10⁻⁹
+/// that it lies between ("A laboratory's own tree").
 #[tactic(auto, unfolding(trees::specs::Temperature::temperature_pair))]
-fn pair_at(f: Figures, x: u16) -> Bounds
-    requires { Fits f }
-    ensures { result ≡ temperature_pair f x }
+pub fn fitting_f_temp(own: Fitting, x: u16) -> Bounds
+    ensures { result ≡ temperature_pair own.figures x }
 {
-    let floor = floor_of(f.fmin);
+    let f = own.figures;
+    let floor = floor_of(f.f_min);
     let t = x as u32;
-    if t <= 10 * (f.tmin as u32) {
+    if t <= 10 * (f.t_min as u32) {
         return floor;
     }
-    if 10 * (f.tmax as u32) <= t {
+    if 10 * (f.t_max as u32) <= t {
         return floor;
     }
-    let found = root_at(f, x);
+    let found = root_at(own, x);
     Bounds {
         lower: floor.lower.max(found),
         upper: floor.upper.max(found + 1),
     }
 }
 
-// f_temp at a reading, of figures whose temperatures and powers fit.
-pub fn f_temp(f: Figures, x: u16) -> Option<Bounds>
+/// The same of any figures; none where their temperatures do not rise or have not their p and q.
+pub fn worked_f_temp(f: Figures, x: u16) -> Option<Bounds>
     ensures value { result ≡ factor_of f x }
     ensures sound { SoundFactor f x result }
 {
     if is_fit(f) {
-        return Some(pair_at(f, x));
+        return Some(fitting_f_temp(Fitting { figures: f }, x));
     }
     None
-}
-
-// fall/rise in lowest terms: q grows until r, which is q·fall - p·rise, is 0.
-fn lowest_terms(rise: u32, fall: u32) -> Option<Ratio>
-    requires { (0 < rise) × (rise < 65536) × (fall < 65536) }
-    ensures { result ≡ both_small (lowest_p rise fall) (lowest_q rise fall) }
-{
-    let each = fall / rise;
-    let rest = fall % rise;
-    let mut p = each;
-    let mut r = rest;
-    for q in 1..MOST + 1 {
-        if r == 0 {
-            if p <= MOST {
-                return Some(Ratio {
-                    p: p as u16,
-                    q: q as u16,
-                });
-            }
-            return None;
-        }
-        p += each;
-        r += rest;
-        if rise <= r {
-            r -= rise;
-            p += 1;
-        }
-    }
-    None
-}
-
-// p/q out of the three temperatures; none where they do not rise, or p or q is above 22.
-pub fn powers(tmin: u16, topt: u16, tmax: u16) -> Option<Ratio>
-    ensures value { result ≡ powers_of tmin topt tmax }
-    ensures facts { PowersFacts tmin topt tmax result }
-{
-    if topt <= tmin {
-        return None;
-    }
-    if tmax <= topt {
-        return None;
-    }
-    lowest_terms((topt - tmin) as u32, (tmax - topt) as u32)
 }

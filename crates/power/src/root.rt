@@ -1,6 +1,6 @@
-// The root: the greatest t with t^q·rise^q·fall^p at most 10^(9q)·above^q·below^p.
+//! The root: the greatest t with t^q·rise^q·fall^p at most 10^(9q)·above^q·below^p.
 ghost use Rattle.std.specs.Prelude.{◌≡◌, ◌<◌, ◌≤◌, nat_le};
-ghost use Rattle.power.specs.Steps.{left, right, IsRoot, Between};
+ghost use Rattle.power.specs.steps.Power.{left, right, IsRoot, Between};
 
 use crate::guess::guess;
 use crate::rounded::is_certain;
@@ -11,7 +11,7 @@ use crate::words::{at_most, product};
 const ONE: u32 = 1000000000;
 
 // Whether t is not above the root, by the exact powers.
-#[tactic(auto, unfolding(crate::specs::Steps::left, crate::specs::Steps::right))]
+#[tactic(auto, unfolding(crate::specs::steps::Power::left, crate::specs::steps::Power::right))]
 fn passes(s: Terms, t: u32) -> bool
     ensures { result ≡ nat_le (left s t) (right s) }
 {
@@ -22,7 +22,8 @@ fn passes(s: Terms, t: u32) -> bool
     at_most(&tried, &allowed)
 }
 
-// Where to try next between low and high: a step away from the bound that was found last, or else the middle.
+// Where to try next between low and high: a step away from the bound that was found last, or else
+// the middle.
 fn next(low: u32, high: u32, step: u32) -> u32
     requires { (low < high) × (high ≤ 1000000001) × (0 < step) }
     ensures { Between low high result }
@@ -48,7 +49,7 @@ fn search(s: Terms, first: u32) -> u32
     let mut high: u32 = 1000000001;
     let mut probe = first;
     let mut step: u32 = 1;
-    // Kept: a bisection moves two bounds and counts nothing, so a `for` is no plainer.
+    // A `while`: a bisection moves two bounds and counts nothing.
     while 1 < high - low {
         let width = step;
         step = width.saturating_mul(2);

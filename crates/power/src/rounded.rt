@@ -1,6 +1,8 @@
-// Rounded products: a number's highest 64 bits, and how much it may be above them. They decide nearly every root without its exact powers.
+//! Rounded products: a number's highest 64 bits, and how much it may be above them. They decide
+//! nearly every root without its exact powers.
 ghost use Rattle.std.specs.Prelude.{◌+◌, ◌*◌, ◌^◌, ◌<◌, ◌≤◌};
-ghost use Rattle.power.specs.Steps.{IsHigh, StandsFor, Bounded, IsProduct, IsOddProduct, IsStep, Decided, Certain};
+ghost use Rattle.power.specs.steps.Power.{IsHigh, StandsFor, Bounded, IsProduct, IsOddProduct};
+ghost use Rattle.power.specs.steps.Power.{IsStep, Decided, Certain};
 
 use crate::terms::Terms;
 
@@ -8,7 +10,7 @@ use crate::terms::Terms;
 const HALF: u64 = 9223372036854775808;
 
 // From mantissa·2^exponent to (mantissa + short)·2^exponent, over 2⁶⁴.
-// Kept: the limits of `Bounded` differ from function to function, so no invariant here says them.
+// No invariant of the type: the limits of `Bounded` differ from function to function.
 #[derive(Clone, Copy)]
 pub(crate) struct Rounded {
     mantissa: u64,
@@ -81,7 +83,8 @@ fn step(before: Rounded, x: Rounded, y: Rounded, q: u32, p: u32) -> Rounded
 }
 
 // x^q·y^p.
-// Kept: the most that `short` may be grows from step to step (56, 952, 15288, ..), so a loop's invariant would list it for each.
+// Five steps written out: the most that `short` may be grows from one to the next (56, 952, 15288,
+// ..), so a loop's invariant would list it for each.
 fn powers_of(x: u64, y: u64, q: u32, p: u32) -> Rounded
     requires { (0 < x) × (0 < y) × (q < 32) × (p < 32) }
     ensures { StandsFor (x ^ q * y ^ p) result }

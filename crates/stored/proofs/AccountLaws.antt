@@ -13,9 +13,9 @@ use mir.Val.{SFits}
 use lib.ListN.{length, get_or, take, drop, length-append, take-append-drop}
 use lib.Seq.{sets, sets-eq}
 use Rattle.std.proofs.lemmas.List.{drop_all}
-use Rattle.records.specs.Answers.{accepted}
-use Rattle.records.specs.Temperature.{signed_of, complement_of}
-use Rattle.records.proofs.AnswerLaws.{row-passed, accepted-same}
+use Rattle.frames.specs.Answers.{accepted}
+use Rattle.frames.specs.Temperature.{signed_of, complement_of}
+use Rattle.frames.proofs.AnswerLaws.{row-passed, accepted-same}
 use Rattle.frames.proofs.TemperatureLaws.{complement-signed}
 use Rattle.account_spec.specs.declared.Phase.{Phase}
 use Rattle.account_spec.specs.declared.HourKind.{HourKind}

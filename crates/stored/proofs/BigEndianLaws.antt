@@ -1,4 +1,5 @@
--- A number's bytes: below what bound one more is; the library's bytes of a number, and its number of bytes.
+-- A number's bytes: below what bound one more is; the library's bytes of a number, and its number
+-- of bytes.
 use Prim.Native.Nat.{ℕ, zero, suc, ◌+◌, ◌-◌, ◌*◌, ◌/◌, ◌%◌, ◌^◌, ◌≤◌, ◌<◌}
 use mathlib.Core.Path.{◌≡◌, refl, ap, ◌∙◌}
 use mathlib.Core.List.{List, [], ◌∷◌, ◌++◌, append-nil}
@@ -75,8 +76,8 @@ abbrev pub noughts : ℕ → List ℕ
 noughts zero = []
 noughts (suc n) = 0 ∷ noughts n
 
-abbrev pub zeros : List ℕ
-zeros = noughts 8
+abbrev pub eight_zeros : List ℕ
+eight_zeros = noughts 8
 
 nought-at : (n i : ℕ) → get_or (noughts n) i 0 ≡ 0
 nought-at zero i = refl
@@ -84,32 +85,32 @@ nought-at (suc n) zero = refl
 nought-at (suc n) (suc i) = nought-at n i
 
 module _ (k w at : ℕ) (b post : List ℕ) (few : k ≤ 8) (room : at + w ≤ length b) where
-  front-length : length (take k zeros) ≡ k
-  front-length = length-take-le k zeros few
+  front-length : length (take k eight_zeros) ≡ k
+  front-length = length-take-le k eight_zeros few
 
   part-length : length (take w (drop at b)) ≡ w
   part-length = length-take-le w (drop at b) (rw length-drop (omega (arith, room)))
 
-  before : (i : ℕ) → i < k → get_or (take k zeros ++ (take w (drop at b) ++ post)) i 0 ≡ 0
-  before i h = get_or-append (take k zeros) _ 0 i (omega (arith, h, front-length)) ∙ get_or-take k zeros i 0 h ∙ nought-at 8 i
+  before : (i : ℕ) → i < k → get_or (take k eight_zeros ++ (take w (drop at b) ++ post)) i 0 ≡ 0
+  before i h = get_or-append (take k eight_zeros) _ 0 i (omega (arith, h, front-length)) ∙ get_or-take k eight_zeros i 0 h ∙ nought-at 8 i
 
-  after : (i : ℕ) → i < w → get_or (take k zeros ++ (take w (drop at b) ++ post)) (k + i) 0 ≡ get_or b (at + i) 0
+  after : (i : ℕ) → i < w → get_or (take k eight_zeros ++ (take w (drop at b) ++ post)) (k + i) 0 ≡ get_or b (at + i) 0
   after i h =
       let less : k + i - k ≡ i = omega arith in
-      get_or-append_right (take k zeros) (take w (drop at b) ++ post) k (k + i) 0 front-length (omega arith)
+      get_or-append_right (take k eight_zeros) (take w (drop at b) ++ post) k (k + i) 0 front-length (omega arith)
       ∙ ap (λ (n : ℕ). get_or (take w (drop at b) ++ post) n 0) less
       ∙ get_or-append (take w (drop at b)) post 0 i (omega (arith, h, part-length))
       ∙ get_or-take w (drop at b) i 0 h
       ∙ get_or-drop at b i 0
 
-  placed : big_endian_at (k + w) 0 (take k zeros ++ (take w (drop at b) ++ post)) ≡ big_endian_at w at b
+  placed : big_endian_at (k + w) 0 (take k eight_zeros ++ (take w (drop at b) ++ post)) ≡ big_endian_at w at b
   placed = from-end k w at _ b (none-before k _ before) after
 
 pub read-from-end : (w at : ℕ) (b post : List ℕ) → w ≤ 8 → at + w ≤ length b
-    → from_be_bytes w64 (take (8 - w) zeros ++ (take (at + w - at) (drop at b) ++ post)) ≡ big_endian_at w at b
+    → from_be_bytes w64 (take (8 - w) eight_zeros ++ (take (at + w - at) (drop at b) ++ post)) ≡ big_endian_at w at b
 read-from-end w at b post h room =
     let all : 8 ≡ 8 - w + w = omega (arith, h) in
     let width : at + w - at ≡ w = omega arith in
-    let l = take (8 - w) zeros ++ (take w (drop at b) ++ post) in
-    ap (λ (n : ℕ). from_be_bytes w64 (take (8 - w) zeros ++ (take n (drop at b) ++ post))) width
+    let l = take (8 - w) eight_zeros ++ (take w (drop at b) ++ post) in
+    ap (λ (n : ℕ). from_be_bytes w64 (take (8 - w) eight_zeros ++ (take n (drop at b) ++ post))) width
     ∙ eight-is l ∙ ap (λ (n : ℕ). big_endian_at n 0 l) all ∙ placed (8 - w) w at b post (omega (arith, h)) room

@@ -1,4 +1,5 @@
--- A phase, a kind and a running total are those of their numbers, and a number that one of them has is its number.
+-- A phase, a kind and a running total are those of their numbers, and a number that one of them has
+-- is its number.
 use Rattle.std.specs.Prelude.{Option, Some, None, Result, Ok, Err, cond, not, ltb, ok_or}
 use Prim.Native.Nat.{ℕ, zero, suc, ◌%◌, ◌≤◌, ◌<◌}
 use mathlib.Core.Path.{◌≡◌, refl}
@@ -11,10 +12,10 @@ use Rattle.std.proofs.lemmas.Bool.Decides.{nat_tests}
 use lib.IntN.{ℤ, pos, negsuc}
 use mir.Syntax.{w16}
 use mir.Val.{SFits}
-use Rattle.records.specs.declared.Refusal.{Refusal}
-use Rattle.records.specs.Answers.{Outcome, accepted, refused, row, row_of, outcome_of}
-use Rattle.records.specs.Temperature.{signed_of, complement_of}
-use Rattle.records.proofs.AnswerLaws.{or-either}
+use Rattle.frames.specs.declared.records.Refusal.{Refusal}
+use Rattle.frames.specs.Answers.{Outcome, accepted, refused, row, row_of, outcome_of}
+use Rattle.frames.specs.Temperature.{signed_of, complement_of}
+use Rattle.frames.proofs.AnswerLaws.{or-either}
 use Rattle.account_spec.specs.declared.Phase.{Phase}
 use Rattle.account_spec.specs.declared.HourKind.{HourKind}
 use Rattle.account_spec.specs.declared.HourKind.TheVariants.{Deficit, Pressure, Humidity}

@@ -10,10 +10,10 @@ use native.Mathlib.Omega.{arith}
 use lib.ListN.{length, get_or, take}
 use lib.Seq.{length-take-le}
 use Rattle.std.proofs.lemmas.List.{get_or-take}
-use Rattle.records.specs.Temperature.{signed_of}
-use Rattle.records.specs.declared.Refusal.{Refusal}
-use Rattle.records.specs.Answers.{Outcome, accepted, refused, row, row_of, outcome_of}
-use Rattle.records.proofs.AnswerLaws.{row-passed, refused-not-accepted, accepted-same}
+use Rattle.frames.specs.Temperature.{signed_of}
+use Rattle.frames.specs.declared.records.Refusal.{Refusal}
+use Rattle.frames.specs.Answers.{Outcome, accepted, refused, row, row_of, outcome_of}
+use Rattle.frames.proofs.AnswerLaws.{row-passed, refused-not-accepted, accepted-same}
 use Rattle.account_spec.specs.declared.Phase.{Phase}
 use Rattle.account_spec.specs.declared.HourKind.{HourKind}
 use Rattle.account_spec.specs.declared.Account.{Account}

@@ -1,4 +1,5 @@
--- Numbers one after another, for any list of widths: what is read fits, what is written is as long as the widths.
+-- Numbers one after another, for any list of widths: what is read fits, what is written is as long
+-- as the widths.
 use Prim.Native.Nat.{ℕ, zero, suc, ◌+◌, ◌-◌, ◌/◌, ◌%◌, ◌^◌, ◌≤◌, ◌<◌}
 use mathlib.Core.Path.{◌≡◌, refl, ◌∙◌}
 use mathlib.Core.List.{List, [], ◌∷◌, ◌++◌, append_assoc}

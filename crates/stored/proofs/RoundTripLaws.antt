@@ -1,4 +1,5 @@
--- Written and read back, read and written back: a number of any width, then numbers of any list of widths.
+-- Written and read back, read and written back: a number of any width, then numbers of any list of
+-- widths.
 use Prim.Native.Nat.{ℕ, zero, suc, ◌+◌, ◌*◌, ◌/◌, ◌%◌, ◌^◌, ◌≤◌, ◌<◌}
 use mathlib.Core.Path.{◌≡◌, refl, ap, ◌∙◌}
 use mathlib.Core.List.{List, [], ◌∷◌, ◌++◌, append_assoc}

@@ -1,3 +1,15 @@
+pub mod Code
+pub mod CodePromise
+pub mod Reading
+pub mod Writing
+pub mod Comparing
+pub mod Stretching
 pub mod Packing
 pub mod Layout
 pub mod RoundTrip
+pub mod InBytes
+pub mod Feeding
+pub mod Promise
+pub mod TrialLayout
+pub mod TrialRoundTrip
+pub mod steps

@@ -1,6 +1,7 @@
--- The two round trips: every account is taken up as itself, and bytes that hold an account are stored as themselves.
+-- The two round trips: every account is taken up as itself, and bytes that hold an account are
+-- stored as themselves.
 use Rattle.std.specs.Prelude.{ℕ, ◌≡◌, List, ◌++◌, drop}
-use Rattle.records.specs.Answers.{accepted}
+use Rattle.frames.specs.Answers.{accepted}
 use Rattle.account_spec.specs.declared.Account.{Account}
 use Rattle.stored.specs.Packing.{total_width}
 use Rattle.stored.specs.Layout.{widths, account_bytes, take_up_of}
@@ -11,4 +12,5 @@ pub record TakenUp (a : Account) : Type 0 where
 
 -- an account that these bytes hold, stored at their front, leaves them as they are
 pub record StoredBack (l : List ℕ) : Type 0 where
-  pub same : (a : Account) → take_up_of l ≡ accepted a → account_bytes a ++ drop (total_width widths) l ≡ l
+  pub same :
+      (a : Account) → take_up_of l ≡ accepted a → account_bytes a ++ drop (total_width widths) l ≡ l

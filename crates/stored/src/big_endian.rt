@@ -1,5 +1,5 @@
-// A number of a width at a place of an account's bytes, high byte first.
-// Kept: each field has a fixed place in a fixed array; a cursor would be handed from call to call.
+//! A number of a width at a place of an account's bytes, high byte first. Each field has a fixed
+//! place in a fixed array.
 ghost use Rattle.std.specs.Prelude.{◌≡◌, [], ◌∷◌, ◌+◌, ◌^◌, ◌≤◌, ◌<◌};
 ghost use Rattle.std.proofs.lemmas.List.Edits.{sets};
 ghost use Rattle.stored.specs.Packing.{big_endian, big_endian_at, packed, unpacked, slice};

@@ -1,7 +1,7 @@
-// An account's numbers into bytes, each at its place in the layout.
+//! An account's numbers into bytes, each at its place in the layout.
 ghost use Rattle.std.specs.Prelude.{◌≡◌, [], ◌∷◌, take, drop};
 ghost use Rattle.std.proofs.lemmas.List.Edits.{sets};
-ghost use Rattle.measured.specs.Parameters.{parameter_numbers};
+ghost use Rattle.trees.specs.Parameters.{parameter_numbers};
 ghost use Rattle.account_spec.specs.Account.{season_numbers, sums_numbers};
 ghost use Rattle.stored.specs.Packing.{packed};
 ghost use Rattle.stored.specs.Layout.{widths, front_numbers};
@@ -13,7 +13,8 @@ use frames::Parameters;
 
 #[tactic(auto, unfolding(crate::specs::Packing::big_endian))]
 fn put_counts(b: &mut [u8; SIZE], hours: u16, counted: u16, missing: u16)
-    ensures { b.new ≡ sets b.old 3 (packed (take 3 (drop 3 widths)) (hours ∷ counted ∷ missing ∷ [])) }
+    ensures { b.new
+        ≡ sets b.old 3 (packed (take 3 (drop 3 widths)) (hours ∷ counted ∷ missing ∷ [])) }
 {
     put(b, 3, 2, hours as u64);
     put(b, 5, 2, counted as u64);
@@ -48,9 +49,9 @@ pub(crate) fn put_front(b: &mut [u8; SIZE], account: Account)
 fn put_parameters(b: &mut [u8; SIZE], p: Parameters)
     ensures { b.new ≡ sets b.old 56 (packed (drop 21 widths) (parameter_numbers p)) }
 {
-    put_four(b, 56, [p.gmax, p.fmin, p.lighta, p.tmin]);
-    put_four(b, 64, [p.topt, p.tmax, p.vpdmax, p.vpdmin]);
-    put_four(b, 72, [p.soilmax, p.soilmin, p.leaf, p.a]);
+    put_four(b, 56, [p.g_max, p.f_min, p.light_a, p.t_min]);
+    put_four(b, 64, [p.t_opt, p.t_max, p.vpd_max, p.vpd_min]);
+    put_four(b, 72, [p.soil_max, p.soil_min, p.leaf, p.a]);
     put_four(b, 80, [p.e, p.f1, p.f4, p.y]);
 }
 

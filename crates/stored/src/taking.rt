@@ -1,11 +1,12 @@
-// The account in bytes, each number from its place in the layout.
+//! The account in bytes, each number from its place in the layout.
 ghost use Rattle.std.specs.Prelude.{◌≡◌, ◌∷◌, ◌++◌, not};
-ghost use Rattle.records.specs.Answers.{accepted, row, outcome_of};
-ghost use Rattle.measured.specs.Parameters.{parameters_of};
-ghost use Rattle.measured.specs.Warmth.{warmth_of};
+ghost use Rattle.frames.specs.Answers.{accepted, row, outcome_of};
+ghost use Rattle.trees.specs.Parameters.{parameters_of};
+ghost use Rattle.trees.specs.Warmth.{warmth_of};
 ghost use Rattle.frames.specs.Layout.{header_of};
 ghost use Rattle.stored.specs.Packing.{unpacked, slice};
-ghost use Rattle.stored.specs.Layout.{widths, hour_kind_of, is_kind, sums_from, season_from, take_up_of};
+ghost use Rattle.stored.specs.Layout.{widths, hour_kind_of, is_kind, sums_from, season_from};
+ghost use Rattle.stored.specs.Layout.{take_up_of};
 
 use crate::big_endian::{get, get_four};
 use crate::{SIZE, VERSION};
@@ -45,19 +46,21 @@ fn warmth_of(ns: [u16; 4]) -> Warmth
 }
 
 fn parameters_of(first: [u16; 4], second: [u16; 4], third: [u16; 4], fourth: [u16; 4]) -> Parameters
-    ensures { result ≡ parameters_of (slice 0 4 first ++ slice 0 4 second ++ slice 0 4 third ++ slice 0 4 fourth) }
+    ensures { result
+        ≡ parameters_of
+        (slice 0 4 first ++ slice 0 4 second ++ slice 0 4 third ++ slice 0 4 fourth) }
 {
     Parameters {
-        gmax: first[0],
-        fmin: first[1],
-        lighta: first[2],
-        tmin: first[3],
-        topt: second[0],
-        tmax: second[1],
-        vpdmax: second[2],
-        vpdmin: second[3],
-        soilmax: third[0],
-        soilmin: third[1],
+        g_max: first[0],
+        f_min: first[1],
+        light_a: first[2],
+        t_min: first[3],
+        t_opt: second[0],
+        t_max: second[1],
+        vpd_max: second[2],
+        vpd_min: second[3],
+        soil_max: third[0],
+        soil_min: third[1],
         leaf: third[2],
         a: third[3],
         e: fourth[0],

@@ -8,7 +8,7 @@ use Rattle.trees.specs.declared.Source.{Source}
 use Rattle.trees.specs.declared.Source.TheVariants.{Tabled, Worked}
 use Rattle.trees.specs.declared.Figures.{Figures}
 use Rattle.trees.specs.Figures.{owner_of, figures_of}
-use Rattle.trees.specs.Steps.{HasTable}
+use Rattle.trees.specs.steps.Trees.{HasTable}
 use Rattle.trees.specs.Temperature.{temperature_pair}
 use Rattle.trees.proofs.SoundLaws.{figures-all}
 

@@ -1,4 +1,5 @@
--- For any sound figures f_SW and f_phen lie between their limits; f_SW has its stated values at "max" and "min", falls with suction and rises with water.
+-- For any sound figures f_SW and f_phen lie between their limits; f_SW has its stated values at
+-- "max" and "min", falls with suction and rises with water.
 use Rattle.std.proofs.lemmas.Bool.Decides.{nat_tests}
 use Prim.Native.Nat.{ℕ, ◌≤◌, ◌<◌}
 use mathlib.Core.Path.{◌≡◌}
@@ -29,9 +30,9 @@ dip-le : (day : ℕ) → by_dip day ≼ natural 1
 unfolding by_dip
 dip-le day = grind (arith, cond-le, line-le)
 
-temperature-le : (tmin tmax temperature : ℕ) → by_temperature tmin tmax temperature ≼ natural 1
+temperature-le : (t_min t_max temperature : ℕ) → by_temperature t_min t_max temperature ≼ natural 1
 unfolding by_temperature
-temperature-le tmin tmax temperature = cond-le (inside tmin tmax temperature) (omega arith) (omega arith)
+temperature-le t_min t_max temperature = cond-le (inside t_min t_max temperature) (omega arith) (omega arith)
 
 drier-none : (m : Measure) (x : ℕ) → drier m x x ≡ 0
 drier-none Suction x = omega arith
@@ -44,33 +45,33 @@ drier-pos Water wet dry s = omega arith
 -- ---- the line from 1 to f_min
 
 module _ (f : Figures) (sound : Sound f) where
-  pub falling-limits : (d s : ℕ) → Between (f.fmin over 100) (natural 1) (falling f.fmin d s)
+  pub falling-limits : (d s : ℕ) → Between (f.f_min over 100) (natural 1) (falling f.f_min d s)
   unfolding falling
   falling-limits d s = grind (arith, straight-ge, line-le)
 
-  pub falling-anti : (d d' s : ℕ) → d ≤ d' → falling f.fmin d' s ≼ falling f.fmin d s
+  pub falling-anti : (d d' s : ℕ) → d ≤ d' → falling f.f_min d' s ≼ falling f.f_min d s
   unfolding falling
-  falling-anti d d' s h = straight-anti _ _ d d' s (omega (arith, sound.fmin)) h
+  falling-anti d d' s h = straight-anti _ _ d d' s (omega (arith, sound.f_min)) h
 
-  pub falling-start : (d s : ℕ) → d ≡ 0 → 0 < s → falling f.fmin d s ≈ natural 1
+  pub falling-start : (d s : ℕ) → d ≡ 0 → 0 < s → falling f.f_min d s ≈ natural 1
   unfolding falling
-  falling-start d s e h = rw e (let p = straight-start 100 f.fmin s h in omega arith)
+  falling-start d s e h = rw e (let p = straight-start 100 f.f_min s h in omega arith)
 
-  pub falling-end : (d s : ℕ) → s ≤ d → falling f.fmin d s ≈ f.fmin over 100
+  pub falling-end : (d s : ℕ) → s ≤ d → falling f.f_min d s ≈ f.f_min over 100
   unfolding falling
-  falling-end d s h = rw (straight-end _ f.fmin d s h) (omega arith)
+  falling-end d s h = rw (straight-end _ f.f_min d s h) (omega arith)
 
   -- ---- f_SW
 
-  pub soil_water-limits : (reading : ℕ) → Between (f.fmin over 100) (natural 1) (soil_water_of f reading)
+  pub soil_water-limits : (reading : ℕ) → Between (f.f_min over 100) (natural 1) (soil_water_of f reading)
   unfolding soil_water_of
   soil_water-limits reading = falling-limits _ _
 
-  pub soil_water-max : soil_water_of f f.soilmax ≈ natural 1
+  pub soil_water-max : soil_water_of f f.soil_max ≈ natural 1
   unfolding soil_water_of
-  soil_water-max = falling-start _ _ (drier-none f.measure f.soilmax) (drier-pos f.measure f.soilmax f.soilmin sound.soil)
+  soil_water-max = falling-start _ _ (drier-none f.measure f.soil_max) (drier-pos f.measure f.soil_max f.soil_min sound.soil)
 
-  pub soil_water-min : soil_water_of f f.soilmin ≈ f.fmin over 100
+  pub soil_water-min : soil_water_of f f.soil_min ≈ f.f_min over 100
   unfolding soil_water_of
   soil_water-min = falling-end _ _ (omega arith)
 

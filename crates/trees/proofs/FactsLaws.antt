@@ -1,4 +1,5 @@
--- The factor facts, gathered: f_phen piece by piece with both ends of each piece, f_temp with its pair, f_VPD and f_SW.
+-- The factor facts, gathered: f_phen piece by piece with both ends of each piece, f_temp with its
+-- pair, f_VPD and f_SW.
 use Prim.Native.Nat.{ℕ, ◌+◌, ◌-◌, ◌*◌, ◌≤◌, ◌<◌}
 use mathlib.Core.Path.{◌≡◌}
 use native.Mathlib.Omega.{arith}
@@ -107,7 +108,7 @@ module _ (f : Figures) (s : Sound f) where
   temperature-facts = record {
     limits = λ k x. record { above = temperature_at-above f s x k; below = temperature_at-le f s x k };
     outside = λ k x h. rw (temperature_at-outside f s x k h) (omega arith);
-    optimum = λ k. ≼-antisym (temperature_at-le f s (10 * f.topt) k) (temperature_at-optimum f s k);
+    optimum = λ k. ≼-antisym (temperature_at-le f s (10 * f.t_opt) k) (temperature_at-optimum f s k);
     grows = λ k l x h. temperature_at-mono f s x h;
     pair = λ x. record { at = 9; low = temperature_pair-low f s x; high = temperature_pair-high f s x; near = temperature_pair-gap f s x };
   }

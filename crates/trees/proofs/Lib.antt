@@ -9,3 +9,5 @@ pub mod FactorLaws
 pub mod DeficitLaws
 pub mod FactsLaws
 pub mod TermLaws
+pub mod MeasuredLaws
+pub mod LowestLaws

@@ -1,4 +1,5 @@
--- f_temp, for any sound figures: at every k it lies between f_min and 1, it never falls as k grows, and the pair encloses it.
+-- f_temp, for any sound figures: at every k it lies between f_min and 1, it never falls as k grows,
+-- and the pair encloses it.
 use Rattle.std.proofs.lemmas.Bool.Decides.{nat_tests}
 use Prim.Native.Nat.{ℕ, ◌+◌, ◌-◌, ◌*◌, ◌^◌, ◌≤◌, ◌<◌, max}
 use mathlib.Core.Path.{◌≡◌, ap, subst}
@@ -28,8 +29,8 @@ cases₂ P true o p y z h k = h tt
 cases₂ P false o p y z h k = k
 
 module _ (f : Figures) (s : Sound f) (x : ℕ) where
-  abbrev fmin : Frac
-  fmin = f.fmin over 100
+  abbrev f_min : Frac
+  f_min = f.f_min over 100
 
   abbrev root : ℕ → Frac
   root k = root_at k f x over 10 ^ k
@@ -43,7 +44,7 @@ module _ (f : Figures) (s : Sound f) (x : ℕ) where
         mul-le-mul_right (10 ^ k) (root_at-grows f x s.q.0 k j),
       ))
 
-  root-le : (k : ℕ) → T (inside f.tmin f.tmax x) → root k ≼ natural 1
+  root-le : (k : ℕ) → T (inside f.t_min f.t_max x) → root k ≼ natural 1
   root-le k h =
       record { cross = omega (arith, greatest-le-one f s x (grind (arith, nat_tests)) (grind (arith, nat_tests)) (root_at-greatest f x s.q.0 k)) }
 
@@ -57,18 +58,18 @@ module _ (f : Figures) (s : Sound f) (x : ℕ) where
       ))
 
   -- f_min ≤ f_temp ≤ 1
-  pub temperature_at-above : (k : ℕ) → fmin ≼ temperature_at k f x
+  pub temperature_at-above : (k : ℕ) → f_min ≼ temperature_at k f x
   unfolding temperature_at
   temperature_at-above k = grind (arith, nat_tests, greater-left, ≼_refl)
 
-  fmin-le : fmin ≼ natural 1
-  fmin-le = record { cross = omega (arith, s.fmin) }
+  f_min-le : f_min ≼ natural 1
+  f_min-le = record { cross = omega (arith, s.f_min) }
 
   pub temperature_at-le : (k : ℕ) → temperature_at k f x ≼ natural 1
   unfolding temperature_at
-  temperature_at-le k = grind (arith, cases, greater-least, fmin-le, root-le)
+  temperature_at-le k = grind (arith, cases, greater-least, f_min-le, root-le)
 
-  pub temperature_at-outside : (k : ℕ) → (10 * f.tmin < x → 10 * f.tmax ≤ x) → temperature_at k f x ≡ fmin
+  pub temperature_at-outside : (k : ℕ) → (10 * f.t_min < x → 10 * f.t_max ≤ x) → temperature_at k f x ≡ f_min
   unfolding temperature_at
   temperature_at-outside k h = grind (arith, nat_tests)
 
@@ -76,18 +77,18 @@ module _ (f : Figures) (s : Sound f) (x : ℕ) where
   temperature_at-step : (k j : ℕ) → temperature_at k f x ≼ temperature_at (k + j) f x
   unfolding temperature_at
   temperature_at-step k j =
-      cases₂ ◌≼◌ (inside f.tmin f.tmax x) (greater fmin (root k)) fmin (greater fmin (root (k + j))) fmin
+      cases₂ ◌≼◌ (inside f.t_min f.t_max x) (greater f_min (root k)) f_min (greater f_min (root (k + j))) f_min
       (λ h.
-      greater-least fmin (root k) (greater-left fmin (root (k + j)))
-      (≼_trans (root-mono k j) (greater-right fmin (root (k + j)))))
-      (≼_refl fmin)
+      greater-least f_min (root k) (greater-left f_min (root (k + j)))
+      (≼_trans (root-mono k j) (greater-right f_min (root (k + j)))))
+      (≼_refl f_min)
 
   pub temperature_at-mono : {k l : ℕ} → k ≤ l → temperature_at k f x ≼ temperature_at l f x
   temperature_at-mono {k} {l} h = rw (add-sub_of_le h) at (temperature_at-step k (l - k))
 
   -- the pair, in units of 10⁻⁹
   abbrev floor : ℕ
-  floor = f.fmin * 10 ^ 7
+  floor = f.f_min * 10 ^ 7
 
   abbrev found : Bounds
   found = record { lower = max floor (root_at 9 f x); upper = max floor (root_at 9 f x + 1) }
@@ -95,7 +96,7 @@ module _ (f : Figures) (s : Sound f) (x : ℕ) where
   abbrev least : Bounds
   least = record { lower = floor; upper = floor }
 
-  floor-is : (floor over 10 ^ 9) ≼ fmin
+  floor-is : (floor over 10 ^ 9) ≼ f_min
   floor-is = record { cross = omega arith }
 
   pub temperature_pair-low : ((temperature_pair f x).lower over 10 ^ 9) ≼ temperature_at 9 f x
@@ -106,9 +107,9 @@ module _ (f : Figures) (s : Sound f) (x : ℕ) where
   unfolding temperature_at temperature_pair
   temperature_pair-high k =
       let next : ((root_at 9 f x + 1) over 10 ^ 9) ≼ (max floor (root_at 9 f x + 1) over 10 ^ 9) = record { cross = omega arith } in
-      cases₂ (λ (p : Bounds) v. v ≼ (p.upper over 10 ^ 9)) (inside f.tmin f.tmax x) found least (greater fmin (root k)) fmin
+      cases₂ (λ (p : Bounds) v. v ≼ (p.upper over 10 ^ 9)) (inside f.t_min f.t_max x) found least (greater f_min (root k)) f_min
       (λ h.
-      greater-least fmin (root k) (record { cross = omega arith }) (≼_trans (≼_trans (root-mono k 9) (root-next k)) next))
+      greater-least f_min (root k) (record { cross = omega arith }) (≼_trans (≼_trans (root-mono k 9) (root-next k)) next))
       (record { cross = omega arith })
 
   pub temperature_pair-gap : (temperature_pair f x).upper ≤ (temperature_pair f x).lower + 1
@@ -122,6 +123,6 @@ module _ (f : Figures) (s : Sound f) (x : ℕ) where
   pub temperature_pair-le : (temperature_pair f x).lower ≤ 10 ^ 9
   temperature_pair-le = let l = ≼_trans temperature_pair-low (temperature_at-le 9) in omega (arith, l.cross)
 
-pub temperature_at-optimum : (f : Figures) → Sound f → (k : ℕ) → natural 1 ≼ temperature_at k f (10 * f.topt)
+pub temperature_at-optimum : (f : Figures) → Sound f → (k : ℕ) → natural 1 ≼ temperature_at k f (10 * f.t_opt)
 unfolding temperature_at
 temperature_at-optimum f s k = grind (arith, root_at-optimum, ten-pos, inside-true, ≼_trans, greater-right)

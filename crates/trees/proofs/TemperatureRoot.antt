@@ -1,4 +1,5 @@
--- a·w^(p/q) rounded down to k decimals: `root_at` is the greatest, the greatest is one number, and a further decimal only adds a digit.
+-- a·w^(p/q) rounded down to k decimals: `root_at` is the greatest, the greatest is one number, and
+-- a further decimal only adds a digit.
 use Prim.Native.Nat.{ℕ, zero, ◌+◌, ◌-◌, ◌*◌, ◌^◌, ◌≤◌, ◌<◌, zero-le, max}
 use mathlib.Core.Path.{◌≡◌, ap, ap₂, ◌∙◌, subst⁻¹, sym}
 use native.Mathlib.Omega.{arith}
@@ -120,7 +121,7 @@ tenfold p q d e hd he h =
     let e-is : max 1 (10 * e) ≡ 10 * e = omega arith in
     rw (d-is, e-is) (omega arith)
 
-module _ (f : Figures) (s : Sound f) (x : ℕ) (low : 10 * f.tmin < x) (high : x < 10 * f.tmax) where
+module _ (f : Figures) (s : Sound f) (x : ℕ) (low : 10 * f.t_min < x) (high : x < 10 * f.t_max) where
   nums-le : nums f x ≤ dens f x
   nums-le = grind (arith, mean-le, tenfold)
 
@@ -132,19 +133,19 @@ module _ (f : Figures) (s : Sound f) (x : ℕ) (low : 10 * f.tmin < x) (high : x
       (le_of_mul-le-mul_right {k = dens f x} (le_trans g.under (mul-le-mul_left (10 ^ (k * f.q)) nums-le)) (dens-pos f x)))
 
 module _ (f : Figures) (s : Sound f) where
-  nums-optimum : nums f (10 * f.topt) ≡ dens f (10 * f.topt)
+  nums-optimum : nums f (10 * f.t_opt) ≡ dens f (10 * f.t_opt)
   nums-optimum =
-      let rise : 10 * f.topt - 10 * f.tmin ≡ max 1 (10 * (f.topt - f.tmin)) = omega (arith, s.topt) in
-      let fall : 10 * f.tmax - 10 * f.topt ≡ max 1 (10 * (f.tmax - f.topt)) = omega (arith, s.tmax) in
+      let rise : 10 * f.t_opt - 10 * f.t_min ≡ max 1 (10 * (f.t_opt - f.t_min)) = omega (arith, s.t_opt) in
+      let fall : 10 * f.t_max - 10 * f.t_opt ≡ max 1 (10 * (f.t_max - f.t_opt)) = omega (arith, s.t_max) in
       ap₂ (λ (m n : ℕ). m ^ f.q * n ^ f.p) rise fall
 
-  optimum-fits : (k : ℕ) → tried f (10 * f.topt) (10 ^ k) ≤ allowed k f (10 * f.topt)
+  optimum-fits : (k : ℕ) → tried f (10 * f.t_opt) (10 ^ k) ≤ allowed k f (10 * f.t_opt)
   unfolding tried allowed
   optimum-fits k = le_of_eq (ap₂ (λ (m n : ℕ). m * n) (sym (pow-mul 10 k f.q)) (sym nums-optimum))
 
-  pub root_at-optimum : (k : ℕ) → root_at k f (10 * f.topt) ≡ 10 ^ k
+  pub root_at-optimum : (k : ℕ) → root_at k f (10 * f.t_opt) ≡ 10 ^ k
   root_at-optimum k =
-      let x : ℕ = 10 * f.topt in
+      let x : ℕ = 10 * f.t_opt in
       le_antisymm
-      (greatest-le-one f s x (omega (arith, s.topt)) (omega (arith, s.tmax)) (root_at-greatest f x s.q.0 k))
+      (greatest-le-one f s x (omega (arith, s.t_opt)) (omega (arith, s.t_max)) (root_at-greatest f x s.q.0 k))
       (root_at-above f x s.q.0 k (optimum-fits k))

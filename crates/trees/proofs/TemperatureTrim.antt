@@ -1,4 +1,5 @@
--- Where a trimmed table begins and ends, out of one test that is computed at its two ends and at each tenth that was cut.
+-- Where a trimmed table begins and ends, out of one test that is computed at its two ends and at
+-- each tenth that was cut.
 use Rattle.std.proofs.lemmas.Bool.Decides.{nat_tests}
 use Prim.Native.Nat.{ℕ, zero, suc, ◌+◌, ◌-◌, ◌*◌, ◌^◌, ◌≤◌, ◌<◌}
 use mathlib.Core.Path.{◌≡◌}
@@ -17,7 +18,7 @@ use Rattle.exact.proofs.TestedLaws.{all_from, all_from-each}
 
 -- f_min, in units of 10⁻⁹
 abbrev floor : Figures → ℕ
-floor f = f.fmin * 10 ^ 7
+floor f = f.f_min * 10 ^ 7
 
 abbrev reaches_test : Figures → ℕ → Bool
 unfolding tried allowed
@@ -39,7 +40,7 @@ under-tested f root first n h x p q = root_at-below f x root 9 (ltb→lt _ _ (al
 
 module _ (f : Figures) (first last : ℕ) where
   abbrev cold : ℕ
-  cold = suc (10 * f.tmin)
+  cold = suc (10 * f.t_min)
 
   abbrev ends_test : Bool
   unfolding tried allowed
@@ -68,11 +69,11 @@ module _ (f : Figures) (first last : ℕ) where
 
   -- what the table does not hold is under f_min
   trimmed-under :
-      IsTrimmed f first last → (x : ℕ) → x ≤ 1100 → (first ≤ x → last < x) → 10 * f.tmin < x → x < 10 * f.tmax → root_at 9 f x < floor f
+      IsTrimmed f first last → (x : ℕ) → x ≤ 1100 → (first ≤ x → last < x) → 10 * f.t_min < x → x < 10 * f.t_max → root_at 9 f x < floor f
   trimmed-under h x highest outside low high = grind (arith, nat_tests)
 
 -- f_min at each reading that the table does not hold
 pub floor-pair :
     {f : Figures} {first last x : ℕ} {r : Bounds} → IsTrimmed f first last → x ≤ 1100 → (first ≤ x → last < x) →
-    (r.lower ≡ f.fmin * 10000000) × (r.upper ≡ f.fmin * 10000000) → r ≡ temperature_pair f x
+    (r.lower ≡ f.f_min * 10000000) × (r.upper ≡ f.f_min * 10000000) → r ≡ temperature_pair f x
 floor-pair {f} {first} {last} {x} trimmed highest outside h = pair-floor f x (trimmed-under f first last trimmed x highest outside) h

@@ -1,5 +1,5 @@
--- The denominators of f_SW and f_phen as they are worked out are at most 1,000,000, for any sound figures, that of f_phen by warmth 2·10⁹, and that of
--- f_VPD so many times the deficit's own.
+-- The denominators of f_SW and f_phen as they are worked out are at most 1,000,000, for any sound
+-- figures, that of f_phen by warmth 2·10⁹, and that of f_VPD so many times the deficit's own.
 use Prim.Native.Nat.{ℕ, ◌-◌, ◌*◌, ◌^◌, ◌≤◌, ◌<◌}
 use mathlib.Core.Path.{◌≡◌, refl}
 use mathlib.Core.Bool.{Bool, true, false, cond}
@@ -48,9 +48,9 @@ dip-small day =
     (cond_small (ltb day 320) (straight-small 30 100 (day - 260) (320 - 260) (omega arith))
     one)))
 
-temperature-small : (tmin tmax temperature : ℕ) → Small (by_temperature tmin tmax temperature)
+temperature-small : (t_min t_max temperature : ℕ) → Small (by_temperature t_min t_max temperature)
 unfolding by_temperature
-temperature-small tmin tmax temperature = cond_small (inside tmin tmax temperature) (record { den = omega arith }) (record { den = omega arith })
+temperature-small t_min t_max temperature = cond_small (inside t_min t_max temperature) (record { den = omega arith }) (record { den = omega arith })
 
 module _ (f : Figures) (sound : Sound f) where
   pub deficit-small : (vpd : Frac) → (deficit_of f vpd).den ≤ 10 ^ 6 * vpd.den
@@ -59,7 +59,7 @@ module _ (f : Figures) (sound : Sound f) where
 
   pub soil_water-small : (reading : ℕ) → Small (soil_water_of f reading)
   unfolding soil_water_of falling
-  soil_water-small reading = straight-small _ f.fmin _ _ (drier-le f.measure f.soilmax f.soilmin sound.soil)
+  soil_water-small reading = straight-small _ f.f_min _ _ (drier-le f.measure f.soil_max f.soil_min sound.soil)
 
   ramps-small : (first last day : ℕ) → Small (by_ramps f first last day)
   unfolding by_ramps

@@ -6,4 +6,9 @@ pub mod Deficit
 pub mod SoilWater
 pub mod Phenology
 pub mod Facts
-pub mod Steps
+pub mod Parameters
+pub mod Powers
+pub mod Warmth
+pub mod MeasuredFigures
+pub mod MeasuredFacts
+pub mod steps

@@ -1,4 +1,5 @@
--- f_SW (document 01, "Factors"): straight from 1 at "max", the wet end, to f_min at "min", clamped to f_min..1.
+-- f_SW ("Factors"): straight from 1 at "max", the wet end, to f_min at "min", never outside f_min
+-- to 1.
 use Rattle.std.specs.Prelude.{ℕ, ◌-◌}
 use Rattle.trees.specs.declared.Measure.{Measure}
 use Rattle.trees.specs.declared.Measure.TheVariants.{Suction, Water}
@@ -12,4 +13,5 @@ drier Suction than reading = reading - than
 drier Water than reading = than - reading
 
 unfoldable pub soil_water_of : Figures → ℕ → Frac
-soil_water_of f reading = falling f.fmin (drier f.measure f.soilmax reading) (drier f.measure f.soilmax f.soilmin)
+soil_water_of f reading =
+    falling f.f_min (drier f.measure f.soil_max reading) (drier f.measure f.soil_max f.soil_min)

@@ -1,4 +1,5 @@
--- When figures make sense: each in its range, pairs in their order, p/q equal to (Tmax - Topt)/(Topt - Tmin). Wide enough for a measured tree.
+-- When figures make sense: each in its range, pairs in their order, p/q equal to
+-- (Tmax - Topt)/(Topt - Tmin). Wide enough for a measured tree.
 use Rattle.std.specs.Prelude.{ℕ, ◌-◌, ◌*◌, ◌≤◌, ◌<◌, ◌≡◌}
 use Rattle.trees.specs.declared.Measure.{Measure}
 use Rattle.trees.specs.declared.Measure.TheVariants.{Suction, Water}
@@ -10,18 +11,18 @@ SoilSound Suction wet dry = (wet < dry) × (dry ≤ 10000)
 SoilSound Water wet dry = (dry < wet) × (wet ≤ 1000)
 
 pub record Sound (f : Figures) : Type 0 where
-  pub gmax : (1 ≤ f.gmax) × (f.gmax ≤ 500)
-  pub fmin : (1 ≤ f.fmin) × (f.fmin ≤ 99)
-  pub lighta : (1 ≤ f.lighta) × (f.lighta ≤ 200)
+  pub g_max : (1 ≤ f.g_max) × (f.g_max ≤ 500)
+  pub f_min : (1 ≤ f.f_min) × (f.f_min ≤ 99)
+  pub light_a : (1 ≤ f.light_a) × (f.light_a ≤ 200)
   -- from -20 °C to 200 °C, in whole degrees above -50 °C
-  pub tmin : 30 ≤ f.tmin
-  pub topt : f.tmin < f.topt
-  pub tmax : (f.topt < f.tmax) × (f.tmax ≤ 250)
-  pub ratio : f.p * (f.topt - f.tmin) ≡ f.q * (f.tmax - f.topt)
+  pub t_min : 30 ≤ f.t_min
+  pub t_opt : f.t_min < f.t_opt
+  pub t_max : (f.t_opt < f.t_max) × (f.t_max ≤ 250)
+  pub ratio : f.p * (f.t_opt - f.t_min) ≡ f.q * (f.t_max - f.t_opt)
   pub p : (1 ≤ f.p) × (f.p ≤ 22)
   pub q : (1 ≤ f.q) × (f.q ≤ 22)
-  pub vpd : (f.vpdmax < f.vpdmin) × (f.vpdmin ≤ 10000)
-  pub soil : SoilSound f.measure f.soilmax f.soilmin
+  pub vpd : (f.vpd_max < f.vpd_min) × (f.vpd_min ≤ 10000)
+  pub soil : SoilSound f.measure f.soil_max f.soil_min
   pub leaf : (1 ≤ f.leaf) × (f.leaf ≤ 200)
   pub a : f.a ≤ 100
   pub e : f.e ≤ 100

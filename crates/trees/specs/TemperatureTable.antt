@@ -1,16 +1,17 @@
--- A part of a tree's temperature table (document 01, "Factors"): for the reading `from` and each of those after it, the greatest whole t with
--- t/10⁹ not above a·w^(p/q).
-use Rattle.std.specs.Prelude.{ℕ, ◌+◌, ◌*◌, ◌^◌, ◌≤◌, ◌<◌, List, length, get_or}
+-- A part of a tree's temperature table ("Factors"): for the reading `from` and each of those after
+-- it, the greatest whole t with t/10⁹ not above a·w^(p/q).
+use Rattle.std.specs.Prelude.{ℕ, ◌+◌, ◌*◌, ◌^◌, ◌≤◌, ◌<◌, List, length, slice_index}
 use Rattle.trees.specs.declared.Figures.{Figures}
 use Rattle.trees.specs.Temperature.{IsGreatest, root_at}
 
 pub record IsTemperatureTable (f : Figures) (from : ℕ) (table : List ℕ) : Type 0 where
-  pub entries : (i : ℕ) → i < length table → IsGreatest 9 f (from + i) (get_or table i 0)
+  pub entries : (i : ℕ) → i < length table → IsGreatest 9 f (from + i) (slice_index table i)
 
--- The table holds the readings from `first` to `last` (document 02, W-203): it begins and ends with a t/10⁹ that is not under f_min, and at every other
--- tenth strictly between Tmin and Tmax, up to 60.0 °C, t/10⁹ is under f_min.
+-- The table holds the readings from `first` to `last` ("Trimmed temperature tables"): it begins and
+-- ends with a t/10⁹ that is not under f_min, and at every other tenth strictly between Tmin and
+-- Tmax, up to 60.0 °C, t/10⁹ is under f_min.
 pub record IsTrimmed (f : Figures) (first last : ℕ) : Type 0 where
-  pub begins : f.fmin * 10 ^ 7 ≤ root_at 9 f first
-  pub ends : f.fmin * 10 ^ 7 ≤ root_at 9 f last
-  pub colder : (x : ℕ) → 10 * f.tmin < x → x < first → root_at 9 f x < f.fmin * 10 ^ 7
-  pub warmer : (x : ℕ) → last < x → x < 10 * f.tmax → x ≤ 1100 → root_at 9 f x < f.fmin * 10 ^ 7
+  pub begins : f.f_min * 10 ^ 7 ≤ root_at 9 f first
+  pub ends : f.f_min * 10 ^ 7 ≤ root_at 9 f last
+  pub colder : (x : ℕ) → 10 * f.t_min < x → x < first → root_at 9 f x < f.f_min * 10 ^ 7
+  pub warmer : (x : ℕ) → last < x → x < 10 * f.t_max → x ≤ 1100 → root_at 9 f x < f.f_min * 10 ^ 7

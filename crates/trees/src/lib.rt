@@ -1,104 +1,151 @@
-// The tree table: each figure of a tree is a constant that belongs to that tree's type.
+//! The trees ("Tree table", "Factors", "A laboratory's own tree"): the figures of each, constants
+//! that belong to the type of one of the six or made from a laboratory's parameters, and the
+//! factors of leaf conductance that exact fractions give.
 #![tactic(auto)]
 
 pub mod factors;
+mod measured;
 pub mod phen;
+mod ratio;
+mod temperature;
 
 ghost use Rattle.std.specs.Prelude.{◌≡◌};
 ghost use Rattle.trees.specs.declared.Figures.{Figures};
-ghost use Rattle.trees.specs.Figures.{boreal_spruce, birch, continental_spruce, beech, oak, evergreen, figures_of, choice_row, tree_row, ramp_days};
+ghost use Rattle.trees.specs.Figures.{boreal_spruce, birch, continental_spruce, beech, oak};
+ghost use Rattle.trees.specs.Figures.{evergreen, figures_of, choice_row, tree_row, ramp_days};
 
 use exact::Fraction;
+pub use measured::{
+    MEASURED, Parameters, degrees, figures_before, figures_in, has_warmth, is_fed, no_parameters,
+    no_warmth, powers,
+};
+pub use ratio::{GREATEST_POWER, Ratio, ratio_of};
+pub use temperature::{HIGHEST_READING, Reading, reading_at};
 
-// What a soil reading measures: suction in kPa, or available water in tenths of a percent.
+/// What a soil reading measures.
 #[derive(Clone, Copy, PartialEq)]
 pub enum Measure {
+    /// Suction, in kPa: trees 3 to 7.
     Suction,
+    /// Available water, in tenths of a percent: trees 1 and 2.
     Water,
 }
 
-// What f_phen goes by: ramps from the first and to the last day, the evergreen dip, or temperature.
+/// What f_phen goes by ("Factors").
 #[derive(Clone, Copy)]
 pub enum Phenology {
+    /// Ramps from the first day and to the last.
     Ramps,
+    /// The evergreen's dip.
     Dip,
+    /// The hour's temperature.
     Temperature,
 }
 
-// Whose table of f_temp.
+/// Whose table of f_temp.
 #[derive(Clone, Copy)]
 pub enum Curve {
+    /// That of tree 1.
     BorealSpruce,
+    /// That of tree 2.
     Birch,
+    /// That of tree 3.
     ContinentalSpruce,
+    /// That of tree 4.
     Beech,
+    /// That of tree 5.
     Oak,
+    /// That of tree 6.
     Evergreen,
 }
 
-// Where f_temp is found: in a tree's table, or worked out from the figures (W-212).
+/// Where f_temp is found ("Factors").
 #[derive(Clone, Copy)]
 pub enum Source {
+    /// In the table of this curve.
     Tabled(Curve),
+    /// Worked out from the figures at each reading, as for tree 7.
     Worked,
 }
 
-// A tree's figures. Percent: fmin, a, e. Whole degrees above -50 °C: tmin, topt, tmax.
+/// A tree's figures ("Tree table").
 #[derive(Clone, Copy)]
 pub struct Figures {
-    // mmol m⁻² s⁻¹
-    pub gmax: u16,
-    pub fmin: u16,
-    // ten-thousandths
-    pub lighta: u16,
-    pub tmin: u16,
-    pub topt: u16,
-    pub tmax: u16,
-    // (tmax - topt) / (topt - tmin), reduced
+    /// The greatest conductance, mmol m⁻² s⁻¹.
+    pub g_max: u16,
+    /// f_min, percent.
+    pub f_min: u16,
+    /// light_a, ten-thousandths.
+    pub light_a: u16,
+    /// Tmin, whole degrees above -50 °C.
+    pub t_min: u16,
+    /// Topt, whole degrees above -50 °C.
+    pub t_opt: u16,
+    /// Tmax, whole degrees above -50 °C.
+    pub t_max: u16,
+    /// p of p/q, which is (Tmax - Topt)/(Topt - Tmin) in lowest terms.
     pub p: u16,
+    /// q of p/q.
     pub q: u16,
+    /// Where f_temp is found.
     pub source: Source,
-    // Pa
-    pub vpdmax: u16,
-    pub vpdmin: u16,
-    // in the measure's unit
+    /// VPD max, where f_VPD is 1, Pa.
+    pub vpd_max: u16,
+    /// VPD min, where f_VPD is f_min, Pa.
+    pub vpd_min: u16,
+    /// What a soil reading measures.
     pub measure: Measure,
-    pub soilmax: u16,
-    pub soilmin: u16,
-    // mm
+    /// Soil max, where f_SW is 1, in the measure's unit.
+    pub soil_max: u16,
+    /// Soil min, where f_SW is f_min, in the measure's unit.
+    pub soil_min: u16,
+    /// The leaf's width, mm.
     pub leaf: u16,
+    /// What f_phen goes by.
     pub phenology: Phenology,
+    /// f_phen on the first day, percent.
     pub a: u16,
+    /// f_phen on the last day, percent.
     pub e: u16,
-    // days
+    /// The days within which f_phen rises.
     pub f1: u16,
+    /// The days within which it falls.
     pub f4: u16,
-    // the flux that adds no dose, nmol m⁻² s⁻¹
+    /// Y, the flux that adds no dose, nmol m⁻² s⁻¹.
     pub y: u16,
 }
 
-// Leaf age by warmth (W-213): the temperature sums, in °C days, within which f_phen rises, within which it falls, and at which it ends; all 0 where none was fed.
+/// Leaf age by warmth ("Leaf age by warmth"): three temperature sums in °C days, all 0 where none
+/// were fed.
 #[derive(Clone, Copy, Default, PartialEq, Eq)]
 pub struct Warmth {
+    /// The sum within which f_phen rises.
     pub rise: u16,
+    /// The sum within which it falls.
     pub fall: u16,
+    /// The sum at which it ends.
     pub end: u16,
 }
 
-// A vapour pressure deficit lies from lower/den to upper/den, in Pa; a den of 0 is read as 1.
-// Kept: `Bounds` inside would be one more name at each use, and its two numbers say nothing without the den.
+/// A vapour pressure deficit lies from lower/den to upper/den, in Pa; a den of 0 is read as 1.
+// Three numbers side by side: a `Bounds` inside would say nothing without the den.
 #[derive(Clone, Copy)]
 pub struct Deficits {
+    /// The lower deficit's numerator.
     pub lower: u64,
+    /// The upper deficit's numerator.
     pub upper: u64,
+    /// The denominator of both.
     pub den: u32,
 }
 
-// A factor lies from lower to upper.
-// Kept: with one type for both, every definition that names `Bounds` would name its numbers' type, for a struct of two fields.
+/// A factor lies from lower to upper, both included.
+// A type beside `Bounds`: one type for both would bring its numbers' type into each definition.
 #[derive(Clone, Copy)]
 pub struct FactorPair {
+    /// The factor is not below it.
     pub lower: Fraction,
+    /// The factor is not above it.
     pub upper: Fraction,
 }
 
@@ -109,20 +156,20 @@ const ZERO: u16 = 50;
 macro_rules! put_together {
     ($tree:ident) => {
         Figures {
-            gmax: $tree::GMAX,
-            fmin: $tree::F_MIN,
-            lighta: $tree::LIGHT_A,
-            tmin: $tree::T_MIN,
-            topt: $tree::T_OPT,
-            tmax: $tree::T_MAX,
+            g_max: $tree::GMAX,
+            f_min: $tree::F_MIN,
+            light_a: $tree::LIGHT_A,
+            t_min: $tree::T_MIN,
+            t_opt: $tree::T_OPT,
+            t_max: $tree::T_MAX,
             p: $tree::P,
             q: $tree::Q,
             source: Source::Tabled($tree::CURVE),
-            vpdmax: $tree::VPD_MAX,
-            vpdmin: $tree::VPD_MIN,
+            vpd_max: $tree::VPD_MAX,
+            vpd_min: $tree::VPD_MIN,
             measure: $tree::MEASURE,
-            soilmax: $tree::SOIL_MAX,
-            soilmin: $tree::SOIL_MIN,
+            soil_max: $tree::SOIL_MAX,
+            soil_min: $tree::SOIL_MIN,
             leaf: $tree::LEAF,
             phenology: $tree::PHENOLOGY,
             a: $tree::A,
@@ -134,67 +181,77 @@ macro_rules! put_together {
     };
 }
 
-/// A tree of the table: each of its figures is a constant of its type, under the figure's own name.
+/// A tree of the table: each of its figures is a constant of its type, under the figure's own name
+/// ("Tree table").
 pub trait Tree {
     ghost FIGURES: { Figures };
 
-    /// mmol m⁻² s⁻¹
+    /// The greatest conductance, mmol m⁻² s⁻¹.
     const GMAX: u16;
 
-    /// percent
+    /// f_min, percent.
     const F_MIN: u16;
 
-    /// ten-thousandths
+    /// light_a, ten-thousandths.
     const LIGHT_A: u16;
 
-    /// The three temperatures of f_temp, in whole degrees above -50 °C.
+    /// Tmin, whole degrees above -50 °C.
     const T_MIN: u16;
 
+    /// Topt, whole degrees above -50 °C.
     const T_OPT: u16;
 
+    /// Tmax, whole degrees above -50 °C.
     const T_MAX: u16;
 
-    /// (T_MAX - T_OPT) / (T_OPT - T_MIN) is P / Q, reduced.
+    /// p of p/q, which is (Tmax - Topt)/(Topt - Tmin) in lowest terms.
     const P: u16;
 
+    /// q of p/q.
     const Q: u16;
 
     /// Whose table f_temp is found in.
     const CURVE: Curve;
 
-    /// Pa
+    /// VPD max, Pa.
     const VPD_MAX: u16;
 
+    /// VPD min, Pa.
     const VPD_MIN: u16;
 
-    /// What a soil reading measures, and the two ends of f_SW in its unit.
+    /// What a soil reading measures.
     const MEASURE: Measure;
 
+    /// Soil max, in the measure's unit.
     const SOIL_MAX: u16;
 
+    /// Soil min, in the measure's unit.
     const SOIL_MIN: u16;
 
-    /// mm
+    /// The leaf's width, mm.
     const LEAF: u16;
 
     /// What f_phen goes by.
     const PHENOLOGY: Phenology;
 
-    /// f_phen on the first day and on the last, in percent.
+    /// f_phen on the first day, percent.
     const A: u16;
 
+    /// f_phen on the last day, percent.
     const E: u16;
 
-    /// The days within which f_phen rises, and within which it falls.
+    /// The days within which f_phen rises.
     const F1: u16;
 
+    /// The days within which it falls.
     const F4: u16;
 
-    /// The figures together.
+    /// The figures together, and Y, which is 1.
     fn figures() -> Figures
         ensures { result ≡ FIGURES };
 }
 
+/// Tree 1, boreal spruce.
 #[derive(Clone, Copy)]
 pub struct BorealSpruce;
 
@@ -246,6 +303,7 @@ impl Tree for BorealSpruce {
     }
 }
 
+/// Tree 2, birch.
 #[derive(Clone, Copy)]
 pub struct Birch;
 
@@ -297,6 +355,7 @@ impl Tree for Birch {
     }
 }
 
+/// Tree 3, continental spruce.
 #[derive(Clone, Copy)]
 pub struct ContinentalSpruce;
 
@@ -348,6 +407,7 @@ impl Tree for ContinentalSpruce {
     }
 }
 
+/// Tree 4, beech.
 #[derive(Clone, Copy)]
 pub struct Beech;
 
@@ -399,6 +459,7 @@ impl Tree for Beech {
     }
 }
 
+/// Tree 5, oak.
 #[derive(Clone, Copy)]
 pub struct Oak;
 
@@ -450,6 +511,7 @@ impl Tree for Oak {
     }
 }
 
+/// Tree 6, the evergreen.
 #[derive(Clone, Copy)]
 pub struct Evergreen;
 
@@ -501,10 +563,11 @@ impl Tree for Evergreen {
     }
 }
 
-// The figures of the tree with a number, 1 to 6.
-// Kept: a header may bring any byte, which row 5 refuses; a narrower type would ask more of callers.
+/// The figures of the tree with a number, 1 to 6; none for any other number, which row 5 refuses
+/// where it is not 7 either ("Tree table").
+// Any byte: a header may bring any, so a narrower type would ask more of callers.
 #[tactic(auto, unfolding(crate::specs::Figures::figures_of))]
-pub fn figures_of(tree: u8) -> Option<Figures>
+pub(crate) fn figures_of(tree: u8) -> Option<Figures>
     ensures value { result ≡ figures_of tree }
     ensures row { choice_row result ≡ tree_row tree }
 {
@@ -519,7 +582,7 @@ pub fn figures_of(tree: u8) -> Option<Figures>
     }
 }
 
-// The days that the two ramps of f_phen take, f1 + f4.
+/// The days that the two ramps of f_phen take together, f1 + f4 ("Factors").
 pub fn ramp_days(f: Figures) -> u32
     ensures { result ≡ ramp_days f }
 {

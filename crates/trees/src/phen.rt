@@ -1,9 +1,9 @@
-// The factor f_phen (document 01, "Factors"), by the tree's kind of phenology.
+//! The factor f_phen ("Factors", "Leaf age by warmth"), by the tree's kind of phenology.
 ghost use Rattle.exact.specs.Frac.{Is};
 ghost use Rattle.trees.specs.Facts.{FactorFacts};
 ghost use Rattle.trees.specs.Phenology.{by_ramps, by_dip, by_temperature, phenology_of, by_warmth};
 
-use crate::{Figures, Phenology, Warmth, factors};
+use crate::{Figures, Phenology, Reading, Warmth, factors};
 use exact::Fraction;
 
 #[tactic(auto, unfolding(crate::specs::Phenology::by_ramps))]
@@ -32,35 +32,37 @@ fn by_dip(day: u16) -> Fraction
 }
 
 #[tactic(auto, unfolding(crate::specs::Phenology::by_temperature))]
-fn by_temperature(tmin: u16, tmax: u16, temperature: u16) -> Fraction
-    ensures { Is result (by_temperature tmin tmax temperature) }
+fn by_temperature(t_min: u16, t_max: u16, x: Reading) -> Fraction
+    ensures { Is result (by_temperature t_min t_max x.tenths) }
 {
-    let t = temperature as u32;
-    if 10 * (tmin as u32) < t && t < 10 * (tmax as u32) {
+    let t = x.tenths as u32;
+    if 10 * (t_min as u32) < t && t < 10 * (t_max as u32) {
         Fraction { num: 1, den: 1 }
     } else {
         Fraction { num: 0, den: 1 }
     }
 }
 
-// f_phen on a day of a period, at a temperature in tenths of a degree above -50.0 °C.
+/// f_phen on a day of the period from `first` to `last`, at a temperature in tenths of a degree
+/// above -50.0 °C: a fraction from 0 to 1 ("Factors").
 #[tactic(auto, unfolding(crate::specs::Phenology::phenology_of), using(crate::proofs::FactsLaws::facts))]
-pub fn f_phen(f: Figures, first: u16, last: u16, day: u16, temperature: u16) -> Fraction
-    ensures is { Is result (phenology_of f first last day temperature) }
+pub fn f_phen(f: Figures, first: u16, last: u16, day: u16, x: Reading) -> Fraction
+    ensures is { Is result (phenology_of f first last day x.tenths) }
     ensures facts { FactorFacts }
 {
     let phenology = f.phenology;
     match phenology {
         Phenology::Ramps => by_ramps(f, first, last, day),
         Phenology::Dip => by_dip(day),
-        Phenology::Temperature => by_temperature(f.tmin, f.tmax, temperature),
+        Phenology::Temperature => by_temperature(f.t_min, f.t_max, x),
     }
 }
 
 // The temperature sum of a °C day, in tenths of a degree over hours.
 const DEGREE_DAY: u64 = 240;
 
-// f_phen at a temperature sum, in tenths of a degree over hours (W-213).
+/// f_phen at a temperature sum in tenths of a degree over hours, 240 of which are a °C day: a
+/// fraction from 0 to 1 ("Leaf age by warmth").
 #[tactic(auto, unfolding(crate::specs::Phenology::by_warmth), using(crate::proofs::FactsLaws::facts))]
 pub fn f_phen_by_warmth(f: Figures, warmth: Warmth, sum: u32) -> Fraction
     ensures is { Is result (by_warmth f warmth sum) }

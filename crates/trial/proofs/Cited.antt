@@ -1,20 +1,21 @@
--- The promise of trials, over trials and takings that are tied by the contracts of `trial` and `take`, as they stand at the functions.
+-- The promise of trials, over trials and takings that are tied by the contracts of `try_line` and
+-- `take`, as they stand at the functions.
 use Prim.Native.Nat.{ℕ}
 use mathlib.Core.List.{List, []}
 use denote.Ref.{Bor}
 use Rattle.account_spec.specs.declared.Account.{Account}
 use Rattle.account_spec.specs.Rules.{left_by, Feeds, Fed}
 use Rattle.account_spec.specs.Reading.{Reads}
-use Rattle.trial_spec.specs.declared.Trial.{Trial}
-use Rattle.trial_spec.specs.Promise.{TrialPromise}
-use Rattle.trial_spec.proofs.TrialLaws.{trial-promise}
-use Rattle.trial.proofs.trial.Reads as trial-reads
+use Rattle.trial.specs.declared.Trial.{Trial}
+use Rattle.trial.specs.Promise.{TrialPromise}
+use Rattle.trial.proofs.TrialLaws.{trial-promise}
+use Rattle.trial.proofs.try_line.Reads as trial-reads
 use Rattle.trial.proofs.take.Reads as take-reads
 
 abbrev lent : List ℕ → Bor (List ℕ)
 lent l = record { ref_ptr = (0, 0); now = l }
 
--- what a call of `trial` promises, and one of `take`
+-- what a call of `try_line` promises, and one of `take`
 abbrev Made : Account → List ℕ → Trial → Type 0
 Made a l t = trial-reads.Post ([], tt) (a, (lent l, tt)) t (a, (lent l, tt))
 

@@ -1,1 +1,5 @@
+pub mod SameLaws
+pub mod TakeLaws
+pub mod TrialLaws
 pub mod Cited
+mod TryLaws

@@ -1,4 +1,6 @@
-//! The calls on an account and on a list of accounts, each held to the account's own model and to the other calls (document 02, W-206, W-210, W-214).
+//! The calls on an account and on a list of accounts, each held to the account's own model and to
+//! the other calls (docs/SPECIFICATION.md, "Trials", "Several trees, one reading", "Loggers that
+//! hold floats").
 
 use crate::account::verdict;
 use crate::bench::*;
@@ -40,7 +42,8 @@ fn verdict_of(account: &Account) -> &'static str {
 
 /// The account's line as the report prints it.
 fn line_of(account: &Account) -> String {
-    let [hours, counted, lower, upper, least, most] = [HOURS, COUNTED, LOWER, UPPER, LEAST, MOST].map(|at| account[at]);
+    let [hours, counted, lower, upper, least, most] =
+        [HOURS, COUNTED, LOWER, UPPER, LEAST, MOST].map(|at| account[at]);
     format!("{hours} {counted} {lower} {upper} {least} {most} {}\n", verdict_of(account))
 }
 
@@ -76,7 +79,10 @@ fn same_as_fed(account: &[u8], line: &[u8], code: u32, after: &[u8]) -> Held<()>
         return Ok(());
     }
     let described = |code, bytes| format!("code {code}, account {}", hex(bytes));
-    Err(Difference { expected: format!("as by feeding: {}", described(alone.0, &alone.1)), got: described(code, after) })
+    Err(Difference {
+        expected: format!("as by feeding: {}", described(alone.0, &alone.1)),
+        got: described(code, after),
+    })
 }
 
 impl Bench {
@@ -96,14 +102,22 @@ impl Bench {
     pub fn feed(&mut self, account: &mut Vec<u8>, line: &[u8]) -> Held<u32> {
         self.say(|| format!("pod1_feed account {} line {}", hex(account), shown(line)));
         let (mut lent, mut lent_line) = (self.lend(account), self.lend(line));
-        let code = unsafe { pod1_feed(lent.pointer(), lent.length(), lent_line.pointer(), lent_line.length()) };
+        let code = unsafe {
+            pod1_feed(lent.pointer(), lent.length(), lent_line.pointer(), lent_line.length())
+        };
         self.counts.add("feed", code);
         same_bytes("line", line, &lent_line)?;
         self.step(line_fed(account, line), code, account, &lent)
     }
 
     /// A code and the bytes after it, held to the model's step.
-    fn step(&mut self, step: Result<Step, u32>, code: u32, account: &mut Vec<u8>, lent: &Lent) -> Held<u32> {
+    fn step(
+        &mut self,
+        step: Result<Step, u32>,
+        code: u32,
+        account: &mut Vec<u8>,
+        lent: &Lent,
+    ) -> Held<u32> {
         same(code_of(&step), code)?;
         if let Ok(step) = &step {
             *account = settled(step, account, lent.bytes().unwrap_or_default())?;
@@ -118,10 +132,16 @@ impl Bench {
     pub fn feed_floats(&mut self, account: &mut Vec<u8>, floats: &Floats) -> Held<u32> {
         let Floats { day, hour, readings } = *floats;
         let bits = readings.map(f32::to_bits);
-        self.say(|| format!("pod1_feed_floats account {} day {day} hour {hour} readings {readings:?}, as bits {bits:08X?}", hex(account)));
+        self.say(|| {
+            let bytes = hex(account);
+            let place = format!("account {bytes} day {day} hour {hour}");
+            format!("pod1_feed_floats {place} readings {readings:?}, as bits {bits:08X?}")
+        });
         let mut lent = self.lend(account);
         let before = account.clone();
-        let code = unsafe { pod1_feed_floats(lent.pointer(), lent.length(), day, hour, FloatReadings { readings }) };
+        let code = unsafe {
+            pod1_feed_floats(lent.pointer(), lent.length(), day, hour, FloatReadings { readings })
+        };
         self.counts.add("floats", code);
         self.step(floats_fed(account, floats), code, account, &lent)?;
         if let Some(line) = said_by(floats) {
@@ -146,7 +166,9 @@ impl Bench {
     pub fn line(&mut self, account: &[u8], buffer: &[u8]) -> Held<()> {
         self.say(|| format!("pod1_line account {} buffer {}", hex(account), hex(buffer)));
         let (mut lent, mut lent_buffer) = (self.lend(account), self.lend(buffer));
-        let got = unsafe { pod1_line(lent.pointer(), lent.length(), lent_buffer.pointer(), lent_buffer.length()) };
+        let got = unsafe {
+            pod1_line(lent.pointer(), lent.length(), lent_buffer.pointer(), lent_buffer.length())
+        };
         self.counts.add("line", got.code);
         same_bytes("account", account, &lent)?;
         let line = possible(account).map(|account| line_of(&account).into_bytes());
@@ -155,10 +177,23 @@ impl Bench {
 
     /// Tries a line, and takes the trial's bytes over.
     pub fn trial(&mut self, account: &[u8], line: &[u8], trial: &mut [u8]) -> Held<()> {
-        self.say(|| format!("pod1_trial account {} line {} trial {}", hex(account), shown(line), hex(trial)));
-        let (mut lent, mut lent_line, mut lent_trial) = (self.lend(account), self.lend(line), self.lend(trial));
-        let (account_at, line_at, trial_at) = (lent.pointer(), lent_line.pointer(), lent_trial.pointer());
-        let got = unsafe { pod1_trial(account_at, lent.length(), line_at, lent_line.length(), trial_at, lent_trial.length()) };
+        self.say(|| {
+            format!("pod1_trial account {} line {} trial {}", hex(account), shown(line), hex(trial))
+        });
+        let (mut lent, mut lent_line, mut lent_trial) =
+            (self.lend(account), self.lend(line), self.lend(trial));
+        let (account_at, line_at, trial_at) =
+            (lent.pointer(), lent_line.pointer(), lent_trial.pointer());
+        let got = unsafe {
+            pod1_trial(
+                account_at,
+                lent.length(),
+                line_at,
+                lent_line.length(),
+                trial_at,
+                lent_trial.length(),
+            )
+        };
         self.counts.add("trial", got.code);
         same_bytes("account", account, &lent)?;
         same_bytes("line", line, &lent_line)?;
@@ -176,7 +211,9 @@ impl Bench {
     pub fn take(&mut self, account: &mut Vec<u8>, trial: &[u8]) -> Held<u32> {
         self.say(|| format!("pod1_take account {} trial {}", hex(account), hex(trial)));
         let (mut lent, mut lent_trial) = (self.lend(account), self.lend(trial));
-        let code = unsafe { pod1_take(lent.pointer(), lent.length(), lent_trial.pointer(), lent_trial.length()) };
+        let code = unsafe {
+            pod1_take(lent.pointer(), lent.length(), lent_trial.pointer(), lent_trial.length())
+        };
         self.counts.add("take", code);
         let expected = taken(account, trial);
         same(code_of(&expected), code)?;
@@ -192,7 +229,9 @@ impl Bench {
     pub fn feed_all(&mut self, accounts: &mut Vec<u8>, line: &[u8]) -> Held<u32> {
         self.say(|| format!("pod1_feed_all accounts {} line {}", hex(accounts), shown(line)));
         let (mut lent, mut lent_line) = (self.lend(accounts), self.lend(line));
-        let code = unsafe { pod1_feed_all(lent.pointer(), lent.length(), lent_line.pointer(), lent_line.length()) };
+        let code = unsafe {
+            pod1_feed_all(lent.pointer(), lent.length(), lent_line.pointer(), lent_line.length())
+        };
         self.counts.add("feed all", code);
         same_bytes("line", line, &lent_line)?;
         let steps = all_fed(accounts, line);
@@ -200,7 +239,8 @@ impl Bench {
         let got = lent.bytes().unwrap_or_default();
         for (n, step) in steps.iter().flatten().enumerate() {
             let own = n * SIZE..(n + 1) * SIZE;
-            let after = settled(step, &accounts[own.clone()], got.get(own.clone()).unwrap_or_default())?;
+            let after =
+                settled(step, &accounts[own.clone()], got.get(own.clone()).unwrap_or_default())?;
             same_as_fed(&accounts[own.clone()], line, 0, &after)?;
             accounts[own].copy_from_slice(&after);
         }
@@ -210,7 +250,12 @@ impl Bench {
 }
 
 /// A printed line, or the refusal before row 12; a refused call leaves the buffer.
-pub fn held_printed(line: Result<Vec<u8>, u32>, buffer: &[u8], got: Printed, lent: &Lent) -> Held<()> {
+pub fn held_printed(
+    line: Result<Vec<u8>, u32>,
+    buffer: &[u8],
+    got: Printed,
+    lent: &Lent,
+) -> Held<()> {
     let line = line.and_then(|line| if buffer.len() < line.len() { Err(12) } else { Ok(line) });
     let mut after = buffer.to_vec();
     let expected = match &line {
@@ -256,13 +301,17 @@ fn said_by(floats: &Floats) -> Option<String> {
     Some(hour_line(floats.day as i64, floats.hour as i64, &Readings { kind: 2, values }))
 }
 
-/// What a list must agree in: days, first, last, hours, phase, ceiling, kind and the soil's measure.
+/// What a list must agree in: days, first, last, hours, phase, ceiling, kind and the soil's
+/// measure.
 fn is_alike(one: &Account, other: &Account) -> bool {
-    let measure = |account: &Account| soil_most(account[TREE] as i64); // fresh ones have no tree, and one measure
-    [DAYS, FIRST, LAST, HOURS, PHASE, CEILING, KIND].iter().all(|&at| one[at] == other[at]) && measure(one) == measure(other)
+    // fresh ones have no tree, and one measure
+    let measure = |account: &Account| soil_most(account[TREE] as i64);
+    [DAYS, FIRST, LAST, HOURS, PHASE, CEILING, KIND].iter().all(|&at| one[at] == other[at])
+        && measure(one) == measure(other)
 }
 
-/// The steps of a list of accounts, all or none: rows 22, 13, 23, then that of the first one that refuses.
+/// The steps of a list of accounts, all or none: rows 22, 13, 23, then that of the first one that
+/// refuses.
 fn all_fed(bytes: &[u8], line: &[u8]) -> Result<Vec<Step>, u32> {
     let count = bytes.len() / SIZE;
     if !(1..=6).contains(&count) {

@@ -1,4 +1,5 @@
-//! A list of calls on the part: each said where the list is printed, held to what it must answer, and counted.
+//! A list of calls on the part: each said where the list is printed, held to what it must answer,
+//! and counted.
 
 use crate::counts::Counts;
 use crate::part::Lent;
@@ -65,7 +66,12 @@ pub fn same<T: PartialEq + Debug>(expected: T, got: T) -> Held<()> {
 pub fn same_bytes(what: &str, expected: &[u8], lent: &Lent) -> Held<()> {
     match lent.bytes() {
         Some(got) if got == expected => Ok(()),
-        Some(got) => Err(Difference { expected: format!("{what} {}", hex(expected)), got: hex(got) }),
-        None => Err(Difference { expected: format!("{what} alone is written"), got: "bytes before or behind it were touched".into() }),
+        Some(got) => {
+            Err(Difference { expected: format!("{what} {}", hex(expected)), got: hex(got) })
+        }
+        None => Err(Difference {
+            expected: format!("{what} alone is written"),
+            got: "bytes before or behind it were touched".into(),
+        }),
     }
 }

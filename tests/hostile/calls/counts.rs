@@ -65,9 +65,13 @@ impl Counts {
     /// The answers that must come up and did not.
     pub fn lacking(&self) -> Vec<String> {
         let due = CALLS.iter().flat_map(|(call, rows, fields)| {
-            let named = fields.iter().flat_map(|&(row, most)| (1..=most).map(move |field| row + 256 * field));
+            let named = fields
+                .iter()
+                .flat_map(|&(row, most)| (1..=most).map(move |field| row + 256 * field));
             rows.concat().into_iter().chain(named).map(move |code| (*call, code))
         });
-        due.filter(|answer| !self.answers.contains_key(answer)).map(|(call, code)| format!("{call} row {} field {}", code & 255, code >> 8)).collect()
+        due.filter(|answer| !self.answers.contains_key(answer))
+            .map(|(call, code)| format!("{call} row {} field {}", code & 255, code >> 8))
+            .collect()
     }
 }

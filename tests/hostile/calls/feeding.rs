@@ -1,4 +1,5 @@
-//! What a call must leave of an account: a line or an hour of floats to any bytes (document 01, "Account"; document 02, W-214), and a trial taken (W-206).
+//! What a call must leave of an account: a line or an hour of floats to any bytes, and a trial
+//! taken (docs/SPECIFICATION.md, "Account", "Loggers that hold floats", "Trials").
 
 use crate::account::{limits, read, Frame, Sums};
 use crate::dose::SLACK;
@@ -43,7 +44,11 @@ pub struct Floats {
 
 impl Floats {
     fn frame(&self, values: [i64; 8]) -> Frame {
-        Frame::Hour { day: self.day as i64, hour: self.hour as i64, readings: Readings { kind: 2, values } }
+        Frame::Hour {
+            day: self.day as i64,
+            hour: self.hour as i64,
+            readings: Readings { kind: 2, values },
+        }
     }
 
     fn first_broken(&self) -> Option<usize> {
@@ -72,7 +77,10 @@ impl Step {
         let mut account = self.account;
         let [lower, upper] = [LOWER, UPPER].map(|at| got[at] - account[at]);
         if let Some(why) = self.wrong_dose(lower, upper) {
-            return Err(format!("{why}: {lower} and {upper} were added, the dose is {:?}", self.added.dose));
+            return Err(format!(
+                "{why}: {lower} and {upper} were added, the dose is {:?}",
+                self.added.dose
+            ));
         }
         (account[LOWER], account[UPPER]) = (got[LOWER], got[UPPER]);
         Ok(account)
@@ -88,7 +96,10 @@ impl Step {
         let is_apart = missing == 0 && upper - lower > gap as i128;
         if lower < 0 || lower as f64 > low + SLACK {
             Some("lower is not 0 to the dose")
-        } else if (upper as f64) < high - SLACK || upper as f64 > high + gap as f64 + SLACK || upper > most as i128 {
+        } else if (upper as f64) < high - SLACK
+            || upper as f64 > high + gap as f64 + SLACK
+            || upper > most as i128
+        {
             Some("upper is under the dose or too far above it")
         } else {
             is_apart.then_some("lower and upper are too far apart")
@@ -126,5 +137,9 @@ pub fn taken(bytes: &[u8], trial: &[u8]) -> Result<Account, u32> {
     if code != 0 {
         return Err(code);
     }
-    if is_impossible(&following) { Err(13) } else { Ok(following) }
+    if is_impossible(&following) {
+        Err(13)
+    } else {
+        Ok(following)
+    }
 }

@@ -1,7 +1,8 @@
 //! The account as bytes: its numbers at fixed places, each high byte first.
 //!
-//!     version 1 | phase 1 | kind 1 | hours 2 | counted 2 | missing 2 | lower 8 | upper 8 | least 4 | most 4 | sum 4 | total 2 |
-//!     tree 1 | days 2 | first 2 | last 2 | level 2 | ceiling 2 | rise 2 | fall 2 | end 2 | sixteen parameters, 2 each      88 bytes
+//!     version 1 | phase 1 | kind 1 | hours 2 | counted 2 | missing 2 | lower 8 | upper 8 |
+//!     least 4 | most 4 | sum 4 | total 2 | tree 1 | days 2 | first 2 | last 2 | level 2 |
+//!     ceiling 2 | rise 2 | fall 2 | end 2 | sixteen parameters, 2 each      88 bytes
 
 use crate::account::{Book, Header};
 use crate::frames::NEWEST;
@@ -74,7 +75,11 @@ fn is_signed(at: usize) -> bool {
 fn cut(at: usize, number: i128) -> i128 {
     let bits = 8 * WIDTHS[at];
     let number = number & ((1 << bits) - 1);
-    if is_signed(at) && number >> (bits - 1) == 1 { number - (1 << bits) } else { number }
+    if is_signed(at) && number >> (bits - 1) == 1 {
+        number - (1 << bits)
+    } else {
+        number
+    }
 }
 
 impl Account {
@@ -90,16 +95,20 @@ impl Account {
         let mut start = 0;
         for at in 0..NUMBERS {
             let digits = &bytes[start..start + WIDTHS[at]];
-            account[at] = cut(at, digits.iter().fold(0, |number, &byte| number << 8 | byte as i128));
+            account[at] =
+                cut(at, digits.iter().fold(0, |number, &byte| number << 8 | byte as i128));
             start += WIDTHS[at];
         }
         account
     }
 
-    /// The account at the front of bytes: none where they are too few, or of another version, phase or kind.
+    /// The account at the front of bytes: none where they are too few, or of another version, phase
+    /// or kind.
     pub fn taken_up(bytes: &[u8]) -> Option<Account> {
         let account = Account::of(bytes.get(..SIZE)?);
-        let is_held = account[VERSION] == 1 && account[PHASE] <= CLOSED && [0, 2, 4, 5].contains(&account[KIND]);
+        let is_held = account[VERSION] == 1
+            && account[PHASE] <= CLOSED
+            && [0, 2, 4, 5].contains(&account[KIND]);
         is_held.then_some(account)
     }
 
@@ -138,11 +147,13 @@ impl Account {
 
     /// With what follows it; a fresh account's too, all 0.
     pub fn header(&self) -> Header {
-        let [tree, days, first, last, level] = [TREE, DAYS, FIRST, LAST, LEVEL].map(|at| self.small(at));
+        let [tree, days, first, last, level] =
+            [TREE, DAYS, FIRST, LAST, LEVEL].map(|at| self.small(at));
         Header { tree, days, first, last, level, own: self.parameters(), warmth: self.warmth() }
     }
 
-    /// A book that takes the next frame as the account does; its sums are those that come from now on.
+    /// A book that takes the next frame as the account does; its sums are those that come from now
+    /// on.
     pub fn book(&self) -> Book {
         let mut book = Book::new(NEWEST);
         book.header = (self[PHASE] != FRESH).then(|| self.header());
@@ -162,7 +173,12 @@ impl Account {
         after[CEILING] = book.ceiling as i128;
         let sums = &book.figures.sums;
         after[HOURS] = book.figures.hours as i128;
-        for (at, added) in [(COUNTED, sums.counted), (MISSING, sums.missing), (LEAST, sums.aot40[0]), (MOST, sums.aot40[1])] {
+        for (at, added) in [
+            (COUNTED, sums.counted),
+            (MISSING, sums.missing),
+            (LEAST, sums.aot40[0]),
+            (MOST, sums.aot40[1]),
+        ] {
             after[at] += added as i128;
         }
         if let Some(header) = book.header {
@@ -173,14 +189,22 @@ impl Account {
 
     fn enter(&mut self, header: &Header, temperatures: [i64; 2]) {
         let Header { tree, days, first, last, level, own, warmth } = *header;
-        for (at, number) in [(TREE, tree), (DAYS, days), (FIRST, first), (LAST, last), (LEVEL, level)] {
+        for (at, number) in
+            [(TREE, tree), (DAYS, days), (FIRST, first), (LAST, last), (LEVEL, level)]
+        {
             self[at] = number as i128;
         }
         for (n, number) in own.iter().flat_map(|own| own.numbers).enumerate() {
             self[OWN + n] = number as i128;
         }
         if let Some(Warmth { rise, fall, end }) = warmth {
-            for (at, number) in [(RISE, rise), (FALL, fall), (END, end), (SUM, temperatures[0]), (TOTAL, temperatures[1])] {
+            for (at, number) in [
+                (RISE, rise),
+                (FALL, fall),
+                (END, end),
+                (SUM, temperatures[0]),
+                (TOTAL, temperatures[1]),
+            ] {
                 self[at] = number as i128;
             }
         }

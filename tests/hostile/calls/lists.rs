@@ -1,4 +1,5 @@
-//! Lists of calls by chance: seasons fed line by line, accounts from hostile bytes, lists of accounts, season texts and writers.
+//! Lists of calls by chance: seasons fed line by line, accounts from hostile bytes, lists of
+//! accounts, season texts and writers.
 
 use crate::account::{lines, Header};
 use crate::accounts::line_of_bytes;
@@ -51,8 +52,8 @@ fn any_season(rng: &mut Rng) -> Season {
 /// Of short texts.
 #[rustfmt::skip]
 const IN_TURN: [fn(&mut Rng, u64) -> Vec<u8>; 14] = [
-    every_byte, every_length, every_kind, every_reading, every_field, every_bend, every_border, every_mixture, every_ceiling, every_gap, every_parameter,
-    every_place, every_warmth, every_sum,
+    every_byte, every_length, every_kind, every_reading, every_field, every_bend, every_border,
+    every_mixture, every_ceiling, every_gap, every_parameter, every_place, every_warmth, every_sum,
 ];
 
 /// A season's text, whole, damaged, cut, or one of those that go through a list in turn.
@@ -70,7 +71,11 @@ fn any_text(rng: &mut Rng) -> Vec<u8> {
         }
         5 => {
             let whole = text(rng, &season.lines());
-            if rng.one_in(2) { cut(rng, whole) } else { disturb(rng, whole) }
+            if rng.one_in(2) {
+                cut(rng, whole)
+            } else {
+                disturb(rng, whole)
+            }
         }
         6 if rng.one_in(4) => noise(rng),
         _ => {
@@ -87,7 +92,8 @@ fn account_in(bytes: &[u8]) -> Account {
     Account::taken_up(bytes).unwrap_or(Account::fresh())
 }
 
-/// A season's lines to a fresh account, other calls in between; on the way the account is stored and taken up again.
+/// A season's lines to a fresh account, other calls in between; on the way the account is stored
+/// and taken up again.
 fn season_list(bench: &mut Bench, rng: &mut Rng) -> Held<()> {
     let text = any_text(rng);
     let mut account = noise_account(rng);
@@ -100,7 +106,11 @@ fn season_list(bench: &mut Bench, rng: &mut Rng) -> Held<()> {
         if rng.one_in(8) {
             aside(bench, rng, &mut account)?;
         }
-        let code = if rng.one_in(12) { tried(bench, &mut account, line)? } else { bench.feed(&mut account, line)? };
+        let code = if rng.one_in(12) {
+            tried(bench, &mut account, line)?
+        } else {
+            bench.feed(&mut account, line)?
+        };
         refused = if code == 0 { 0 } else { refused + 1 };
         if refused == MOST_REFUSED {
             break;
@@ -176,7 +186,10 @@ fn damaged_copy(bench: &mut Bench, rng: &mut Rng, account: &[u8]) -> Held<()> {
 fn trials(bench: &mut Bench, rng: &mut Rng, account: &mut Vec<u8>) -> Held<()> {
     let held = account_in(account);
     let line = any_line(rng, &held);
-    let mut trial = vec![rng.next() as u8; rng.pick(&[TRIAL, TRIAL, TRIAL, TRIAL, TRIAL + 1, 300, TRIAL - 1, 0])];
+    let mut trial = vec![
+        rng.next() as u8;
+        rng.pick(&[TRIAL, TRIAL, TRIAL, TRIAL, TRIAL + 1, 300, TRIAL - 1, 0])
+    ];
     bench.trial(account, &line, &mut trial)?;
     match rng.below(8) {
         0 | 1 => {}
@@ -188,7 +201,8 @@ fn trials(bench: &mut Bench, rng: &mut Rng, account: &mut Vec<u8>) -> Held<()> {
             bench.take(account, &trial)?;
         }
         4 => {
-            let mut other = if rng.one_in(2) { any_state(rng) } else { broken_account(rng, &held).stored() };
+            let mut other =
+                if rng.one_in(2) { any_state(rng) } else { broken_account(rng, &held).stored() };
             bench.take(&mut other, &trial)?;
         }
         5 => flip(rng, &mut trial),
@@ -201,7 +215,8 @@ fn trials(bench: &mut Bench, rng: &mut Rng, account: &mut Vec<u8>) -> Held<()> {
 /// Any answer, in a trial that was made.
 fn carry(rng: &mut Rng, trial: &mut [u8]) {
     let row = rng.between(0, 27) as u8;
-    let field = if row == 10 || row == 26 { rng.below(10) as u8 } else { rng.pick(&[0, 0, 0, 1, 255]) };
+    let field =
+        if row == 10 || row == 26 { rng.below(10) as u8 } else { rng.pick(&[0, 0, 0, 1, 255]) };
     for (byte, new) in trial.iter_mut().zip([field, row]) {
         *byte = new;
     }
@@ -210,7 +225,9 @@ fn carry(rng: &mut Rng, trial: &mut [u8]) {
 /// A trial that nothing made: of the account, mostly, and with any other to follow it.
 fn made_trial(rng: &mut Rng, account: &[u8]) -> Vec<u8> {
     let mut trial = vec![0; TRIAL];
-    let mut put = |range: std::ops::Range<usize>, bytes: &[u8]| trial[range].iter_mut().zip(bytes).for_each(|(old, new)| *old = *new);
+    let mut put = |range: std::ops::Range<usize>, bytes: &[u8]| {
+        trial[range].iter_mut().zip(bytes).for_each(|(old, new)| *old = *new)
+    };
     put(TRIED, account);
     put(FOLLOWING, &any_state(rng));
     if rng.one_in(4) {
@@ -236,7 +253,8 @@ fn group_list(bench: &mut Bench, rng: &mut Rng) -> Held<()> {
     }
     accounts.resize(accounts.len() + rng.pick(&[0, 0, 0, 1, SIZE - 1]), 0xA5);
     for _ in 0..rng.between(1, 6) {
-        let due_to = if count > 0 { account_in(&accounts[SIZE * rng.below(count)..]) } else { first };
+        let due_to =
+            if count > 0 { account_in(&accounts[SIZE * rng.below(count)..]) } else { first };
         let line = if rng.one_in(2) { due_line(rng, &due_to) } else { any_line(rng, &due_to) };
         bench.feed_all(&mut accounts, &line)?;
         if rng.one_in(6) {
@@ -247,13 +265,15 @@ fn group_list(bench: &mut Bench, rng: &mut Rng) -> Held<()> {
     Ok(())
 }
 
-/// Trees around one mast: each opened alone, then the season's lines to all of them, damaged now and then.
+/// Trees around one mast: each opened alone, then the season's lines to all of them, damaged now
+/// and then.
 fn stand_list(bench: &mut Bench, rng: &mut Rng) -> Held<()> {
     let season = short_season(rng);
     let mut accounts = Vec::new();
     for _ in 0..rng.between(1, 6) {
         let tree = rng.pick(&[3, 6, 7]);
-        let header = Header { tree, level: any_level(rng), own: None, warmth: None, ..season.header };
+        let header =
+            Header { tree, level: any_level(rng), own: None, warmth: None, ..season.header };
         let mut account = Account::fresh().stored();
         let opening = Season { header: with_own(rng, header), ceiling: 0, hours: vec![] };
         for line in &opening.lines()[..opening.line_of(0)] {
@@ -282,12 +302,21 @@ fn member(rng: &mut Rng, first: &Account) -> Account {
     if rng.one_in(2) {
         with_other_tree(rng, &mut other);
     }
-    if is_impossible(&other) { *first } else { other }
+    if is_impossible(&other) {
+        *first
+    } else {
+        other
+    }
 }
 
-/// Mostly a tree of the same soil measure: its parameters and its warmth by chance, before the first hour none now and then.
+/// Mostly a tree of the same soil measure: its parameters and its warmth by chance, before the
+/// first hour none now and then.
 fn with_other_tree(rng: &mut Rng, account: &mut Account) {
-    let tree = rng.pick(if account[TREE] < 3 { &[1, 2, 1, 2, 3] } else { &[3, 4, 5, 6, 7, 7, 7, 7, 7, 2] });
+    let tree = rng.pick(if account[TREE] < 3 {
+        &[1, 2, 1, 2, 3]
+    } else {
+        &[3, 4, 5, 6, 7, 7, 7, 7, 7, 2]
+    });
     for at in RISE..NUMBERS {
         account[at] = 0;
     }
@@ -335,7 +364,8 @@ fn text_list(bench: &mut Bench, rng: &mut Rng) -> Held<()> {
     bench.report(&first, &any_buffer(rng, length))
 }
 
-/// The same text with other ozone, with another reading or an ozone lost besides, damaged, or another text.
+/// The same text with other ozone, with another reading or an ozone lost besides, damaged, or
+/// another text.
 fn second_text(rng: &mut Rng, first: &[u8]) -> Vec<u8> {
     let mut lines: Lines = lines(first).into_iter().map(<[u8]>::to_vec).collect();
     let often = rng.pick(&[1, 3, 20, 1000]);

@@ -1,12 +1,15 @@
-//! Hostile calls on the part, made by chance from a seed: lists of calls on accounts, trials, lists of accounts, floats, season texts and writers.
+//! Hostile calls on the part, made by chance from a seed: lists of calls on accounts, trials, lists
+//! of accounts, floats, season texts and writers.
 //!
 //!     calls [--seed S] [--lists N] [--seconds T]
 //!     calls --list K [--seed S]      one list alone, its calls printed
 //!
-//! Written from documents 01 and 02 alone. Every answer and every byte that is lent is compared, with a margin on both sides; the dose that an hour
-//! adds is held to the dose in doubles, and the part's own numbers are carried on, so that every later answer is exact. Trials, lists and floats are
-//! held to feeding the line besides. The answers are counted by call and row, and one that never comes up in a long run is a failure.
-//! At the first difference it prints the calls of that list, bytes in hexadecimal, and exits with 1.
+//! Written from docs/SPECIFICATION.md alone. Every answer and every byte that is lent is compared,
+//! with a margin on both sides; the dose that an hour adds is held to the dose in doubles, and the
+//! part's own numbers are carried on, so that every later answer is exact. Trials, lists and floats
+//! are held to feeding the line besides. The answers are counted by call and row, and one that
+//! never comes up in a long run is a failure. At the first difference it prints the calls of that
+//! list, bytes in hexadecimal, and exits with 1.
 
 #[allow(dead_code)]
 #[path = "../account.rs"]
@@ -97,7 +100,10 @@ fn main() {
         exit(1);
     }
     let elapsed = started.elapsed().as_secs_f64();
-    println!("calls: {number} lists in {elapsed:.1} s, {:.0} a second, ok", number as f64 / elapsed);
+    println!(
+        "calls: {number} lists in {elapsed:.1} s, {:.0} a second, ok",
+        number as f64 / elapsed
+    );
 }
 
 /// Makes one list again, prints its calls and how the last differs, and ends.
@@ -121,14 +127,20 @@ fn say(seed: u64, number: u64) -> ! {
 }
 
 fn limit(number: u64) -> String {
-    if number == u64::MAX { "any".into() } else { number.to_string() }
+    if number == u64::MAX {
+        "any".into()
+    } else {
+        number.to_string()
+    }
 }
 
 fn arguments() -> Result<Arguments, String> {
     let mut found = Arguments { seed: SEED, lists: u64::MAX, seconds: u64::MAX, list: None };
     let mut words = std::env::args().skip(1);
     while let Some(word) = words.next() {
-        let mut number = || words.next().and_then(|word| word.parse().ok()).ok_or(format!("{word} needs a number"));
+        let mut number = || {
+            words.next().and_then(|word| word.parse().ok()).ok_or(format!("{word} needs a number"))
+        };
         match word.as_str() {
             "--seed" => found.seed = number()?,
             "--lists" => found.lists = number()?,

@@ -4,8 +4,8 @@ use crate::account::Header;
 use crate::damage::*;
 use crate::feeding::Floats;
 use crate::frames::*;
-use crate::layout::{Account, FRESH, HOURS, KIND, PHASE};
 use crate::layout::CEILING as CEILING_AT;
+use crate::layout::{Account, FRESH, HOURS, KIND, PHASE};
 use crate::parameters::{any_parameters, broken};
 use crate::possible::period_hours;
 use crate::rng::Rng;
@@ -21,7 +21,8 @@ fn tree_of(header: &Header) -> Tree {
     }
 }
 
-/// Readings in range, mostly such that the leaf takes up ozone; without ozone now and then where there is a ceiling.
+/// Readings in range, mostly such that the leaf takes up ozone; without ozone now and then where
+/// there is a ceiling.
 fn any_readings(rng: &mut Rng, of: &Tree, kind: i64, ceiling: i128) -> Readings {
     let mut values = [600, 900, 450, of.temperature[1].min(600), of.vpd[0], 200, of.soil[0], 9800];
     if kind == 5 {
@@ -116,7 +117,11 @@ fn faulty_line(rng: &mut Rng, account: &Account, season: &Season) -> Vec<u8> {
         Due::Header => return damaged_header(rng, season).swap_remove(0),
         Due::Parameters => {
             let sound = any_parameters(rng, days);
-            if rng.one_in(2) { sound.line() } else { broken(rng, &sound).line() }
+            if rng.one_in(2) {
+                sound.line()
+            } else {
+                broken(rng, &sound).line()
+            }
         }
         Due::Warmth => broken_warmth(rng).line(),
         Due::Ceiling => ceiling_line(rng.pick(&[0, 1, 5000, 5001, 0x8000, 0xFFFF])),
@@ -153,7 +158,8 @@ pub fn any_line(rng: &mut Rng, account: &Account) -> Vec<u8> {
 /// A season of the hour that is due.
 fn one_hour(rng: &mut Rng, account: &Account) -> Season {
     let number = any_tree(rng);
-    let mut header = if account[PHASE] == FRESH { short_period(rng, number) } else { account.header() };
+    let mut header =
+        if account[PHASE] == FRESH { short_period(rng, number) } else { account.header() };
     header.last = header.last.max(1); // the day before the first is damaged_header's
     let (_, _, readings) = due_hour(rng, account);
     Season { header, ceiling: 0, hours: vec![readings] }
@@ -188,8 +194,30 @@ fn other_line(rng: &mut Rng, account: &Account) -> Vec<u8> {
 // ---- floats
 
 const ODD: [f32; 24] = [
-    f32::NAN, f32::INFINITY, f32::NEG_INFINITY, 0.5, -0.5, 0.1, 5000.5, 1e-45, -1e-45, f32::MIN_POSITIVE, 1e30, -1e30,
-    f32::MAX, f32::MIN, 65535.0, 65534.0, 65536.0, 70000.0, -1.0, -65535.0, 8388607.5, 16777216.0, 4294967296.0, 1.8446744e19,
+    f32::NAN,
+    f32::INFINITY,
+    f32::NEG_INFINITY,
+    0.5,
+    -0.5,
+    0.1,
+    5000.5,
+    1e-45,
+    -1e-45,
+    f32::MIN_POSITIVE,
+    1e30,
+    -1e30,
+    f32::MAX,
+    f32::MIN,
+    65535.0,
+    65534.0,
+    65536.0,
+    70000.0,
+    -1.0,
+    -65535.0,
+    8388607.5,
+    16777216.0,
+    4294967296.0,
+    1.8446744e19,
 ];
 
 /// The hour that is due as floats, mostly with a reading or two that are odd.

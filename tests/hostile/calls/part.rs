@@ -80,27 +80,60 @@ pub struct ParameterNumbers {
     pub numbers: [u16; 16],
 }
 
+#[rustfmt::skip]
 unsafe extern "C" {
     pub fn pod1_fresh(account: *mut u8, account_length: usize) -> u32;
-    pub fn pod1_feed(account: *mut u8, account_length: usize, line: *const u8, line_length: usize) -> u32;
-    pub fn pod1_feed_floats(account: *mut u8, account_length: usize, day: u16, hour: u8, readings: FloatReadings) -> u32;
+    pub fn pod1_feed(
+        account: *mut u8, account_length: usize, line: *const u8, line_length: usize,
+    ) -> u32;
+    pub fn pod1_feed_floats(
+        account: *mut u8, account_length: usize, day: u16, hour: u8, readings: FloatReadings,
+    ) -> u32;
     pub fn pod1_read(account: *const u8, account_length: usize) -> Readout;
-    pub fn pod1_line(account: *const u8, account_length: usize, buffer: *mut u8, buffer_length: usize) -> Printed;
-    pub fn pod1_trial(account: *const u8, account_length: usize, line: *const u8, line_length: usize, trial: *mut u8, trial_length: usize) -> Tried;
-    pub fn pod1_take(account: *mut u8, account_length: usize, trial: *const u8, trial_length: usize) -> u32;
-    pub fn pod1_feed_all(accounts: *mut u8, accounts_length: usize, line: *const u8, line_length: usize) -> u32;
-    pub fn pod1_report(text: *const u8, text_length: usize, buffer: *mut u8, buffer_length: usize) -> Printed;
-    pub fn pod1_compare(first: *const u8, first_length: usize, second: *const u8, second_length: usize, tolerance: u16) -> Comparison;
-    pub fn pod1_worst_stretch(text: *const u8, text_length: usize, days: u16, scratch: *mut u8, scratch_length: usize) -> Stretch;
-    pub fn pod1_write_header(tree: u8, days: u16, first: u16, last: u16, level: u16, buffer: *mut u8, buffer_length: usize) -> Printed;
-    pub fn pod1_write_place(tree: u8, days: u16, level: u16, latitude: u16, height: u16, buffer: *mut u8, buffer_length: usize) -> Printed;
+    pub fn pod1_line(
+        account: *const u8, account_length: usize, buffer: *mut u8, buffer_length: usize,
+    ) -> Printed;
+    pub fn pod1_trial(
+        account: *const u8, account_length: usize, line: *const u8, line_length: usize,
+        trial: *mut u8, trial_length: usize,
+    ) -> Tried;
+    pub fn pod1_take(
+        account: *mut u8, account_length: usize, trial: *const u8, trial_length: usize,
+    ) -> u32;
+    pub fn pod1_feed_all(
+        accounts: *mut u8, accounts_length: usize, line: *const u8, line_length: usize,
+    ) -> u32;
+    pub fn pod1_report(
+        text: *const u8, text_length: usize, buffer: *mut u8, buffer_length: usize,
+    ) -> Printed;
+    pub fn pod1_compare(
+        first: *const u8, first_length: usize, second: *const u8, second_length: usize,
+        tolerance: u16,
+    ) -> Comparison;
+    pub fn pod1_worst_stretch(
+        text: *const u8, text_length: usize, days: u16, scratch: *mut u8, scratch_length: usize,
+    ) -> Stretch;
+    pub fn pod1_write_header(
+        tree: u8, days: u16, first: u16, last: u16, level: u16, buffer: *mut u8,
+        buffer_length: usize,
+    ) -> Printed;
+    pub fn pod1_write_place(
+        tree: u8, days: u16, level: u16, latitude: u16, height: u16, buffer: *mut u8,
+        buffer_length: usize,
+    ) -> Printed;
     pub fn pod1_write_hour(hour: Hour, buffer: *mut u8, buffer_length: usize) -> Printed;
-    pub fn pod1_write_hour_pressure(hour: Hour, pressure: u16, buffer: *mut u8, buffer_length: usize) -> Printed;
+    pub fn pod1_write_hour_pressure(
+        hour: Hour, pressure: u16, buffer: *mut u8, buffer_length: usize,
+    ) -> Printed;
     pub fn pod1_write_hour_humidity(hour: Hour, buffer: *mut u8, buffer_length: usize) -> Printed;
     pub fn pod1_write_end(hours: u16, buffer: *mut u8, buffer_length: usize) -> Printed;
     pub fn pod1_write_ceiling(ozone: u16, buffer: *mut u8, buffer_length: usize) -> Printed;
-    pub fn pod1_write_parameters(parameters: ParameterNumbers, buffer: *mut u8, buffer_length: usize) -> Printed;
-    pub fn pod1_write_warmth(rise: u16, fall: u16, end: u16, buffer: *mut u8, buffer_length: usize) -> Printed;
+    pub fn pod1_write_parameters(
+        parameters: ParameterNumbers, buffer: *mut u8, buffer_length: usize,
+    ) -> Printed;
+    pub fn pod1_write_warmth(
+        rise: u16, fall: u16, end: u16, buffer: *mut u8, buffer_length: usize,
+    ) -> Printed;
 }
 
 /// Bytes before and behind those lent.
@@ -126,13 +159,18 @@ impl Lent {
     }
 
     pub fn pointer(&mut self) -> *mut u8 {
-        if self.is_null { std::ptr::null_mut() } else { self.memory[MARGIN..].as_mut_ptr() }
+        if self.is_null {
+            std::ptr::null_mut()
+        } else {
+            self.memory[MARGIN..].as_mut_ptr()
+        }
     }
 
     /// The bytes as the call left them: none where it touched the margin.
     pub fn bytes(&self) -> Option<&[u8]> {
         let end = MARGIN + self.length();
-        let is_whole = self.memory[..MARGIN].iter().chain(&self.memory[end..]).all(|&byte| byte == MARK);
+        let is_whole =
+            self.memory[..MARGIN].iter().chain(&self.memory[end..]).all(|&byte| byte == MARK);
         is_whole.then(|| &self.memory[MARGIN..end])
     }
 }

@@ -1,4 +1,4 @@
-//! Row 13: the account that no season gives (document 01, "Turned-back lines"; document 02, W-204, W-207, W-212, W-213).
+//! Row 13: the account that no season gives (docs/SPECIFICATION.md, "Turned-back lines").
 
 use crate::account::{limits, Book, Frame, Header};
 use crate::frames::NEWEST;
@@ -14,7 +14,11 @@ pub fn is_impossible(account: &Account) -> bool {
     if account[PHASE] == FRESH {
         return (PHASE..NUMBERS).any(|at| account[at] != 0);
     }
-    !opens(account) || hours_broken(account) || dose_broken(account) || aot40_broken(account) || warmth_broken(account)
+    !opens(account)
+        || hours_broken(account)
+        || dose_broken(account)
+        || aot40_broken(account)
+        || warmth_broken(account)
 }
 
 /// The hours of an account's period.
@@ -22,7 +26,8 @@ pub fn period_hours(account: &Account) -> i128 {
     24 * (account[LAST] - account[FIRST] + 1)
 }
 
-/// Whether the frames before the first hour can have said this: those whose numbers are not 0, fed one after the other, are accepted.
+/// Whether the frames before the first hour can have said this: those whose numbers are not 0, fed
+/// one after the other, are accepted.
 fn opens(account: &Account) -> bool {
     let mut book = Book::new(NEWEST);
     let header = account.header();
@@ -51,7 +56,10 @@ fn hours_broken(account: &Account) -> bool {
 pub fn dose_limits(account: &Account) -> (i128, i128) {
     let (most, each) = limits(account[TREE] as i64);
     let (most, each) = (most as i128, each as i128);
-    (most * account[COUNTED], each * (account[COUNTED] - account[MISSING]) + most * account[MISSING])
+    (
+        most * account[COUNTED],
+        each * (account[COUNTED] - account[MISSING]) + most * account[MISSING],
+    )
 }
 
 fn dose_broken(account: &Account) -> bool {
@@ -62,7 +70,9 @@ fn dose_broken(account: &Account) -> bool {
 
 fn aot40_broken(account: &Account) -> bool {
     let (least, most) = (account[LEAST], account[MOST]);
-    least > most || most > MOST_AOT40 * account[COUNTED] || most - least > MOST_AOT40 * account[MISSING]
+    least > most
+        || most > MOST_AOT40 * account[COUNTED]
+        || most - least > MOST_AOT40 * account[MISSING]
 }
 
 /// The hours of the whole days, and those of the running day.

@@ -1,4 +1,5 @@
-//! Accounts by chance: those that row 13 lets pass, often at its limits; those just past a limit; and bytes that are hardly any.
+//! Accounts by chance: those that row 13 lets pass, often at its limits; those just past a limit;
+//! and bytes that are hardly any.
 
 use crate::account::Header;
 use crate::layout::*;
@@ -16,7 +17,8 @@ fn within(rng: &mut Rng, least: i128, most: i128) -> i128 {
 
 /// A buffer for so many bytes: enough, one too few, none or far more, with any bytes in it.
 pub fn any_buffer(rng: &mut Rng, needed: usize) -> Vec<u8> {
-    let length = rng.pick(&[needed, needed, needed, needed + 1, needed + 30, needed.saturating_sub(1), 0]);
+    let length =
+        rng.pick(&[needed, needed, needed, needed + 1, needed + 30, needed.saturating_sub(1), 0]);
     (0..length).map(|_| rng.next() as u8).collect()
 }
 
@@ -63,11 +65,13 @@ fn without_parameters(mut account: Account) -> Account {
     account
 }
 
-/// Some hours, at the ends of a day and of the period often; closed where none is due, now and then.
+/// Some hours, at the ends of a day and of the period often; closed where none is due, now and
+/// then.
 fn add_hours(rng: &mut Rng, account: &mut Account) {
     let period = period_hours(account);
     let any = within(rng, 0, period);
-    let hours = rng.pick(&[0, 1, 23, 24, 25, period - 2, period - 1, period - 1, period, period, any, any]);
+    let hours =
+        rng.pick(&[0, 1, 23, 24, 25, period - 2, period - 1, period - 1, period, period, any, any]);
     account[HOURS] = hours.clamp(0, period);
     if account[HOURS] > 0 {
         account[KIND] = rng.pick(&[2, 2, 4, 5]);
@@ -89,7 +93,8 @@ fn add_figures(rng: &mut Rng, account: &mut Account) {
     account[UPPER] = rng.pick(&[any, any, level]).clamp(0, most);
     account[LOWER] = within(rng, (account[UPPER] - gap).max(0), account[UPPER]);
     account[MOST] = within(rng, 0, MOST_AOT40 * account[COUNTED]);
-    account[LEAST] = within(rng, (account[MOST] - MOST_AOT40 * account[MISSING]).max(0), account[MOST]);
+    account[LEAST] =
+        within(rng, (account[MOST] - MOST_AOT40 * account[MISSING]).max(0), account[MOST]);
 }
 
 /// The sum at its limits or where f_phen bends, the total at its limits.
@@ -98,7 +103,9 @@ fn add_warmth(rng: &mut Rng, account: &mut Account) {
         return;
     }
     let (whole, running) = parted_hours(account);
-    let bend = rng.pick(&[account[RISE], account[END] - account[FALL], account[END]]) * DEGREE_DAY as i128 + rng.between(-1, 1) as i128;
+    let bend = rng.pick(&[account[RISE], account[END] - account[FALL], account[END]])
+        * DEGREE_DAY as i128
+        + rng.between(-1, 1) as i128;
     let any = within(rng, 0, WARMEST * whole);
     account[SUM] = rng.pick(&[any, bend]).clamp(0, WARMEST * whole);
     account[TOTAL] = within(rng, COLDEST * running, WARMEST * running);
@@ -106,7 +113,8 @@ fn add_warmth(rng: &mut Rng, account: &mut Account) {
 
 // ---- past a limit
 
-/// The account with one number, now and then two or three, next to a limit of row 13 or of the bytes; or without its parameters, or its warmth.
+/// The account with one number, now and then two or three, next to a limit of row 13 or of the
+/// bytes; or without its parameters, or its warmth.
 pub fn broken_account(rng: &mut Rng, account: &Account) -> Account {
     let mut broken = *account;
     if rng.one_in(8) {
@@ -129,17 +137,22 @@ fn limits_of(account: &Account) -> Vec<(usize, i128)> {
     let (whole, running) = parted_hours(account);
     let missing = MOST_AOT40 * n(MISSING);
     let ramps = account.header().own.map_or(50, |own| own.ramps() as i128);
+    #[rustfmt::skip]
     let mut limits = vec![
-        (VERSION, 1), (PHASE, FRESH), (PHASE, OPEN), (PHASE, CLOSED), (KIND, 0), (KIND, 2), (KIND, 4), (KIND, 5),
-        (HOURS, 0), (HOURS, period_hours(account)), (HOURS, n(COUNTED)), (HOURS, whole), (COUNTED, 0), (COUNTED, n(HOURS)), (COUNTED, n(MISSING)),
-        (MISSING, 0), (MISSING, n(COUNTED)), (LOWER, 0), (LOWER, n(UPPER)), (LOWER, n(UPPER) - gap),
-        (UPPER, 0), (UPPER, n(LOWER)), (UPPER, most), (UPPER, n(LOWER) + gap), (UPPER, -1), (LOWER, -1),
-        (LEAST, 0), (LEAST, n(MOST)), (LEAST, n(MOST) - missing), (MOST, 0), (MOST, n(LEAST)), (MOST, MOST_AOT40 * n(COUNTED)), (MOST, n(LEAST) + missing),
-        (SUM, 0), (SUM, WARMEST * whole), (SUM, -1), (TOTAL, 0), (TOTAL, WARMEST * running), (TOTAL, COLDEST * running),
-        (TREE, 1), (TREE, 4), (TREE, 7), (DAYS, 365), (DAYS, n(LAST)), (FIRST, 1), (FIRST, n(LAST)), (FIRST, n(LAST) - ramps),
-        (LAST, n(FIRST)), (LAST, n(DAYS)), (LAST, n(FIRST) + ramps), (LAST, n(FIRST) + n(HOURS) / 24), (LEVEL, 1), (LEVEL, 10000), (LEVEL, -1),
-        (CEILING, 1), (CEILING, 5000), (CEILING, -1), (RISE, 0), (RISE, n(END) - n(FALL)), (FALL, 0), (FALL, n(END) - n(RISE)),
-        (END, n(RISE) + n(FALL)), (END, 1), (END, 5000),
+        (VERSION, 1), (PHASE, FRESH), (PHASE, OPEN), (PHASE, CLOSED), (KIND, 0), (KIND, 2),
+        (KIND, 4), (KIND, 5), (HOURS, 0), (HOURS, period_hours(account)), (HOURS, n(COUNTED)),
+        (HOURS, whole), (COUNTED, 0), (COUNTED, n(HOURS)), (COUNTED, n(MISSING)), (MISSING, 0),
+        (MISSING, n(COUNTED)), (LOWER, 0), (LOWER, n(UPPER)), (LOWER, n(UPPER) - gap), (UPPER, 0),
+        (UPPER, n(LOWER)), (UPPER, most), (UPPER, n(LOWER) + gap), (UPPER, -1), (LOWER, -1),
+        (LEAST, 0), (LEAST, n(MOST)), (LEAST, n(MOST) - missing), (MOST, 0), (MOST, n(LEAST)),
+        (MOST, MOST_AOT40 * n(COUNTED)), (MOST, n(LEAST) + missing), (SUM, 0),
+        (SUM, WARMEST * whole), (SUM, -1), (TOTAL, 0), (TOTAL, WARMEST * running),
+        (TOTAL, COLDEST * running), (TREE, 1), (TREE, 4), (TREE, 7), (DAYS, 365), (DAYS, n(LAST)),
+        (FIRST, 1), (FIRST, n(LAST)), (FIRST, n(LAST) - ramps), (LAST, n(FIRST)), (LAST, n(DAYS)),
+        (LAST, n(FIRST) + ramps), (LAST, n(FIRST) + n(HOURS) / 24), (LEVEL, 1), (LEVEL, 10000),
+        (LEVEL, -1), (CEILING, 1), (CEILING, 5000), (CEILING, -1), (RISE, 0),
+        (RISE, n(END) - n(FALL)), (FALL, 0), (FALL, n(END) - n(RISE)), (END, n(RISE) + n(FALL)),
+        (END, 1), (END, 5000),
     ];
     limits.extend(parameter_limits(account));
     limits
@@ -148,8 +161,13 @@ fn limits_of(account: &Account) -> Vec<(usize, i128)> {
 /// The ends of each parameter's range, its neighbour, and the ramps that the period allows.
 fn parameter_limits(account: &Account) -> Vec<(usize, i128)> {
     let own = |n: usize| account[OWN + n];
-    let ranges = RANGES.iter().enumerate().flat_map(|(n, &(least, most))| [(n, least as i128), (n, most as i128)]);
-    let rising = [TMIN, TOPT, VPD_MAX, SOIL_MAX].into_iter().flat_map(|n| [(n, own(n + 1)), (n + 1, own(n))]);
+    let ranges = RANGES
+        .iter()
+        .enumerate()
+        .flat_map(|(n, &(least, most))| [(n, least as i128), (n, most as i128)]);
+    let rising = [TMIN, TOPT, VPD_MAX, SOIL_MAX]
+        .into_iter()
+        .flat_map(|n| [(n, own(n + 1)), (n + 1, own(n))]);
     let days = account[LAST] - account[FIRST];
     let ramps = [(F1, days - own(F4)), (F4, days - own(F1))];
     ranges.chain(rising).chain(ramps).map(|(n, limit)| (OWN + n, limit)).collect()

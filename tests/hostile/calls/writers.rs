@@ -1,4 +1,5 @@
-//! The calls that write lines (document 01, "Frames"; document 02, W-202 and the kinds added later), with their numbers by chance.
+//! The calls that write lines (docs/SPECIFICATION.md, "Frames" and "Dates from a place"), with
+//! their numbers by chance.
 
 use crate::account::{out_of_range, Book, Frame, Header};
 use crate::accounts::held_printed;
@@ -21,7 +22,15 @@ fn header_written(header: Header) -> Line {
 }
 
 fn bare(tree: u8, days: u16, first: i64, last: i64, level: u16) -> Header {
-    Header { tree: tree as i64, days: days as i64, first, last, level: level as i64, own: None, warmth: None }
+    Header {
+        tree: tree as i64,
+        days: days as i64,
+        first,
+        last,
+        level: level as i64,
+        own: None,
+        warmth: None,
+    }
 }
 
 /// A place's header: rows 5, 6, 14, 7, 8.
@@ -33,14 +42,16 @@ fn place_written(tree: u8, days: u16, level: u16, latitude: u16, height: u16) ->
         return Err(14);
     }
     let (north, height) = (latitude as i64 - 500, height as i64);
-    let first = (10500 + 15 * north + height + 99).div_euclid(100); // hundredths of a day, rounded up
+    // hundredths of a day, rounded up
+    let first = (10500 + 15 * north + height + 99).div_euclid(100);
     let last = (29700 - 20 * north - height).div_euclid(100);
     header_written(bare(tree, days, first, last, level))
 }
 
 /// An hour's line in a kind, or row 10 with its field; ozone FFFF is missing.
 fn hour_written(hour: &Hour, kind: i64, pressure: u16) -> Line {
-    let natural = [hour.ozone, hour.ppfd, hour.radiation, 0, hour.vapour, hour.wind, hour.soil, pressure];
+    let natural =
+        [hour.ozone, hour.ppfd, hour.radiation, 0, hour.vapour, hour.wind, hour.soil, pressure];
     let mut readings = Readings { kind, values: natural.map(i64::from) };
     readings[TEMPERATURE] = hour.temperature as i64;
     match out_of_range(tree_of(hour), &readings, readings.lacks_ozone()) {
@@ -51,13 +62,18 @@ fn hour_written(hour: &Hour, kind: i64, pressure: u16) -> Line {
 
 /// A tree of the hour's soil measure.
 fn tree_of(hour: &Hour) -> i64 {
-    if hour.water == 0 { 3 } else { 1 }
+    if hour.water == 0 {
+        3
+    } else {
+        1
+    }
 }
 
 /// A number of a range, now and then an end of it, one past it or where two bytes end.
 fn near(rng: &mut Rng, least: i64, most: i64) -> u16 {
     let any = rng.between(least, most);
-    let number = if rng.one_in(4) { rng.pick(&[least, most, least - 1, most + 1, 0, 0xFFFF]) } else { any };
+    let number =
+        if rng.one_in(4) { rng.pick(&[least, most, least - 1, most + 1, 0, 0xFFFF]) } else { any };
     number as u16
 }
 
@@ -67,19 +83,41 @@ fn any_hour(rng: &mut Rng, kind: i64) -> (Hour, u16) {
     let mut values = [0; 8];
     for (reading, value) in values.iter_mut().enumerate() {
         let (least, most) = range(number, kind, reading);
-        *value = if rng.one_in(3) { near(rng, least, most) } else { rng.between(least, most) as u16 };
+        *value =
+            if rng.one_in(3) { near(rng, least, most) } else { rng.between(least, most) as u16 };
     }
     if rng.one_in(8) {
         values[OZONE] = 0xFFFF;
     }
     let [ozone, ppfd, radiation, temperature, vapour, wind, soil, pressure] = values;
     let (day, hour) = (rng.pick(&[0, 1, 180, 366, 0xFFFF]), rng.pick(&[0, 12, 23, 24, 255]));
-    (Hour { day, hour, water, ozone, ppfd, radiation, temperature: temperature as i16, vapour, wind, soil }, pressure)
+    (
+        Hour {
+            day,
+            hour,
+            water,
+            ozone,
+            ppfd,
+            radiation,
+            temperature: temperature as i16,
+            vapour,
+            wind,
+            soil,
+        },
+        pressure,
+    )
 }
 
 impl Bench {
     /// A writer by its name and its numbers, with the line that it must write.
-    fn write(&mut self, name: &'static str, words: String, line: Line, rng: &mut Rng, call: impl FnOnce(*mut u8, usize) -> Printed) -> Held<()> {
+    fn write(
+        &mut self,
+        name: &'static str,
+        words: String,
+        line: Line,
+        rng: &mut Rng,
+        call: impl FnOnce(*mut u8, usize) -> Printed,
+    ) -> Held<()> {
         let buffer = any_buffer(rng, line.as_ref().map_or(66, Vec::len));
         self.say(|| format!("{name}: {words} buffer {}", hex(&buffer)));
         let mut lent = self.lend(&buffer);
@@ -109,7 +147,9 @@ impl Bench {
         let level = if rng.one_in(2) { any_level(rng) as u16 } else { near(rng, 1, 10000) };
         let line = header_written(bare(tree, days, first as i64, last as i64, level));
         let words = format!("tree {tree} days {days} first {first} last {last} level {level}");
-        self.write("write header", words, line, rng, |at, length| unsafe { pod1_write_header(tree, days, first, last, level, at, length) })
+        self.write("write header", words, line, rng, |at, length| unsafe {
+            pod1_write_header(tree, days, first, last, level, at, length)
+        })
     }
 
     fn write_place(&mut self, rng: &mut Rng) -> Held<()> {
@@ -117,8 +157,11 @@ impl Bench {
         let (days, level) = (near(rng, 365, 366), near(rng, 1, 10000));
         let (latitude, height) = (near(rng, 350, 720), near(rng, 0, 3000));
         let line = place_written(tree, days, level, latitude, height);
-        let words = format!("tree {tree} days {days} level {level} latitude {latitude} height {height}");
-        self.write("write place", words, line, rng, |at, length| unsafe { pod1_write_place(tree, days, level, latitude, height, at, length) })
+        let words =
+            format!("tree {tree} days {days} level {level} latitude {latitude} height {height}");
+        self.write("write place", words, line, rng, |at, length| unsafe {
+            pod1_write_place(tree, days, level, latitude, height, at, length)
+        })
     }
 
     fn write_hour(&mut self, rng: &mut Rng) -> Held<()> {
@@ -127,22 +170,36 @@ impl Bench {
         let line = hour_written(&hour, kind, pressure);
         let words = format!("{hour:?} pressure {pressure}");
         match kind {
-            2 => self.write("write hour", words, line, rng, |at, length| unsafe { pod1_write_hour(hour, at, length) }),
-            4 => self.write("write pressure", words, line, rng, |at, length| unsafe { pod1_write_hour_pressure(hour, pressure, at, length) }),
-            _ => self.write("write humidity", words, line, rng, |at, length| unsafe { pod1_write_hour_humidity(hour, at, length) }),
+            2 => self.write("write hour", words, line, rng, |at, length| unsafe {
+                pod1_write_hour(hour, at, length)
+            }),
+            4 => self.write("write pressure", words, line, rng, |at, length| unsafe {
+                pod1_write_hour_pressure(hour, pressure, at, length)
+            }),
+            _ => self.write("write humidity", words, line, rng, |at, length| unsafe {
+                pod1_write_hour_humidity(hour, at, length)
+            }),
         }
     }
 
     fn write_end(&mut self, rng: &mut Rng) -> Held<()> {
         let hours = near(rng, 0, 8784);
         let line = Ok(end_line(hours as i64).into_bytes());
-        self.write("write end", format!("hours {hours}"), line, rng, |at, length| unsafe { pod1_write_end(hours, at, length) })
+        self.write("write end", format!("hours {hours}"), line, rng, |at, length| unsafe {
+            pod1_write_end(hours, at, length)
+        })
     }
 
     fn write_ceiling(&mut self, rng: &mut Rng) -> Held<()> {
         let ozone = if rng.one_in(2) { any_ceiling(rng) as u16 } else { near(rng, 1, 5000) };
-        let line = if (1..=5000).contains(&ozone) { Ok(ceiling_line(ozone as i64).into_bytes()) } else { Err(17) };
-        self.write("write ceiling", format!("ozone {ozone}"), line, rng, |at, length| unsafe { pod1_write_ceiling(ozone, at, length) })
+        let line = if (1..=5000).contains(&ozone) {
+            Ok(ceiling_line(ozone as i64).into_bytes())
+        } else {
+            Err(17)
+        };
+        self.write("write ceiling", format!("ozone {ozone}"), line, rng, |at, length| unsafe {
+            pod1_write_ceiling(ozone, at, length)
+        })
     }
 
     fn write_parameters(&mut self, rng: &mut Rng) -> Held<()> {
@@ -150,8 +207,10 @@ impl Bench {
         let wild = broken(rng, &sound);
         let numbers = rng.pick(&[sound, wild]).numbers.map(|number| number as u16);
         let parameters = Parameters::of(numbers.map(i64::from));
-        let line = if parameters.are_sound() { Ok(parameters.line().into_bytes()) } else { Err(24) };
-        let call = |at, length| unsafe { pod1_write_parameters(ParameterNumbers { numbers }, at, length) };
+        let line =
+            if parameters.are_sound() { Ok(parameters.line().into_bytes()) } else { Err(24) };
+        let call =
+            |at, length| unsafe { pod1_write_parameters(ParameterNumbers { numbers }, at, length) };
         self.write("write parameters", format!("{numbers:?}"), line, rng, call)
     }
 
@@ -163,6 +222,8 @@ impl Bench {
         let warmth = Warmth { rise: rise as i64, fall: fall as i64, end: end as i64 };
         let line = if warmth.is_sound() { Ok(warmth.line().into_bytes()) } else { Err(25) };
         let words = format!("rise {rise} fall {fall} end {end}");
-        self.write("write warmth", words, line, rng, |at, length| unsafe { pod1_write_warmth(rise, fall, end, at, length) })
+        self.write("write warmth", words, line, rng, |at, length| unsafe {
+            pod1_write_warmth(rise, fall, end, at, length)
+        })
     }
 }

@@ -1,5 +1,5 @@
 -- `floats::feed_floats` meets its contract.
-use Rattle.floats_spec.proofs.PromiseLaws.{float-promise}
+use Rattle.floats.proofs.PromiseLaws.{float-promise}
 use Rattle.floats.proofs.AnswerLaws.{whole-answers, broken-answers, untimely-answers}
 use Rattle.floats.proofs.feed_floats.Goals as goal
 

@@ -7,3 +7,6 @@ returns-in_err-parse-clause-rows c = reader-rows
 
 pub returns-clause-rows : goal.returns-clause-rows
 returns-clause-rows c = reader-rows
+
+pub returns-in_err-record_of-clause-rows : goal.returns-in_err-record_of-clause-rows
+returns-in_err-record_of-clause-rows c = reader-rows

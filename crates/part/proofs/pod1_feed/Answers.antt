@@ -1,8 +1,8 @@
 -- `part::pod1_feed` meets its contract.
 use borrow.Author.Rules.{rules}
 use Rattle.account_spec.specs.Rules.{feed_of}
-use Rattle.part_spec.specs.Calls.{fed_in}
-use Rattle.part_spec.proofs.CallLaws.{onward-given, given-room}
+use Rattle.part.specs.Calls.{fed_in}
+use Rattle.part.proofs.CallLaws.{onward-given, given-room}
 use Rattle.part.proofs.pod1_feed.Goals as goal
 
 pub leave-requires : goal.leave-requires

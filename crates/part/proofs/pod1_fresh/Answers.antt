@@ -1,5 +1,5 @@
 -- `part::pod1_fresh` meets its contract.
-use Rattle.part_spec.proofs.CallLaws.{stores}
+use Rattle.part.proofs.CallLaws.{stores}
 use Rattle.part.proofs.Cited.{part-cited}
 use Rattle.part.proofs.pod1_fresh.Goals as goal
 

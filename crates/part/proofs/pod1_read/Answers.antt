@@ -2,9 +2,9 @@
 use borrow.Author.Rules.{rules}
 use mathlib.Core.Path.{ap, ◌∙◌}
 use Rattle.account_spec.specs.Reading.{read_of}
-use Rattle.answers.specs.Reading.{readout_of}
-use Rattle.part_spec.specs.Calls.{read_in}
-use Rattle.part_spec.proofs.CallLaws.{onward-given}
+use Rattle.stored.specs.Reading.{readout_of}
+use Rattle.part.specs.Calls.{read_in}
+use Rattle.part.proofs.CallLaws.{onward-given}
 use Rattle.part.proofs.pod1_read.Goals as goal
 
 pub returns : goal.returns

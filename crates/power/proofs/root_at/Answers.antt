@@ -4,4 +4,4 @@ use Rattle.power.proofs.TermLaws.{root_is}
 use Rattle.power.proofs.root_at.Goals as goal
 
 pub returns : goal.returns
-returns c = let pre = c.requires in (root_is pre.0 c.terms_at.ensures c.root.ensures, omega arith)
+returns c = (root_is c.args.own.fits c.terms_at.ensures c.root.ensures, omega arith)

@@ -8,7 +8,7 @@ use lib.Seq.{length-take-le}
 use lib.ListN.{length, take, drop}
 use mir.Syntax.{w16}
 use mir.Val.{SFits}
-use Rattle.records.proofs.BufferLaws.{prints-short, prints-whole}
+use Rattle.frames.proofs.BufferLaws.{prints-short, prints-whole}
 use Rattle.stored.specs.Packing.{big_endian, FitFrom}
 use Rattle.stored.specs.Layout.{widths, account_width, account_numbers, account_bytes}
 use Rattle.stored.proofs.FieldLaws.{phase-le, kind-le, total-lt}

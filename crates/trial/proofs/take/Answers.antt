@@ -4,8 +4,8 @@ use mathlib.Core.Bool.{true, false}
 use borrow.Author.Rules.{rules}
 use borrow.Author.Tests.{not-true, not-false}
 use Rattle.account_spec.specs.Account.{impossible}
-use Rattle.trial_spec.specs.Same.{is_same}
-use Rattle.trial_spec.proofs.TakeLaws.{takes-impossible, takes-other, takes-refused, takes-next-impossible, takes-next}
+use Rattle.trial.specs.Same.{is_same}
+use Rattle.trial.proofs.TakeLaws.{takes-impossible, takes-other, takes-refused, takes-next-impossible, takes-next}
 use Rattle.trial.proofs.take.Goals as goal
 
 pub returns-then-impossible-clause-takes_trial : goal.returns-then-impossible-clause-takes_trial

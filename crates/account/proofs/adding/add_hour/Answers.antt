@@ -1,13 +1,29 @@
--- `account::adding::add_hour` meets its contract: an hour is counted or not.
+-- `account::adding::add_hour` meets its contract: no row refuses the hour, and the sums have room.
 use native.Mathlib.Omega.{arith}
-use borrow.Author.Tests.{lt-ltb, le-ltb}
-use Rattle.account.proofs.AddingLaws.{counted-hour, uncounted-hour}
+use Rattle.account_spec.proofs.PossibleLaws.{room-is}
+use Rattle.account.proofs.AddingLaws.{possible-grown, has-stand, hour-temperate, hour-is}
 use Rattle.account.proofs.adding.add_hour.Goals as goal
-use Rattle.account.proofs.adding.add_hour.Goals.{then-h-gt50, else-h-gt50}
+
+pub carry-carried-requires-clause-sum : goal.carry-carried-requires-clause-sum
+carry-carried-requires-clause-sum c =
+    let held = c.args.held in omega (arith, (room-is held.account held.possible).sum)
+
+pub carry-carried-requires-clause-total : goal.carry-carried-requires-clause-total
+carry-carried-requires-clause-total c =
+    let held = c.args.held in (room-is held.account held.possible).total
+
+pub carry-carried-requires-clause-temperature : goal.carry-carried-requires-clause-temperature
+carry-carried-requires-clause-temperature c = hour-temperate c.args.held.account.season c.args.passed.hour c.requires
+
+pub dosing-requires : goal.dosing-requires
+dosing-requires c = has-stand c.args.held.account.season c.args.passed.hour c.requires
+
+pub add-sums-requires-clause-room : goal.add-sums-requires-clause-room
+add-sums-requires-clause-room c =
+    let held = c.args.held in
+    (possible-grown held.account held.possible, omega (arith, (room-is held.account held.possible).hours))
 
 pub returns : goal.returns
-returns c = elim c.if-h-gt50.branch [
-  | then-h-gt50 w ↦ rw w.sums-is (counted-hour c.args.a c.args.h _ c.kind_of.ensures _ c.carry-carried.ensures (lt-ltb 50 c.args.h.radiation (omega (arith, w.if-h-gt50.true)))
-      _ _ _ _ w.pair_of-pair.ensures.is w.ozone_sums-ozone.ensures.least w.ozone_sums-ozone.ensures.most w.ozone_sums-ozone.ensures.missing)
-  | else-h-gt50 w ↦ rw w.sums-is (uncounted-hour c.args.a c.args.h _ c.kind_of.ensures _ c.carry-carried.ensures (le-ltb 50 c.args.h.radiation (omega (arith, w.if-h-gt50.false))))
-]
+returns c =
+    hour-is c.args.held.account c.args.passed.hour c.requires _ _ _ _ _ c.kind_of.ensures c.dosing.ensures
+    c.pair_alone-pair.ensures.is c.add-sums.ensures.is c.carry-carried.ensures

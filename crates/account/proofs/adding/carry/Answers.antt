@@ -7,7 +7,7 @@ use borrow.Author.Tests.{eq-eqb, ne_eqb}
 use lib.IntN.{◌+ℤ◌}
 use mir.Syntax.{w16}
 use mir.Val.{to_z, of_z}
-use Rattle.measured.specs.Warmth.{has_warmth}
+use Rattle.trees.specs.Warmth.{has_warmth}
 use Rattle.account_spec.specs.Hours.{not_negative}
 use Rattle.account.proofs.WarmthLaws.{sum_fits, sum_is}
 use Rattle.account.proofs.adding.carry.Goals as goal

@@ -1,8 +1,8 @@
 -- `cases::digits::i16_at` meets its contract.
 use mathlib.Core.Path.{ap, ◌∙◌}
 use borrow.Author.Rules.{rules}
-use Rattle.records.specs.Temperature.{signed_of}
-use Rattle.records.proofs.SignedLaws.{plain}
+use Rattle.frames.specs.Temperature.{signed_of}
+use Rattle.frames.proofs.SignedLaws.{plain}
 use Rattle.cases.proofs.digits.i16_at.Goals as goal
 
 pub returns : goal.returns

@@ -1,9 +1,9 @@
 -- `floats::fields::complement_field` meets its contract.
 use Rattle.std.proofs.Common.{◌≡◌, sym, ap, ◌∙◌, rules}
 use Rattle.std.specs.Prelude.{Err}
-use Rattle.records.specs.Answers.{accepted}
-use Rattle.records.specs.declared.Refusal.{Refusal}
-use Rattle.floats_spec.specs.Numbers.{complement_bytes}
+use Rattle.frames.specs.Answers.{accepted}
+use Rattle.frames.specs.declared.records.Refusal.{Refusal}
+use Rattle.floats.specs.Numbers.{complement_bytes}
 use Rattle.floats.proofs.FieldLaws.{complement-says, complement-held, bits-back}
 use Rattle.floats.proofs.fields.complement_field.Goals as goal
 

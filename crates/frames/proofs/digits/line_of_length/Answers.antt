@@ -1,4 +1,5 @@
--- `frames::digits::line_of_length` meets its contract: what is read and what is left of the line have the answer of the whole.
+-- `frames::digits::line_of_length` meets its contract: what is read and what is left of the line
+-- have the answer of the whole.
 use mathlib.Core.Path.{◌≡◌, sym, ◌∙◌}
 use mathlib.Core.Bool.{and-true}
 use native.Mathlib.Omega.{arith}

@@ -1,11 +1,12 @@
--- `frames::layout::frame_at` meets its contract: a line's kind tells the length that its fields need.
+-- `frames::layout::frame_at` meets its contract: a line's kind tells the length that its fields
+-- need.
 use Prim.Native.Nat.{ℕ}
 use mathlib.Core.Path.{refl, sym, ap, ◌∙◌}
 use native.Mathlib.Omega.{arith}
 use Rattle.frames.specs.Digits.{byte_at}
 use Rattle.frames.specs.Kinds.{length_of}
 use Rattle.frames.specs.Layout.{frame_of}
-use Rattle.records.specs.declared.Raw.{Raw}
+use Rattle.frames.specs.declared.records.Raw.{Raw}
 use Rattle.frames.proofs.KindLaws.{kind-cases, hour-left}
 use Rattle.frames.proofs.FrameLaws.{frame_is, hour-framed, sized-ge, sized-within, sized-le}
 use Rattle.frames.proofs.layout.frame_at.Goals as goal

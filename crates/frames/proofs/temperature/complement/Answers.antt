@@ -3,7 +3,7 @@ use mathlib.Core.Path.{ap, ◌∙◌}
 use borrow.Author.Rules.{rules}
 use mir.Syntax.{w16}
 use mir.Val.{of_z}
-use Rattle.records.proofs.SignedLaws.{plain}
+use Rattle.frames.proofs.SignedLaws.{plain}
 use Rattle.frames.proofs.TemperatureLaws.{complement-is}
 use Rattle.frames.proofs.temperature.complement.Goals as goal
 

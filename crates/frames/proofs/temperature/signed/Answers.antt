@@ -1,7 +1,7 @@
 -- `frames::temperature::signed` meets its contract.
 use mathlib.Core.Path.{◌∙◌}
 use borrow.Author.Rules.{rules}
-use Rattle.records.proofs.SignedLaws.{plain}
+use Rattle.frames.proofs.SignedLaws.{plain}
 use Rattle.frames.proofs.TemperatureLaws.{signed-is}
 use Rattle.frames.proofs.temperature.signed.Goals as goal
 

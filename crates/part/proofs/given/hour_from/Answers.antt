@@ -1,6 +1,6 @@
 -- `part::given::hour_from` meets its contract.
 use borrow.Author.Rules.{rules}
-use Rattle.records.proofs.SignedLaws.{plain}
+use Rattle.frames.proofs.SignedLaws.{plain}
 use Rattle.part.proofs.given.hour_from.Goals as goal
 
 pub returns : goal.returns

@@ -1,5 +1,5 @@
 -- `part::leaving::leave` meets its contract.
-use Rattle.part_spec.proofs.CallLaws.{accepted-leaves, refused-leaves}
+use Rattle.part.proofs.CallLaws.{accepted-leaves, refused-leaves}
 use Rattle.part.proofs.leaving.leave.Goals as goal
 
 pub returns-in-Ok : goal.returns-in-Ok

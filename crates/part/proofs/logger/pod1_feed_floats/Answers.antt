@@ -1,10 +1,10 @@
 -- `part::logger::pod1_feed_floats` meets its contract.
 use borrow.Author.Rules.{rules}
-use Rattle.floats_spec.specs.Feeding.{feed_floats_of}
-use Rattle.part_spec.specs.Floats.{floats_fed_in}
-use Rattle.part_spec.proofs.CallLaws.{onward-given, given-room}
-use Rattle.floats_spec.proofs.PromiseLaws.{float-promise}
-use Rattle.part_spec.proofs.FloatLaws.{float-bytes-promise}
+use Rattle.floats.specs.Feeding.{feed_floats_of}
+use Rattle.part.specs.Floats.{floats_fed_in}
+use Rattle.part.proofs.CallLaws.{onward-given, given-room}
+use Rattle.floats.proofs.PromiseLaws.{float-promise}
+use Rattle.part.proofs.FloatLaws.{float-bytes-promise}
 use Rattle.part.proofs.logger.pod1_feed_floats.Goals as goal
 
 pub leave-requires : goal.leave-requires

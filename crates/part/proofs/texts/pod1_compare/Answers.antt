@@ -1,6 +1,6 @@
 -- `part::texts::pod1_compare` meets its contract.
 use mathlib.Core.Path.{ap, ◌∙◌}
-use Rattle.answers.specs.Comparing.{compared_of}
+use Rattle.stored.specs.Comparing.{compared_of}
 use Rattle.part.proofs.texts.pod1_compare.Goals as goal
 
 pub returns : goal.returns

@@ -1,6 +1,6 @@
 -- `part::texts::pod1_worst_stretch` meets its contract.
 use mathlib.Core.Path.{ap, ◌∙◌}
-use Rattle.answers.specs.Stretching.{stretch_of}
+use Rattle.stored.specs.Stretching.{stretch_of}
 use Rattle.part.proofs.texts.pod1_worst_stretch.Goals as goal
 
 pub returns : goal.returns

@@ -1,8 +1,8 @@
 -- `part::trials::pod1_take` meets its contract.
 use borrow.Author.Rules.{rules}
-use Rattle.part_spec.specs.Trials.{taken_from}
-use Rattle.part_spec.specs.Trials.{taken_in}
-use Rattle.part_spec.proofs.CallLaws.{onward-given, given-room}
+use Rattle.part.specs.Trials.{taken_from}
+use Rattle.part.specs.Trials.{taken_in}
+use Rattle.part.proofs.CallLaws.{onward-given, given-room}
 use Rattle.part.proofs.CitedTrials.{trials-cited}
 use Rattle.part.proofs.trials.pod1_take.Goals as goal
 

@@ -2,8 +2,8 @@
 use borrow.Author.Rules.{rules}
 use mathlib.Core.Path.{◌≡◌, ap, ◌∙◌}
 use Rattle.std.specs.Prelude.{Err}
-use Rattle.records.specs.Answers.{outcome_of}
-use Rattle.part_spec.proofs.TrialLaws.{taken_none, taken-trial}
+use Rattle.frames.specs.Answers.{outcome_of}
+use Rattle.part.proofs.TrialLaws.{taken_none, taken-trial}
 use Rattle.part.proofs.trials.taken.Goals as goal
 
 pub returns-in_err-t : goal.returns-in_err-t

@@ -1,8 +1,8 @@
 -- `part::writing::pod1_write_place` meets its contract: by whether the place has a header.
-use Rattle.records.specs.Answers.{outcome_of}
+use Rattle.frames.specs.Answers.{outcome_of}
 use mathlib.Core.Path.{refl, sym, ap, ◌∙◌}
-use Rattle.part_spec.specs.Frames.{placed_text}
-use Rattle.part_spec.proofs.CallLaws.{prints-refused}
+use Rattle.part.specs.Frames.{placed_text}
+use Rattle.part.proofs.CallLaws.{prints-refused}
 use Rattle.part.proofs.writing.pod1_write_place.Goals as goal
 
 pub returns-in-Ok : goal.returns-in-Ok

@@ -1,6 +1,7 @@
--- `power::root::search` meets its contract: what passes stays at or below the root, what does not above it.
+-- `power::root::search` meets its contract: what passes stays at or below the root, what does not
+-- above it.
 use Rattle.std.proofs.Common.{◌≡◌, ℕ, ◌+◌, ◌<◌, sym, ◌∙◌, subst, arith, leb-false, leb-true}
-use Rattle.power.specs.Steps.{left, right}
+use Rattle.power.specs.steps.Power.{left, right}
 use Rattle.power.proofs.RootLaws.{zero-under, one-over}
 use Rattle.power.proofs.root.search.Goals as goal
 

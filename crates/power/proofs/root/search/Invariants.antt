@@ -1,6 +1,7 @@
--- `power::root::search` meets its contract: what passes stays at or below the root, what does not above it.
+-- `power::root::search` meets its contract: what passes stays at or below the root, what does not
+-- above it.
 use Rattle.std.proofs.Common.{◌-◌, ◌<◌, ◌≤◌}
-use Rattle.power.specs.Steps.{left, right, Between}
+use Rattle.power.specs.steps.Power.{left, right, Between}
 use Rattle.power.proofs.root.search.Given as goal
 
 abbrev pub invariant-loop-high : goal.invariant-loop-high

@@ -1,6 +1,6 @@
 -- `power::rounded::high_product` meets its contract.
 use Rattle.std.proofs.Common.{arith}
-use Rattle.power.specs.Steps.{full}
+use Rattle.power.specs.steps.Power.{full}
 use Rattle.power.proofs.rounded.high_product.Goals as goal
 
 pub returns : goal.returns

@@ -1,6 +1,6 @@
 -- `power::words::at_most` meets its contract.
 use Rattle.std.proofs.Common.{refl, arith}
-use Rattle.power.specs.Steps.{worth}
+use Rattle.power.specs.steps.Power.{worth}
 use Rattle.power.proofs.WordLaws.{order-next, worth-lt}
 use Rattle.power.proofs.words.at_most.Goals as goal
 

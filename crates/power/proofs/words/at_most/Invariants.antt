@@ -1,6 +1,6 @@
 -- `power::words::at_most` meets its contract.
 use Rattle.std.proofs.Common.{◌≡◌, ◌^◌, ◌<◌, leb}
-use Rattle.power.specs.Steps.{worth}
+use Rattle.power.specs.steps.Power.{worth}
 use Rattle.power.proofs.words.at_most.Given as goal
 
 abbrev pub invariant-loop-i : goal.invariant-loop-i

@@ -1,6 +1,6 @@
 -- `power::words::times` meets its contract.
 use Rattle.std.proofs.Common.{ℕ, ◌+◌, ◌*◌, refl, ◌∙◌, arith, get_or, get_or-set_other}
-use Rattle.power.specs.Steps.{worth}
+use Rattle.power.specs.steps.Power.{worth}
 use Rattle.power.proofs.WordLaws.{product-fits, times-step, times-holds}
 use Rattle.power.proofs.words.times.Goals as goal
 

@@ -1,6 +1,6 @@
 -- `power::words::times` meets its contract.
 use Rattle.std.proofs.Common.{◌≡◌, ℕ, ◌+◌, ◌*◌, ◌^◌, ◌<◌, ◌≤◌, get_or}
-use Rattle.power.specs.Steps.{worth}
+use Rattle.power.specs.steps.Power.{worth}
 use Rattle.power.proofs.words.times.Given as goal
 
 abbrev pub invariant-loop-word : goal.invariant-loop-word

@@ -3,8 +3,8 @@ use mathlib.Core.Path.{◌≡◌, sym, ap, ◌∙◌}
 use native.Mathlib.Omega.{arith}
 use borrow.Author.Rules.{rules}
 use Rattle.std.specs.Prelude.{Err}
-use Rattle.records.specs.Answers.{outcome_of}
-use Rattle.records.proofs.SignedLaws.{plain}
+use Rattle.frames.specs.Answers.{outcome_of}
+use Rattle.frames.proofs.SignedLaws.{plain}
 use Rattle.stored.specs.Layout.{account_in}
 use Rattle.stored.proofs.HeldLaws.{none-version, taken_none, phase-refused, kind-refused, both-are, taken-is}
 use Rattle.stored.proofs.AccountLaws.{one_byte}

@@ -1,0 +1,14 @@
+pub mod Vapour
+pub mod HumidityPair
+pub mod HumidityFacts
+pub mod Light
+pub mod Deficit
+pub mod BoundaryLayer
+pub mod Conductance
+pub mod Facts
+pub mod Dose
+pub mod Pair
+pub mod HourDose
+pub mod Enclosure
+pub mod BenchCases
+pub mod steps

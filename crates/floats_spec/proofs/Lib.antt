@@ -1,4 +1,0 @@
-pub mod WholeLaws
-pub mod RangeLaws
-pub mod FeedLaws
-pub mod PromiseLaws

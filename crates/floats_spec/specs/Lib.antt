@@ -1,4 +1,0 @@
-pub mod Whole
-pub mod Numbers
-pub mod Feeding
-pub mod Promise

@@ -1,3 +1,0 @@
-pub mod NumberLaws
-pub mod DecayLookup
-pub mod RememberedLaws

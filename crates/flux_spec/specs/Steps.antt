@@ -1,7 +1,0 @@
--- Serves the code's own steps; no reader need believe it.
-use Rattle.std.specs.Prelude.{◌≡◌, List, ℕ, ◌*◌, ◌<◌, get_or}
-use Rattle.flux_spec.specs.Light.{decay_entry}
-
--- a table of exp(-n/10000) for a place of base 100: entry d is that of n = place·d, and 0 stands for what is past its end
-pub record IsDecayTable (place : ℕ) (table : List ℕ) : Type 0 where
-  pub entries : (d : ℕ) → d < 100 → get_or table d 0 ≡ decay_entry (place * d)

@@ -1,6 +1,0 @@
--- `hour_lines::chunk` meets its contract: so many of its characters are read.
-use Rattle.hour_lines.specs.Steps.{ReadTo}
-use Rattle.hour_lines.proofs.chunk.Given as goal
-
-abbrev pub invariant-loop-i : goal.invariant-loop-i
-invariant-loop-i l = ReadTo l.line l.from l.i l.digits l.bytes

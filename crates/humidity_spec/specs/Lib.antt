@@ -1,3 +1,0 @@
-pub mod Vapour
-pub mod Pair
-pub mod Facts

@@ -1,9 +1,0 @@
-pub mod TogetherLaws
-pub mod WalkLaws
-pub mod AlikeLaws
-pub mod DueLaws
-pub mod RunLaws
-pub mod TextLaws
-pub mod RefusedLaws
-pub mod ContinuedLaws
-pub mod ListLaws

@@ -1,4 +1,0 @@
-pub mod Parameters
-pub mod Warmth
-pub mod Figures
-pub mod Facts

@@ -1,0 +1,4 @@
+pub mod Number
+pub mod Input
+pub mod ComparisonLine
+pub mod StretchLine

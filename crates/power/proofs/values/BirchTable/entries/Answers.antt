@@ -1,0 +1,10 @@
+-- `power::values::BirchTable::entries` meets its contract: the table passes three computed tests.
+use native.Mathlib.Omega.{arith}
+use Rattle.trees.specs.Temperature.{tried, allowed}
+use Rattle.trees.proofs.SoundLaws.{birch-sound}
+use Rattle.power.proofs.TableEntryLaws.{table_is}
+use Rattle.power.proofs.values.BirchTable.entries.Goals as goal
+
+pub returns : goal.returns
+unfolding tried allowed
+returns c = table_is birch-sound (omega arith) tt tt tt

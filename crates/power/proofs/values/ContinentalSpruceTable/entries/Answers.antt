@@ -1,0 +1,11 @@
+-- `power::values::ContinentalSpruceTable::entries` meets its contract: the table passes three
+-- computed tests.
+use native.Mathlib.Omega.{arith}
+use Rattle.trees.specs.Temperature.{tried, allowed}
+use Rattle.trees.proofs.SoundLaws.{continental_spruce-sound}
+use Rattle.power.proofs.TableEntryLaws.{table_is}
+use Rattle.power.proofs.values.ContinentalSpruceTable.entries.Goals as goal
+
+pub returns : goal.returns
+unfolding tried allowed
+returns c = table_is continental_spruce-sound (omega arith) tt tt tt

@@ -1,0 +1,15 @@
+pub mod TogetherLaws
+pub mod WalkLaws
+pub mod AlikeLaws
+pub mod DueLaws
+pub mod RunLaws
+pub mod ListTextLaws
+pub mod RefusedLaws
+pub mod ContinuedLaws
+pub mod FedListLaws
+pub mod StepLaws
+pub mod ListLaws
+pub mod LineLaws
+pub mod TallyLaws
+pub mod FirstLaws
+pub mod TextLaws

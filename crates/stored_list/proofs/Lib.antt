@@ -1,5 +1,0 @@
-mod PartLaws
-mod TakingLaws
-mod StoringLaws
-mod FeedingLaws
-pub mod RunLaws

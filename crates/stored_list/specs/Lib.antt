@@ -1,4 +1,0 @@
-pub mod InBytes
-pub mod Feeding
-pub mod Promise
-pub mod Steps

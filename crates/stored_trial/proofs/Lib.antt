@@ -1,3 +1,0 @@
-mod PartLaws
-pub mod ContentsLaws
-pub mod RoundTripLaws

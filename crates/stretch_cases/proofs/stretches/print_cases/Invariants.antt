@@ -1,6 +1,0 @@
--- `stretch_cases::stretches::print_cases` is safe and ends: each turn leaves a shorter rest.
-use Rattle.std.proofs.Common.{length}
-use Rattle.stretch_cases.proofs.stretches.print_cases.Given as goal
-
-abbrev pub decreases-loop-head : goal.decreases-loop-head
-decreases-loop-head g l = length l.rest

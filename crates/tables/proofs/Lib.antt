@@ -1,3 +1,0 @@
-mod TableEntryLaws
-mod TrimmedLaws
-pub mod AnswerLaws

@@ -1,0 +1,3 @@
+-- What serves the code's own steps; no reader need believe it.
+pub mod Walk
+pub mod Report

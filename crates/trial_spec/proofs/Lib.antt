@@ -1,3 +1,0 @@
-pub mod SameLaws
-pub mod TakeLaws
-pub mod TrialLaws
