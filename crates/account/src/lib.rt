@@ -11,7 +11,7 @@ pub mod turns;
 
 ghost use Rattle.std.specs.Prelude.{◌≡◌};
 ghost use Rattle.frames.specs.Answers.{row_of, outcome_of};
-ghost use Rattle.frames.specs.steps.Checked.{checked_as};
+ghost use Rattle.frames.specs.Checked.{checked_as};
 ghost use Rattle.account_spec.specs.Account.{fresh_account};
 ghost use Rattle.account_spec.specs.Rules.{out_of_turn, turn_of, answer_of, state_of};
 ghost use Rattle.account_spec.specs.Rules.{feed_frame_of, feed_of, unread_row, Answers, Feeds};

@@ -1,7 +1,7 @@
 //! Rows 4 to 11, 15, 17, 18, 24 and 25 for a state: phase, season, kind and number of hours
 //! accepted so far ("Turned-back lines").
 ghost use Rattle.frames.specs.Answers.{accepted, row, outcome_of};
-ghost use Rattle.frames.specs.steps.Checked.{checked_as};
+ghost use Rattle.frames.specs.Checked.{checked_as};
 ghost use Rattle.std.specs.Prelude.{◌≡◌, ◌+◌, ◌/◌, ◌%◌, ◌&&◌, not, ◌==◌};
 ghost use Rattle.account_spec.specs.declared.Phase.TheVariants.{Open};
 ghost use Rattle.account_spec.specs.Account.{phase_number, awaits};

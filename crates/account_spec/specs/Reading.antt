@@ -1,6 +1,6 @@
 -- Reading the account ("Account"): the sums that it carries and the verdict, refused only by row
 -- 13.
-use Rattle.std.specs.Prelude.{ℕ, ◌*◌, ◌≡◌, List, [], ◌∷◌, Result, nat_lt, nat_le, if◌then◌else◌}
+use Rattle.std.specs.Prelude.{ℕ, ◌*◌, ◌≡◌, List, Result, nat_lt, nat_le, if◌then◌else◌, codes}
 use Rattle.frames.specs.declared.records.Refusal.{Refusal}
 use Rattle.frames.specs.Answers.{Outcome, accepted, row, outcome_of}
 use Rattle.account_spec.specs.declared.Phase.{Phase}
@@ -14,18 +14,17 @@ use Rattle.account_spec.specs.Account.{is_fresh, impossible}
 
 -- ---- the verdict
 
--- "none", "exceeded", "below", "undecided", as bytes
 abbrev pub none_word : List ℕ
-none_word = 110 ∷ 111 ∷ 110 ∷ 101 ∷ []
+none_word = codes "none"
 
 abbrev pub exceeded_word : List ℕ
-exceeded_word = 101 ∷ 120 ∷ 99 ∷ 101 ∷ 101 ∷ 100 ∷ 101 ∷ 100 ∷ []
+exceeded_word = codes "exceeded"
 
 abbrev pub below_word : List ℕ
-below_word = 98 ∷ 101 ∷ 108 ∷ 111 ∷ 119 ∷ []
+below_word = codes "below"
 
 abbrev pub undecided_word : List ℕ
-undecided_word = 117 ∷ 110 ∷ 100 ∷ 101 ∷ 99 ∷ 105 ∷ 100 ∷ 101 ∷ 100 ∷ []
+undecided_word = codes "undecided"
 
 -- the word of each case of a verdict
 abbrev pub word_of : Verdict → List ℕ

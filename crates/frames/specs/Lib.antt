@@ -1,5 +1,6 @@
 pub mod Numbers
 pub mod Answers
+pub mod Checked
 pub mod Temperature
 pub mod Ozone
 pub mod Parameters

@@ -2,4 +2,3 @@
 pub mod Frames
 pub mod Writer
 pub mod HourLines
-pub mod Checked

@@ -22,7 +22,7 @@ ghost use Rattle.frames.specs.Answers.{outcome_of};
 ghost use Rattle.frames.specs.Frames.{parsed_of, sound_of, record_of, read_frame_of};
 ghost use Rattle.frames.specs.Ranges.{checked};
 ghost use Rattle.frames.specs.Rows.{ReaderRows};
-ghost use Rattle.frames.specs.steps.Checked.{checked_as};
+ghost use Rattle.frames.specs.Checked.{checked_as};
 
 pub use digits::{digit_value, is_digit};
 pub use layout::{air_kind, hour_of, ozone_of, soil_number, vapour_number};

@@ -1,7 +1,7 @@
 -- A run that shows the promise, by each kind of call: a header's line, the same refused as a second
 -- one, an hour of floats, the next hour tried and taken, one more as a line to a list that has this
 -- account alone, a reading, the account's line.
-use Rattle.std.specs.Prelude.{ℕ, ◌≡◌, List, [], ◌∷◌, ◌++◌, length, drop, pos, Some, Float}
+use Rattle.std.specs.Prelude.{ℕ, ◌≡◌, List, [], ◌∷◌, ◌++◌, length, drop, pos, Some, Float, codes}
 use Rattle.std.specs.Float.{binary32}
 use Rattle.std.specs.Float.Ieee.{of_int}
 use Rattle.frames.specs.declared.records.Air.{Air}
@@ -12,6 +12,7 @@ use Rattle.frames.specs.declared.records.Soil.{Soil}
 use Rattle.frames.specs.Layout.{frame_line}
 use Rattle.account_spec.specs.Account.{fresh_account}
 use Rattle.floats.specs.declared.FloatReadings.{FloatReadings}
+use Rattle.text_spec.specs.Lines.{line_feed}
 use Rattle.stored.specs.Layout.{account_width}
 use Rattle.stored.specs.declared.answers.Readout.{Readout}
 use Rattle.stored.specs.declared.answers.Tried.{Tried}
@@ -66,11 +67,9 @@ dark_reading hours = record {
   upper = 0;
 }
 
--- `3 0 0 0 0 0 below` and a line feed: 18 bytes
+-- 18 bytes
 abbrev pub dark_text : List ℕ
-dark_text =
-    51 ∷ 32 ∷ 48 ∷ 32 ∷ 48 ∷ 32 ∷ 48 ∷ 32 ∷ 48 ∷ 32 ∷ 48 ∷ 32
-    ∷ 98 ∷ 101 ∷ 108 ∷ 111 ∷ 119 ∷ 10 ∷ []
+dark_text = codes "3 0 0 0 0 0 below" ++ line_feed ∷ []
 
 abbrev pub dark_trial : Tried
 dark_trial = record { code = 0; answer = 0; reading = dark_reading 2 }

@@ -1,6 +1,6 @@
 -- The lines of the other calls' answers: two numbers, "none yet", and a call, a header or one of
 -- two texts refused.
-use Rattle.std.specs.Prelude.{ℕ, List, [], ◌∷◌, ◌++◌}
+use Rattle.std.specs.Prelude.{ℕ, List, [], ◌∷◌, ◌++◌, codes}
 use Rattle.text_spec.specs.Lines.{line_feed}
 use Rattle.text_spec.specs.Text.{decimal, space}
 
@@ -8,25 +8,20 @@ use Rattle.text_spec.specs.Text.{decimal, space}
 abbrev pub phrase : List ℕ → ℕ → List ℕ → List ℕ
 phrase word n rest = word ++ decimal n rest
 
--- the bytes of "refused "
 abbrev pub word_refused : List ℕ
-word_refused = 114 ∷ 101 ∷ 102 ∷ 117 ∷ 115 ∷ 101 ∷ 100 ∷ space ∷ []
+word_refused = codes "refused "
 
--- of " line "
 abbrev pub word_line : List ℕ
-word_line = space ∷ 108 ∷ 105 ∷ 110 ∷ 101 ∷ space ∷ []
+word_line = codes " line "
 
--- of " header "
 abbrev pub word_header : List ℕ
-word_header = space ∷ 104 ∷ 101 ∷ 97 ∷ 100 ∷ 101 ∷ 114 ∷ space ∷ []
+word_header = codes " header "
 
--- of "text "
 abbrev pub word_text : List ℕ
-word_text = 116 ∷ 101 ∷ 120 ∷ 116 ∷ space ∷ []
+word_text = codes "text "
 
--- of "none yet"
 abbrev pub word_none_yet : List ℕ
-word_none_yet = 110 ∷ 111 ∷ 110 ∷ 101 ∷ space ∷ 121 ∷ 101 ∷ 116 ∷ []
+word_none_yet = codes "none yet"
 
 -- "A B"
 abbrev pub pair_line : ℕ → ℕ → List ℕ

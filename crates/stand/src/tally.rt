@@ -1,7 +1,7 @@
 //! What is known of a list of accounts and a line after some of them are seen, and the answer once
 //! all are.
 ghost use Rattle.frames.specs.Answers.{outcome_of};
-ghost use Rattle.frames.specs.steps.Checked.{checked_as};
+ghost use Rattle.frames.specs.Checked.{checked_as};
 ghost use Rattle.std.specs.Prelude.{◌≡◌, length};
 ghost use Rattle.stand.specs.steps.ListSteps.{common_as, tallied_as, tally_start, first_common};
 ghost use Rattle.stand.specs.steps.ListSteps.{next_line};

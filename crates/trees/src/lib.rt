@@ -20,7 +20,7 @@ pub use measured::{
     no_warmth, powers,
 };
 pub use ratio::{GREATEST_POWER, Ratio, ratio_of};
-pub use temperature::{HIGHEST_READING, Reading, reading_at};
+pub use temperature::Reading;
 
 /// What a soil reading measures.
 #[derive(Clone, Copy, PartialEq)]

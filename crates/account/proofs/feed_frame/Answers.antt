@@ -4,7 +4,7 @@ use Rattle.std.specs.Prelude.{Ok, Err}
 use mathlib.Core.Path.{◌≡◌, sym, ap, subst, ◌∙◌}
 use native.Mathlib.Omega.{arith}
 use Rattle.frames.specs.Answers.{accepted}
-use Rattle.frames.specs.steps.Checked.{checked_as}
+use Rattle.frames.specs.Checked.{checked_as}
 use Rattle.account_spec.specs.declared.Account.{Account}
 use Rattle.account_spec.specs.Rules.{feed_frame_of, Answers}
 use Rattle.account_spec.proofs.RuleLaws.{answers-impossible}

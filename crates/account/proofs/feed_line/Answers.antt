@@ -2,7 +2,7 @@
 use Rattle.std.proofs.lemmas.Result.{err_from_is_err_and}
 use mathlib.Core.Path.{sym, ap, ◌∙◌}
 use Rattle.frames.specs.Answers.{accepted}
-use Rattle.frames.specs.steps.Checked.{checked_as}
+use Rattle.frames.specs.Checked.{checked_as}
 use Rattle.account.proofs.FrameLaws.{line-read, line-entered, line-refused}
 use Rattle.account.proofs.feed_line.Goals as goal
 

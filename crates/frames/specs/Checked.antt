@@ -1,4 +1,4 @@
--- Serves the code's own steps; no reader need believe it.
+-- What reading a frame answers ("Frames"): a record that its own rows let pass, or a refusal.
 use Rattle.std.specs.Prelude.{Result, Ok, Err}
 use Rattle.frames.specs.declared.records.Record.{Record}
 use Rattle.frames.specs.declared.records.Refusal.{Refusal}
