@@ -1,20 +1,24 @@
 #!/usr/bin/env python3
-"""Writes crates/dose/src/decay.rt: exp(-n/10000) for each digit of n in base 100
-(docs/SPECIFICATION.md, "Factors"), in whole-number arithmetic.
+"""The tables of exp(-n/10000) for each digit of n in base 100 (docs/SPECIFICATION.md, "Factors"),
+in whole-number arithmetic.
 
-An entry is 10^9 divided by 65 terms of the series of exp(n/10000), rounded down; a table ends at
-its last entry that is not 0. The tables prove themselves in the crate: this script is trusted by
-nobody.
+    python3 tools/decay_table.py [--check]
+
+writes crates/dose/src/decay.rt, or sees that it stands there. An entry is 10^9 divided by 65 terms
+of the series of exp(n/10000), rounded down; a table ends at its last entry that is not 0. The
+tables prove themselves in the crate: this script is trusted by nobody.
 """
 from math import factorial
-from pathlib import Path
 
-from layout import array
+from layout import array, put
 
 TERMS = 65
 SCALE = 10**9
 UNIT = 10000
 PLACES = {"ONES": 1, "HUNDREDS": 100, "MYRIADS": 10000}
+HEAD = """\
+//! exp(-n/10000) in units of 10⁻⁹, made by tools/decay_table.py: entry d of a place's table is that
+//! of n = d·place, with 65 terms, rounded down. Past a table's end it is 0."""
 
 
 def entry(n: int) -> int:
@@ -29,16 +33,12 @@ def table(place: int) -> list[int]:
 
 
 def main() -> None:
-    lines = [
-        "// exp(-n/10000) in units of 10⁻⁹, made by tools/decay_table.py: entry d of a place's",
-        "// table is that of n = d·place, with 65 terms, rounded down. Past a table's end it is 0.",
-    ]
+    lines = [HEAD]
     for name, place in PLACES.items():
         entries = table(place)
-        lines += [] if lines[-1].startswith("//") else [""]
+        lines += [] if lines == [HEAD] else [""]
         lines += array(f"pub(crate) const {name}: [u32; {len(entries)}]", entries)
-    out = Path(__file__).resolve().parent.parent / "crates/dose/src/decay.rt"
-    out.write_text("\n".join(lines) + "\n")
+    put({"crates/dose/src/decay.rt": lines})
 
 
 if __name__ == "__main__":

@@ -2,22 +2,24 @@
 """The table of saturation pressures (docs/SPECIFICATION.md, "Humidity in place of VPD"), in
 whole-number arithmetic.
 
-    python3 tools/saturation_table.py
+    python3 tools/saturation_table.py [--check]
 
-writes crates/dose/src/values.rt. An entry is 0.611·exp(17.502·T/(T + 240.97)) kPa in units of
-5·10^-9 kPa, rounded down, for T in tenths of a degree from -50.0 to 60.0 °C. The proof tests every
-entry, so nothing rests on this script.
+writes crates/dose/src/values.rt, or sees that it stands there. An entry is
+0.611·exp(17.502·T/(T + 240.97)) kPa in units of 5·10^-9 kPa, rounded down, for T in tenths of a
+degree from -50.0 to 60.0 °C. The proof tests every entry, so nothing rests on this script.
 """
 from fractions import Fraction
 from math import factorial
-from pathlib import Path
 
-from layout import array
+from layout import array, put
 
 READINGS = 1101  # tenths of a degree above -50.0 °C
 UNITS = 2 * 10**8  # in a kPa
 TERMS = 60  # of the series of exp, for an exponent under 4
-VALUES = Path(__file__).resolve().parent.parent / "crates" / "dose" / "src" / "values.rt"
+HEAD = """\
+//! The saturation pressure 0.611·exp(17.502·T/(T + 240.97)) kPa in units of 5·10⁻⁹ kPa, rounded
+//! down, made by tools/saturation_table.py: entry x is that of the reading x, tenths of a degree
+//! above -50.0 °C."""
 
 
 def entry(x: int) -> int:
@@ -28,14 +30,9 @@ def entry(x: int) -> int:
 
 
 def main() -> None:
-    lines = [
-        "// The saturation pressure 0.611·exp(17.502·T/(T + 240.97)) kPa in units of 5·10⁻⁹ kPa,",
-        "// rounded down, made by tools/saturation_table.py: entry x is that of the reading x,",
-        "// tenths of a degree above -50.0 °C.",
-    ]
     entries = [entry(x) for x in range(READINGS)]
-    lines += array(f"pub(crate) const SATURATION: [u32; {READINGS}]", entries)
-    VALUES.write_text("\n".join(lines) + "\n")
+    head = f"pub(crate) const SATURATION: [u32; {READINGS}]"
+    put({"crates/dose/src/values.rt": [HEAD, *array(head, entries)]})
 
 
 if __name__ == "__main__":

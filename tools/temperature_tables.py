@@ -2,17 +2,17 @@
 """Each tree's f_temp table (docs/SPECIFICATION.md, "Factors"), in whole-number arithmetic, and
 where it begins and ends.
 
-    python3 tools/temperature_tables.py
+    python3 tools/temperature_tables.py [--check]
 
-writes crates/power/src/values.rt, specs/Trimmed.antt and proofs/TrimmedLaws.antt. An entry is the
-greatest whole t with t/10^9 not above a·w^(p/q). Entries under f_min go from both ends of a table
-until it begins and ends with one that is not. The proofs test every entry and every one that was
-cut, so nothing rests on this script.
+writes src/values.rt, specs/Trimmed.antt and proofs/TrimmedLaws.antt of crates/power, or sees that
+they stand there. An entry is the greatest whole t with t/10^9 not above a·w^(p/q). Entries under
+f_min go from both ends of a table until it begins and ends with one that is not. The proofs test
+every entry and every one that was cut, so nothing rests on this script.
 """
+from bisect import bisect_right
 from math import gcd
-from pathlib import Path
 
-from layout import array
+from layout import array, put
 
 # f_min in percent, Tmin, Topt, Tmax in °C
 TREES = {
@@ -26,21 +26,6 @@ TREES = {
 HIGHEST = 600  # tenths of °C
 ZERO = 500  # a reading of 0.0 °C: tenths of a degree above -50.0 °C
 DECIMALS = 9
-CRATE = Path(__file__).resolve().parent.parent / "crates" / "power"
-
-
-def root_down(n: int, q: int) -> int:
-    """The greatest t with t^q <= n."""
-    low, high = 0, 1
-    while high**q <= n:
-        high *= 2
-    while high - low > 1:
-        middle = (low + high) // 2
-        if middle**q <= n:
-            low = middle
-        else:
-            high = middle
-    return low
 
 
 def table_entry(tmin: int, topt: int, tmax: int, tenths: int) -> int:
@@ -48,7 +33,8 @@ def table_entry(tmin: int, topt: int, tmax: int, tenths: int) -> int:
     p, q = (tmax - topt) // step, (topt - tmin) // step
     numerators = 10 ** (DECIMALS * q) * (tenths - 10 * tmin) ** q * (10 * tmax - tenths) ** p
     denominators = (10 * (topt - tmin)) ** q * (10 * (tmax - topt)) ** p
-    return root_down(numerators // denominators, q)
+    to_q = numerators // denominators  # the entry is the greatest whole t with t^q not above it
+    return bisect_right(range(10**DECIMALS + 1), to_q, key=lambda t: t**q) - 1
 
 
 def table(tree: str) -> dict[int, int]:
@@ -65,94 +51,90 @@ def snake(tree: str) -> str:
     return "".join("_" + c.lower() if c.isupper() else c for c in tree).lstrip("_")
 
 
+def ends(tree: str) -> str:
+    """A table's first and last reading."""
+    return f"{min(table(tree))} {max(table(tree))}"
+
+
 # ---- src
+
+VALUES = """\
+//! f_temp's tables, made by tools/temperature_tables.py: a·w^(p/q) rounded down to nine
+//! decimals, for each tenth of a degree above Tmin, below Tmax and up to 60.0 °C, from the
+//! first to the last that is not under f_min. FIRST is the first entry's reading, tenths of
+//! a degree above -50.0 °C.
+use crate::lookups::Table;"""
+
+OWNER = """
+impl Table for {tree} {{
+    ghost FIRST = {{ {first} }};
+
+    const FIRST: u16 = {first};
+
+    fn entries() -> &'static [u32] {{
+        &{name}
+    }}
+}}
+"""
 
 
 def values() -> list[str]:
-    lines = [
-        "// f_temp's tables, made by tools/temperature_tables.py: a·w^(p/q) rounded down to nine",
-        "// decimals, for each tenth of a degree above Tmin, below Tmax and up to 60.0 °C, from",
-        "// the first to the last that is not under f_min. FIRST is the first entry's reading,",
-        "// tenths of a degree above -50.0 °C.",
-        "use crate::lookups::Table;",
-        f"use trees::{{{', '.join(sorted(TREES))}}};",
-    ]
+    lines = [VALUES, f"use trees::{{{', '.join(sorted(TREES))}}};"]
     for tree in TREES:
-        entries = table(tree)
-        lines += [
-            "",
-            f"impl Table for {tree} {{",
-            f"    ghost FIRST = {{ {min(entries)} }};",
-            "",
-            f"    const FIRST: u16 = {min(entries)};",
-            "",
-        ]
-        lines += [
-            "    fn entries() -> &'static [u32] {",
-            f"        &{snake(tree).upper()}",
-            "    }",
-            "}",
-            "",
-        ]
-        lines += array(
-            f"const {snake(tree).upper()}: [u32; {len(entries)}]", list(entries.values())
-        )
+        entries, name = table(tree), snake(tree).upper()
+        lines.append(OWNER.format(tree=tree, first=min(entries), name=name))
+        lines += array(f"const {name}: [u32; {len(entries)}]", list(entries.values()))
     return lines
 
 
 # ---- specs and proofs
 
+FIGURES = f"use Rattle.trees.specs.Figures.{{{', '.join(map(snake, TREES))}}}"
+
+TRIMMED = f"""\
+-- Where each tree's table begins and ends (docs/SPECIFICATION.md, "Trimmed temperature
+-- tables"): its first and its last reading, in tenths of a degree above -50.0 °C.
+-- Made by tools/temperature_tables.py.
+{FIGURES}
+use Rattle.trees.specs.TemperatureTable.{{IsTrimmed}}
+
+pub record Trimmed : Type 0 where"""
+
+TRIMMED_LAWS = f"""\
+-- What was cut from each tree's table is under f_min, and its two ends are not: one
+-- computed test a tree. Made by tools/temperature_tables.py.
+{FIGURES}
+use Rattle.trees.specs.Temperature.{{tried, allowed}}
+use Rattle.trees.specs.TemperatureTable.{{IsTrimmed}}
+use Rattle.trees.proofs.SoundLaws.{{{', '.join(f'{snake(tree)}-sound' for tree in TREES)}}}
+use Rattle.trees.proofs.TemperatureTrim.{{trimmed-tested}}
+use Rattle.power.specs.Trimmed.{{Trimmed}}"""
+
+LAW = """
+{name}-trimmed : IsTrimmed {name} {ends}
+unfolding tried allowed
+{name}-trimmed = trimmed-tested {name} {ends} {name}-sound tt"""
+
 
 def trimmed() -> list[str]:
-    return [
-        "-- Where each tree's table begins and ends (docs/SPECIFICATION.md, \"Trimmed temperature",
-        "-- tables\"): its first and its last reading, in tenths of a degree above -50.0 °C.",
-        "-- Made by tools/temperature_tables.py.",
-        f"use Rattle.trees.specs.Figures.{{{', '.join(snake(tree) for tree in TREES)}}}",
-        "use Rattle.trees.specs.TemperatureTable.{IsTrimmed}",
-        "",
-        "pub record Trimmed : Type 0 where",
-        *(
-            f"  pub {snake(tree)}_table : IsTrimmed {snake(tree)} {min(table(tree))} "
-            f"{max(table(tree))}"
-            for tree in TREES
-        ),
-    ]
+    fields = (f"{snake(tree)}_table : IsTrimmed {snake(tree)} {ends(tree)}" for tree in TREES)
+    return [TRIMMED, *(f"  pub {field}" for field in fields)]
 
 
 def trimmed_laws() -> list[str]:
-    sound = ", ".join(f"{snake(tree)}-sound" for tree in TREES)
-    lines = [
-        "-- What was cut from each tree's table is under f_min, and its two ends are not: one",
-        "-- computed test a tree. Made by tools/temperature_tables.py.",
-        f"use Rattle.trees.specs.Figures.{{{', '.join(snake(tree) for tree in TREES)}}}",
-        "use Rattle.trees.specs.Temperature.{tried, allowed}",
-        "use Rattle.trees.specs.TemperatureTable.{IsTrimmed}",
-        f"use Rattle.trees.proofs.SoundLaws.{{{sound}}}",
-        "use Rattle.trees.proofs.TemperatureTrim.{trimmed-tested}",
-        "use Rattle.tables.specs.Trimmed.{Trimmed}",
-    ]
-    for tree in TREES:
-        name, ends = snake(tree), f"{min(table(tree))} {max(table(tree))}"
-        lines += [
-            "",
-            f"{name}-trimmed : IsTrimmed {name} {ends}",
-            "unfolding tried allowed",
-            f"{name}-trimmed = trimmed-tested {name} {ends} {name}-sound tt",
-        ]
-    lines += ["", "pub trimmed : Trimmed", "trimmed = record {"]
-    return lines + [f"  {snake(tree)}_table = {snake(tree)}-trimmed;" for tree in TREES] + ["}"]
-
-
-def write(path: Path, lines: list[str]) -> None:
-    path.parent.mkdir(parents=True, exist_ok=True)
-    path.write_text("\n".join(lines) + "\n")
+    laws = [LAW.format(name=snake(tree), ends=ends(tree)) for tree in TREES]
+    fields = [f"  {snake(tree)}_table = {snake(tree)}-trimmed;" for tree in TREES]
+    return [TRIMMED_LAWS, *laws, "", "pub trimmed : Trimmed", "trimmed = record {", *fields, "}"]
 
 
 def main() -> None:
-    write(CRATE / "src" / "values.rt", values())
-    write(CRATE / "specs" / "Trimmed.antt", trimmed())
-    write(CRATE / "proofs" / "TrimmedLaws.antt", trimmed_laws())
+    put(
+        {
+            "crates/power/src/values.rt": values(),
+            "crates/power/specs/Trimmed.antt": trimmed(),
+            "crates/power/proofs/TrimmedLaws.antt": trimmed_laws(),
+        }
+    )
 
 
 if __name__ == "__main__":
