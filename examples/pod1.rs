@@ -91,6 +91,10 @@ pub struct TextRefusal {
     pub line: u64,
 }
 
+fn accepted_text(code: u32, text: u32, line: u64) -> Result<(), TextRefusal> {
+    accepted(code).map_err(|refusal| TextRefusal { refusal, text, line })
+}
+
 #[derive(Clone, Copy, Debug, PartialEq, Eq)]
 pub enum Verdict {
     None,
@@ -299,13 +303,7 @@ pub fn compare<'a>(
     let given = unsafe {
         archive::pod1_compare(first.as_ptr(), first.len(), second.as_ptr(), second.len(), tolerance)
     };
-    if given.code != 0 {
-        return Err(TextRefusal {
-            refusal: refusal(given.code),
-            text: given.text,
-            line: given.line,
-        });
-    }
+    accepted_text(given.code, given.text, given.line)?;
     let line = (given.hours > 0).then(|| &second[given.start as usize..given.end as usize]);
     Ok(Comparison { hours: given.hours, sum: given.sum, line })
 }
@@ -327,86 +325,34 @@ pub fn worst_stretch(
             scratch.len(),
         )
     };
-    if given.code != 0 {
-        return Err(TextRefusal {
-            refusal: refusal(given.code),
-            text: u32::from(given.line > 0),
-            line: given.line,
-        });
-    }
+    accepted_text(given.code, u32::from(given.line > 0), given.line)?;
     Ok((given.found != 0).then_some(Stretch { sum: given.sum, day: given.day }))
 }
 
 // ---- lines to feed
 
-pub fn write_header(
-    tree: u8,
-    days: u16,
-    first: u16,
-    last: u16,
-    level: u16,
-    buffer: &mut [u8],
-) -> Result<&[u8], Refusal> {
-    // SAFETY: the buffer lends its whole length
-    put(buffer, |place, length| unsafe {
-        archive::pod1_write_header(tree, days, first, last, level, place, length)
-    })
+/// A function for each: what it is given and a buffer, in which it gives the line back.
+macro_rules! writers {
+    ($($(#[$doc:meta])* $name:ident($($given:ident: $of:ty),*) by $call:ident;)*) => {$(
+        $(#[$doc])*
+        pub fn $name($($given: $of,)* buffer: &mut [u8]) -> Result<&[u8], Refusal> {
+            // SAFETY: the buffer lends its whole length
+            put(buffer, |place, length| unsafe { archive::$call($($given,)* place, length) })
+        }
+    )*};
 }
 
-/// A header whose days come from latitude, in tenths of a degree north, and height in metres.
-pub fn write_place(
-    tree: u8,
-    days: u16,
-    level: u16,
-    latitude: u16,
-    height: u16,
-    buffer: &mut [u8],
-) -> Result<&[u8], Refusal> {
-    // SAFETY: the buffer lends its whole length
-    put(buffer, |place, length| unsafe {
-        archive::pod1_write_place(tree, days, level, latitude, height, place, length)
-    })
-}
-
-pub fn write_hour(hour: Hour, buffer: &mut [u8]) -> Result<&[u8], Refusal> {
-    // SAFETY: the buffer lends its whole length
-    put(buffer, |place, length| unsafe { archive::pod1_write_hour(hour, place, length) })
-}
-
-pub fn write_hour_pressure(hour: Hour, pressure: u16, buffer: &mut [u8]) -> Result<&[u8], Refusal> {
-    // SAFETY: the buffer lends its whole length
-    put(buffer, |place, length| unsafe {
-        archive::pod1_write_hour_pressure(hour, pressure, place, length)
-    })
-}
-
-pub fn write_hour_humidity(hour: Hour, buffer: &mut [u8]) -> Result<&[u8], Refusal> {
-    // SAFETY: the buffer lends its whole length
-    put(buffer, |place, length| unsafe { archive::pod1_write_hour_humidity(hour, place, length) })
-}
-
-pub fn write_end(hours: u16, buffer: &mut [u8]) -> Result<&[u8], Refusal> {
-    // SAFETY: the buffer lends its whole length
-    put(buffer, |place, length| unsafe { archive::pod1_write_end(hours, place, length) })
-}
-
-pub fn write_ceiling(ozone: u16, buffer: &mut [u8]) -> Result<&[u8], Refusal> {
-    // SAFETY: the buffer lends its whole length
-    put(buffer, |place, length| unsafe { archive::pod1_write_ceiling(ozone, place, length) })
-}
-
-pub fn write_parameters(parameters: Parameters, buffer: &mut [u8]) -> Result<&[u8], Refusal> {
-    // SAFETY: the buffer lends its whole length
-    put(buffer, |place, length| unsafe {
-        archive::pod1_write_parameters(parameters, place, length)
-    })
-}
-
-pub fn write_warmth(rise: u16, fall: u16, end: u16, buffer: &mut [u8]) -> Result<&[u8], Refusal> {
-    // SAFETY: the buffer lends its whole length
-    put(buffer, |place, length| unsafe {
-        archive::pod1_write_warmth(rise, fall, end, place, length)
-    })
+writers! {
+    write_header(tree: u8, days: u16, first: u16, last: u16, level: u16) by pod1_write_header;
+    /// A header whose days come from latitude, in tenths of a degree north, and height in metres.
+    write_place(tree: u8, days: u16, level: u16, latitude: u16, height: u16) by pod1_write_place;
+    write_hour(hour: Hour) by pod1_write_hour;
+    write_hour_pressure(hour: Hour, pressure: u16) by pod1_write_hour_pressure;
+    write_hour_humidity(hour: Hour) by pod1_write_hour_humidity;
+    write_end(hours: u16) by pod1_write_end;
+    write_ceiling(ozone: u16) by pod1_write_ceiling;
+    write_parameters(parameters: Parameters) by pod1_write_parameters;
+    write_warmth(rise: u16, fall: u16, end: u16) by pod1_write_warmth;
 }
 
 /// What a call wrote into a buffer that it was lent alone.
@@ -420,20 +366,21 @@ fn put<'a>(
 }
 
 /// The archive's own calls and answers, as include/pod1.h has them.
-mod archive {
+pub(crate) mod archive {
     use super::{accepted, Floats, Hour, Parameters, Reading, Refusal, Verdict};
 
     #[repr(C)]
+    #[derive(Clone, Copy, Debug, Default, PartialEq, Eq)]
     pub struct Readout {
-        code: u32,
-        verdict: u32,
-        hours: u32,
-        counted: u32,
-        missing: u32,
-        least: u32,
-        most: u32,
-        lower: u64,
-        upper: u64,
+        pub code: u32,
+        pub verdict: u32,
+        pub hours: u32,
+        pub counted: u32,
+        pub missing: u32,
+        pub least: u32,
+        pub most: u32,
+        pub lower: u64,
+        pub upper: u64,
     }
 
     impl Readout {
@@ -447,12 +394,14 @@ mod archive {
     }
 
     #[repr(C)]
+    #[derive(Clone, Copy, Debug, Default, PartialEq, Eq)]
     pub struct Printed {
         pub code: u32,
         pub length: u64,
     }
 
     #[repr(C)]
+    #[derive(Clone, Copy, Debug, Default, PartialEq, Eq)]
     pub struct Tried {
         pub code: u32,
         pub answer: u32,
@@ -460,6 +409,7 @@ mod archive {
     }
 
     #[repr(C)]
+    #[derive(Clone, Copy, Debug, Default, PartialEq, Eq)]
     pub struct Comparison {
         pub code: u32,
         pub text: u32,
@@ -471,6 +421,7 @@ mod archive {
     }
 
     #[repr(C)]
+    #[derive(Clone, Copy, Debug, Default, PartialEq, Eq)]
     pub struct Stretch {
         pub code: u32,
         pub found: u32,

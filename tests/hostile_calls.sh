@@ -24,5 +24,6 @@ if [ -z "${POD1_ARCHIVE-}" ]; then "$repository/part"; fi
 archive=$(realpath "${POD1_ARCHIVE:-$repository/target/libpod1.a}")
 cd "$repository"
 mkdir -p target/hostile
-rustc -O --edition 2021 -o target/hostile/calls -C link-arg="$archive" tests/hostile/calls/main.rs
+ln -sf "$archive" target/hostile/libpod1.a # by the name that examples/pod1.rs links
+rustc -O --edition 2021 -L target/hostile -o target/hostile/calls tests/hostile/calls/main.rs
 exec target/hostile/calls "${words[@]}"

@@ -199,8 +199,7 @@ pub fn wrong_ceiling(rng: &mut Rng, lines: &mut Lines) {
     }
 }
 
-/// Parameters in range or not, in their place, twice, elsewhere, or in the place of another line;
-/// or those that are there lost or exchanged with the next line.
+/// Parameters in range or not, in their place or out of it.
 pub fn wrong_parameters(rng: &mut Rng, season: &Season, lines: &mut Lines) {
     let days = season.header.last - season.header.first + rng.pick(&[0, 0, 1, 200]);
     let own: Parameters = season.header.own.unwrap_or_else(|| any_parameters(rng, days));
@@ -209,33 +208,27 @@ pub fn wrong_parameters(rng: &mut Rng, season: &Season, lines: &mut Lines) {
         1 => any_parameters(rng, days),
         _ => broken(rng, &own),
     };
-    let line = changed.line().into_bytes();
-    let at = rng.below(lines.len());
-    match rng.below(6) {
-        0 | 1 if lines.len() > 1 => lines[1] = line,
-        2 => lines.insert(lines.len().min(1), line),
-        3 => lines.insert(at, line),
-        4 if lines.len() > 2 => lines.swap(1, 2),
-        5 if lines.len() > 1 => {
-            lines.remove(1);
-        }
-        _ => lines[at] = line,
-    }
+    misplace(rng, lines, 1, changed.line());
 }
 
-/// Warmth in range or not, in its place, twice, elsewhere, or in the place of another line; or what
-/// is there lost or exchanged with the next line.
+/// Warmth in range or not, in its place or out of it.
 pub fn wrong_warmth(rng: &mut Rng, lines: &mut Lines) {
     let warmth = if rng.one_in(2) { any_warmth(rng, 5) } else { broken_warmth(rng) };
-    let line = warmth.line().into_bytes();
+    misplace(rng, lines, 2, warmth.line());
+}
+
+/// A line in its place, twice, elsewhere, or in the place of another; or the one that is there lost
+/// or exchanged with the next.
+fn misplace(rng: &mut Rng, lines: &mut Lines, place: usize, line: String) {
+    let line = line.into_bytes();
     let at = rng.below(lines.len());
     match rng.below(6) {
-        0 | 1 if lines.len() > 2 => lines[2] = line,
-        2 => lines.insert(lines.len().min(2), line),
+        0 | 1 if lines.len() > place => lines[place] = line,
+        2 => lines.insert(lines.len().min(place), line),
         3 => lines.insert(at, line),
-        4 if lines.len() > 3 => lines.swap(2, 3),
-        5 if lines.len() > 2 => {
-            lines.remove(2);
+        4 if lines.len() > place + 1 => lines.swap(place, place + 1),
+        5 if lines.len() > place => {
+            lines.remove(place);
         }
         _ => lines[at] = line,
     }

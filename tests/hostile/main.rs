@@ -30,13 +30,14 @@ mod trees;
 mod turns;
 mod vectors;
 mod warmth;
+mod words;
 
 use std::collections::BTreeMap;
 use std::path::{Path, PathBuf};
 use std::process::exit;
 use std::time::Instant;
+use words::Run;
 
-const SEED: u64 = 20260701;
 /// Where neither cases nor seconds are given.
 const FEW: u64 = 300;
 
@@ -44,9 +45,7 @@ const FEW: u64 = 300;
 const LONGEST_RUN: usize = 24;
 
 struct Arguments {
-    seed: u64,
-    cases: u64,
-    seconds: u64,
+    run: Run,
     vectors: Option<PathBuf>,
     program: PathBuf,
 }
@@ -58,16 +57,11 @@ fn main() {
         eprintln!("hostile: {wrong}\nusage: hostile {USAGE}");
         exit(2);
     });
-    let Arguments { seed, cases, seconds, vectors, program } = arguments;
+    let Arguments { run, vectors, program } = arguments;
     if let Some(folder) = vectors {
         hold_vectors(&folder);
     }
-    println!(
-        "hostile: {}, seed {seed}, cases {}, seconds {}",
-        program.display(),
-        limit(cases),
-        limit(seconds)
-    );
+    println!("hostile: {}, {}", program.display(), run.said());
     if !program.is_file() {
         eprintln!("hostile: there is no {}", program.display());
         exit(2);
@@ -75,8 +69,8 @@ fn main() {
     let started = Instant::now();
     let mut answers = BTreeMap::new();
     let mut case = 0;
-    while case < cases && started.elapsed().as_secs() < seconds {
-        let (kind, text) = cases::make(seed, case);
+    while case < run.most && started.elapsed().as_secs() < run.seconds {
+        let (kind, text) = cases::make(run.seed, case);
         match program::compare(&program, &text) {
             Ok(answer) => *answers.entry(answer).or_insert(0) += 1,
             Err(difference) => fail(&program, case, kind, text, difference),
@@ -102,14 +96,6 @@ fn hold_vectors(folder: &Path) -> ! {
     exit(0);
 }
 
-fn limit(number: u64) -> String {
-    if number == u64::MAX {
-        "any".into()
-    } else {
-        number.to_string()
-    }
-}
-
 /// target/bin/pod1, beside the folder target/hostile of this program.
 fn default_program() -> PathBuf {
     let own = std::env::current_exe().unwrap_or_default();
@@ -117,34 +103,16 @@ fn default_program() -> PathBuf {
 }
 
 fn arguments() -> Result<Arguments, String> {
-    let mut found = Arguments {
-        seed: SEED,
-        cases: u64::MAX,
-        seconds: u64::MAX,
-        vectors: None,
-        program: default_program(),
-    };
-    let mut words = std::env::args().skip(1);
-    while let Some(word) = words.next() {
-        if word == "--vectors" {
-            found.vectors = Some(words.next().ok_or("--vectors needs a folder")?.into());
-            continue;
-        }
-        let mut number = || {
-            words.next().and_then(|word| word.parse().ok()).ok_or(format!("{word} needs a number"))
-        };
-        match word.as_str() {
-            "--seed" => found.seed = number()?,
-            "--cases" => found.cases = number()?,
-            "--seconds" => found.seconds = number()?,
+    let (mut vectors, mut program) = (None, default_program());
+    let run = Run::of_words("cases", FEW, |word, words| {
+        match word {
+            "--vectors" => vectors = Some(words.next().ok_or("--vectors needs a folder")?.into()),
             _ if word.starts_with('-') => return Err(format!("{word} is unknown")),
-            _ => found.program = PathBuf::from(word),
+            _ => program = PathBuf::from(word),
         }
-    }
-    if found.cases == u64::MAX && found.seconds == u64::MAX {
-        found.cases = FEW;
-    }
-    Ok(found)
+        Ok(())
+    })?;
+    Ok(Arguments { run, vectors, program })
 }
 
 /// Prints the case, cut down, and keeps it as a file.

@@ -81,7 +81,7 @@ impl Parameters {
         p.max(q) / common_divisor(p, q) <= MOST_POWER
     }
 
-    pub fn tree(&self) -> Tree {
+    pub const fn tree(&self) -> Tree {
         let n = &self.numbers;
         Tree {
             number: MEASURED,

@@ -1,5 +1,7 @@
 //! The tree table (docs/SPECIFICATION.md, "Tree table"), in the units of the frames.
 
+use crate::parameters::Parameters;
+
 #[derive(Clone, Copy)]
 pub struct Tree {
     pub number: i64,
@@ -45,24 +47,19 @@ pub fn soil_most(number: i64) -> i64 {
     }
 }
 
+/// The trees 1 to 6, in the order and the units of a laboratory's own parameters.
 #[rustfmt::skip]
-static TREES: [Tree; 6] = [
-    Tree { number: 1, gmax: 125.0, f_min: 0.1, light_a: 0.006, temperature: [0, 200, 2000],
-           power: 9.0, vpd: [800, 2800], soil: [150, 10], leaf: 0.8,
-           ends: [0.0, 0.0], ramps: [20, 30], threshold: 1.0 },
-    Tree { number: 2, gmax: 240.0, f_min: 0.1, light_a: 0.0042, temperature: [50, 200, 2000],
-           power: 12.0, vpd: [500, 2700], soil: [150, 10], leaf: 5.0,
-           ends: [0.0, 0.0], ramps: [20, 30], threshold: 1.0 },
-    Tree { number: 3, gmax: 130.0, f_min: 0.16, light_a: 0.01, temperature: [0, 140, 350],
-           power: 3.0 / 2.0, vpd: [500, 3000], soil: [50, 500], leaf: 0.8,
-           ends: [1.0, 1.0], ramps: [0, 0], threshold: 1.0 },
-    Tree { number: 4, gmax: 155.0, f_min: 0.13, light_a: 0.006, temperature: [50, 160, 330],
-           power: 17.0 / 11.0, vpd: [1000, 3100], soil: [50, 1250], leaf: 7.0,
-           ends: [0.0, 0.4], ramps: [20, 20], threshold: 1.0 },
-    Tree { number: 5, gmax: 265.0, f_min: 0.13, light_a: 0.006, temperature: [0, 220, 350],
-           power: 13.0 / 22.0, vpd: [1100, 3100], soil: [1000, 2000], leaf: 4.2,
-           ends: [0.3, 0.3], ramps: [15, 20], threshold: 1.0 },
-    Tree { number: 6, gmax: 195.0, f_min: 0.02, light_a: 0.012, temperature: [10, 230, 390],
-           power: 8.0 / 11.0, vpd: [2200, 4000], soil: [1000, 4500], leaf: 3.0,
-           ends: [1.0, 1.0], ramps: [0, 0], threshold: 1.0 },
+const TABLE: [[i64; 16]; 6] = [
+    [125, 10, 60, 0, 20, 200, 800, 2800, 150, 10, 8, 0, 0, 20, 30, 1],
+    [240, 10, 42, 5, 20, 200, 500, 2700, 150, 10, 50, 0, 0, 20, 30, 1],
+    [130, 16, 100, 0, 14, 35, 500, 3000, 50, 500, 8, 100, 100, 0, 0, 1],
+    [155, 13, 60, 5, 16, 33, 1000, 3100, 50, 1250, 70, 0, 40, 20, 20, 1],
+    [265, 13, 60, 0, 22, 35, 1100, 3100, 1000, 2000, 42, 30, 30, 15, 20, 1],
+    [195, 2, 120, 1, 23, 39, 2200, 4000, 1000, 4500, 30, 100, 100, 0, 0, 1],
 ];
+
+static TREES: [Tree; 6] = [row(1), row(2), row(3), row(4), row(5), row(6)];
+
+const fn row(number: i64) -> Tree {
+    Tree { number, ..Parameters { numbers: TABLE[number as usize - 1] }.tree() }
+}

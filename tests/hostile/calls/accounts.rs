@@ -7,7 +7,9 @@ use crate::bench::*;
 use crate::feeding::*;
 use crate::frames::Readings;
 use crate::layout::*;
-use crate::part::*;
+use crate::lent::Lent;
+use crate::pod1;
+use crate::pod1::archive::*;
 use crate::season::hour_line;
 use crate::trees::soil_most;
 
@@ -101,10 +103,8 @@ impl Bench {
     /// Feeds, and takes the account's bytes over.
     pub fn feed(&mut self, account: &mut Vec<u8>, line: &[u8]) -> Held<u32> {
         self.say(|| format!("pod1_feed account {} line {}", hex(account), shown(line)));
-        let (mut lent, mut lent_line) = (self.lend(account), self.lend(line));
-        let code = unsafe {
-            pod1_feed(lent.pointer(), lent.length(), lent_line.pointer(), lent_line.length())
-        };
+        let (code, lent, lent_line) =
+            self.lend_two(account, line, |a, n, b, m| unsafe { pod1_feed(a, n, b, m) });
         self.counts.add("feed", code);
         same_bytes("line", line, &lent_line)?;
         self.step(line_fed(account, line), code, account, &lent)
@@ -139,9 +139,9 @@ impl Bench {
         });
         let mut lent = self.lend(account);
         let before = account.clone();
-        let code = unsafe {
-            pod1_feed_floats(lent.pointer(), lent.length(), day, hour, FloatReadings { readings })
-        };
+        let [ozone, ppfd, radiation, temperature, vpd, wind, soil] = readings;
+        let readings = pod1::Floats { ozone, ppfd, radiation, temperature, vpd, wind, soil };
+        let code = unsafe { pod1_feed_floats(lent.pointer(), lent.length(), day, hour, readings) };
         self.counts.add("floats", code);
         self.step(floats_fed(account, floats), code, account, &lent)?;
         if let Some(line) = said_by(floats) {
@@ -165,10 +165,8 @@ impl Bench {
     /// An account's line into a buffer.
     pub fn line(&mut self, account: &[u8], buffer: &[u8]) -> Held<()> {
         self.say(|| format!("pod1_line account {} buffer {}", hex(account), hex(buffer)));
-        let (mut lent, mut lent_buffer) = (self.lend(account), self.lend(buffer));
-        let got = unsafe {
-            pod1_line(lent.pointer(), lent.length(), lent_buffer.pointer(), lent_buffer.length())
-        };
+        let (got, lent, lent_buffer) =
+            self.lend_two(account, buffer, |a, n, b, m| unsafe { pod1_line(a, n, b, m) });
         self.counts.add("line", got.code);
         same_bytes("account", account, &lent)?;
         let line = possible(account).map(|account| line_of(&account).into_bytes());
@@ -210,10 +208,8 @@ impl Bench {
 
     pub fn take(&mut self, account: &mut Vec<u8>, trial: &[u8]) -> Held<u32> {
         self.say(|| format!("pod1_take account {} trial {}", hex(account), hex(trial)));
-        let (mut lent, mut lent_trial) = (self.lend(account), self.lend(trial));
-        let code = unsafe {
-            pod1_take(lent.pointer(), lent.length(), lent_trial.pointer(), lent_trial.length())
-        };
+        let (code, lent, lent_trial) =
+            self.lend_two(account, trial, |a, n, b, m| unsafe { pod1_take(a, n, b, m) });
         self.counts.add("take", code);
         let expected = taken(account, trial);
         same(code_of(&expected), code)?;
@@ -228,10 +224,8 @@ impl Bench {
     /// Feeds a list of accounts, and takes their bytes over.
     pub fn feed_all(&mut self, accounts: &mut Vec<u8>, line: &[u8]) -> Held<u32> {
         self.say(|| format!("pod1_feed_all accounts {} line {}", hex(accounts), shown(line)));
-        let (mut lent, mut lent_line) = (self.lend(accounts), self.lend(line));
-        let code = unsafe {
-            pod1_feed_all(lent.pointer(), lent.length(), lent_line.pointer(), lent_line.length())
-        };
+        let (code, lent, lent_line) =
+            self.lend_two(accounts, line, |a, n, b, m| unsafe { pod1_feed_all(a, n, b, m) });
         self.counts.add("feed all", code);
         same_bytes("line", line, &lent_line)?;
         let steps = all_fed(accounts, line);

@@ -2,7 +2,7 @@
 //! and counted.
 
 use crate::counts::Counts;
-use crate::part::Lent;
+use crate::lent::Lent;
 use std::fmt::Debug;
 
 pub struct Difference {
@@ -42,6 +42,18 @@ impl Bench {
 
     pub fn lend(&self, bytes: &[u8]) -> Lent {
         Lent::of(bytes, self.null)
+    }
+
+    /// Lends bytes in two places to a call: what it answers, and the places as it leaves them.
+    pub fn lend_two<T>(
+        &self,
+        one: &[u8],
+        other: &[u8],
+        call: impl FnOnce(*mut u8, usize, *mut u8, usize) -> T,
+    ) -> (T, Lent, Lent) {
+        let (mut one, mut other) = (self.lend(one), self.lend(other));
+        let answer = call(one.pointer(), one.length(), other.pointer(), other.length());
+        (answer, one, other)
     }
 }
 

@@ -4,12 +4,12 @@
 //!     calls [--seed S] [--lists N] [--seconds T]
 //!     calls --list K [--seed S]      one list alone, its calls printed
 //!
-//! Written from docs/SPECIFICATION.md alone. Every answer and every byte that is lent is compared,
-//! with a margin on both sides; the dose that an hour adds is held to the dose in doubles, and the
-//! part's own numbers are carried on, so that every later answer is exact. Trials, lists and floats
-//! are held to feeding the line besides. The answers are counted by call and row, and one that
-//! never comes up in a long run is a failure. At the first difference it prints the calls of that
-//! list, bytes in hexadecimal, and exits with 1.
+//! Written from docs/SPECIFICATION.md alone; the calls are those that examples/pod1.rs declares.
+//! Every answer and every byte that is lent is compared, with a margin on both sides; the dose that
+//! an hour adds is held to the dose in doubles, and the part's own numbers are carried on, so that
+//! every later answer is exact. Trials, lists and floats are held to feeding the line besides. The
+//! answers are counted by call and row, and one that never comes up in a long run is a failure. At
+//! the first difference it prints the calls of that list, bytes in hexadecimal, and exits with 1.
 
 #[allow(dead_code)]
 #[path = "../account.rs"]
@@ -29,6 +29,8 @@ mod frames;
 #[allow(dead_code)]
 #[path = "../parameters.rs"]
 mod parameters;
+#[path = "../../../examples/pod1.rs"]
+mod pod1;
 #[allow(dead_code)]
 #[path = "../rng.rs"]
 mod rng;
@@ -44,15 +46,17 @@ mod turns;
 #[allow(dead_code)]
 #[path = "../warmth.rs"]
 mod warmth;
+#[path = "../words.rs"]
+mod words;
 
 mod accounts;
 mod bench;
 mod counts;
 mod feeding;
 mod layout;
+mod lent;
 mod lists;
 mod moves;
-mod part;
 mod possible;
 mod states;
 mod texts;
@@ -63,33 +67,26 @@ use counts::{Counts, ENOUGH};
 use rng::Rng;
 use std::process::exit;
 use std::time::Instant;
+use words::Run;
 
-const SEED: u64 = 20260701;
 /// Where neither lists nor seconds are given.
 const FEW: u64 = 1000;
 
-struct Arguments {
-    seed: u64,
-    lists: u64,
-    seconds: u64,
-    list: Option<u64>,
-}
-
 fn main() {
-    let Arguments { seed, lists, seconds, list } = arguments().unwrap_or_else(|wrong| {
+    let (run, list) = arguments().unwrap_or_else(|wrong| {
         eprintln!("calls: {wrong}\nusage: calls [--seed S] [--lists N] [--seconds T] [--list K]");
         exit(2);
     });
     if let Some(number) = list {
-        say(seed, number);
+        say(run.seed, number);
     }
-    println!("calls: seed {seed}, lists {}, seconds {}", limit(lists), limit(seconds));
+    println!("calls: {}", run.said());
     let started = Instant::now();
     let mut bench = Bench::new(Counts::default(), false);
     let mut number = 0;
-    while number < lists && (number % 64 > 0 || started.elapsed().as_secs() < seconds) {
-        if lists::run(&mut bench, &mut Rng::new(seed, number)).is_err() {
-            say(seed, number);
+    while number < run.most && (number % 64 > 0 || started.elapsed().as_secs() < run.seconds) {
+        if lists::run(&mut bench, &mut Rng::new(run.seed, number)).is_err() {
+            say(run.seed, number);
         }
         number += 1;
     }
@@ -126,31 +123,12 @@ fn say(seed: u64, number: u64) -> ! {
     }
 }
 
-fn limit(number: u64) -> String {
-    if number == u64::MAX {
-        "any".into()
-    } else {
-        number.to_string()
-    }
-}
-
-fn arguments() -> Result<Arguments, String> {
-    let mut found = Arguments { seed: SEED, lists: u64::MAX, seconds: u64::MAX, list: None };
-    let mut words = std::env::args().skip(1);
-    while let Some(word) = words.next() {
-        let mut number = || {
-            words.next().and_then(|word| word.parse().ok()).ok_or(format!("{word} needs a number"))
-        };
-        match word.as_str() {
-            "--seed" => found.seed = number()?,
-            "--lists" => found.lists = number()?,
-            "--seconds" => found.seconds = number()?,
-            "--list" => found.list = Some(number()?),
-            _ => return Err(format!("{word} is unknown")),
-        }
-    }
-    if found.lists == u64::MAX && found.seconds == u64::MAX {
-        found.lists = FEW;
-    }
-    Ok(found)
+/// How long the run goes on, and the list that alone is made, if there is one.
+fn arguments() -> Result<(Run, Option<u64>), String> {
+    let mut list = None;
+    let run = Run::of_words("lists", FEW, |word, words| match word {
+        "--list" => words::number(word, words).map(|number| list = Some(number)),
+        _ => Err(format!("{word} is unknown")),
+    })?;
+    Ok((run, list))
 }

@@ -6,7 +6,9 @@ use crate::accounts::held_printed;
 use crate::bench::*;
 use crate::frames::{range, Readings, NEWEST, OZONE, TEMPERATURE};
 use crate::parameters::{any_parameters, broken, Parameters};
-use crate::part::*;
+use crate::pod1;
+use crate::pod1::archive::*;
+use crate::pod1::Hour;
 use crate::rng::Rng;
 use crate::season::{any_ceiling, any_level, ceiling_line, end_line, header_line, hour_line};
 use crate::states::any_buffer;
@@ -66,6 +68,20 @@ fn tree_of(hour: &Hour) -> i64 {
         3
     } else {
         1
+    }
+}
+
+/// The wrapper's parameters of numbers in the order of the frame, temperatures by their two bytes.
+#[rustfmt::skip]
+fn parameters_of(numbers: [u16; 16]) -> pod1::Parameters {
+    let [
+        gmax, fmin, lighta, tmin, topt, tmax, vpdmax, vpdmin, soilmax, soilmin, leaf, a, e, f1, f4,
+        y,
+    ] = numbers;
+    let [tmin, topt, tmax] = [tmin, topt, tmax].map(|number| number as i16);
+    pod1::Parameters {
+        gmax, fmin, lighta, tmin, topt, tmax, vpdmax, vpdmin, soilmax, soilmin, leaf, a, e, f1, f4,
+        y,
     }
 }
 
@@ -209,9 +225,10 @@ impl Bench {
         let parameters = Parameters::of(numbers.map(i64::from));
         let line =
             if parameters.are_sound() { Ok(parameters.line().into_bytes()) } else { Err(24) };
-        let call =
-            |at, length| unsafe { pod1_write_parameters(ParameterNumbers { numbers }, at, length) };
-        self.write("write parameters", format!("{numbers:?}"), line, rng, call)
+        let given = parameters_of(numbers);
+        self.write("write parameters", format!("{numbers:?}"), line, rng, |at, length| unsafe {
+            pod1_write_parameters(given, at, length)
+        })
     }
 
     fn write_warmth(&mut self, rng: &mut Rng) -> Held<()> {
