@@ -77,30 +77,31 @@ def direct(crates, name):
 # ---- what is wrong
 
 
-def of_drawing(depths, lines):
-    names = [name for name, _ in drawn(lines)]
-    for name, layer in drawn(lines):
-        if name not in depths:
-            yield f"the drawing has {name}, which is no crate: take it out"
-        elif layer != depths[name]:
-            yield f"the drawing has {name} in layer {layer}: move it to layer {depths[name]}"
-    for name in depths:
+def of_names(place, names, crates):
+    """Each crate stands once in the place, and nothing else."""
+    for name in names:
+        if name not in crates:
+            yield f"{place} has {name}, which is no crate: take it out"
+    for name in crates:
         if names.count(name) != 1:
-            yield f"the drawing has {name} {names.count(name)} times: it stands there once"
+            yield f"{place} has {name} {names.count(name)} times: it stands there once"
+
+
+def of_drawing(depths, lines):
+    entries = list(drawn(lines))
+    yield from of_names("the drawing", [name for name, _ in entries], depths)
+    for name, layer in entries:
+        if name in depths and layer != depths[name]:
+            yield f"the drawing has {name} in layer {layer}: move it to layer {depths[name]}"
 
 
 def of_list(crates, lines):
     items = listed(lines)
-    names = [name for name, _ in items]
+    yield from of_names("the list", [name for name, _ in items], crates)
     for name, below in items:
-        if name not in crates:
-            yield f"the list has {name}, which is no crate: take it out"
-        elif sorted(below) != direct(crates, name):
+        if name in crates and sorted(below) != direct(crates, name):
             said, right = ", ".join(below), ", ".join(direct(crates, name))
             yield f"the list has {name} on {said or 'none'}: by crates.txt it is {right or 'none'}"
-    for name in crates:
-        if names.count(name) != 1:
-            yield f"the list has {name} {names.count(name)} times: it stands there once"
 
 
 def faults(crates, page):

@@ -2,7 +2,6 @@
 number, the sections and files that they cite, and where a page's links lead."""
 
 import re
-import sys
 
 from pages_names import names
 from pages_read import PATHS, Fault, files, line_of, page, pages, text_of, titles
