@@ -29,7 +29,7 @@ from itertools import product
 
 import sections
 import vectors
-from local_trees import BROKEN, GOOD, local, some_parameters
+from local_trees import BROKEN, GOOD, WARMTHS, local, some_parameters
 from lot import Lot
 from paper import HOUR_KINDS, MEASURED, NO_AGE, NO_PARAMETERS, NO_WARMTH, NUMBERS, PARAMETERS
 from paper import SUCTION, TREES, WARMTH, WATER, Age, Hour, Parameters, Warmth, ceiling_row
@@ -681,27 +681,6 @@ def warm_row(age, parameters=None, hour=None, first=1, last=1, ceiling=0, **name
     return f"{call} {line_of(WARMTH, *age.warmth).decode()} {age.tenths:08X}"
 
 
-# rise, fall and end: each 0 and both, one next to the other, the least and the greatest end
-WARMTHS = (
-    *(
-        (200, 300, 1500),
-        (0, 300, 1500),
-        (200, 0, 1500),
-        (0, 0, 1500),
-        (1000, 500, 1500),
-        (1500, 0, 1500),
-        (0, 1500, 1500),
-    ),
-    *(
-        (0, 0, 1),
-        (1, 0, 1),
-        (0, 1, 1),
-        (0, 0, 5000),
-        (2500, 2500, 5000),
-        (1, 4999, 5000),
-        (4999, 1, 5000),
-    ),
-)
 ENDS = ((20, 40), (0, 0), (100, 100), (1, 99), (99, 1))  # a and e
 
 
@@ -717,7 +696,8 @@ def sums_of(warmth):
 def around_sums():
     """Each warmth at its sums, on the first day of a ramp, which f_phen does not go by; every fifth
     hour without ozone."""
-    ages = [Age(warmth, n) for warmth in map(Warmth._make, WARMTHS) for n in sums_of(warmth)]
+    warmths = map(Warmth._make, (*WARMTHS, (1, 4999, 5000), (4999, 1, 5000)))
+    ages = [Age(warmth, n) for warmth in warmths for n in sums_of(warmth)]
     for n, age in enumerate(ages):
         a, e = ENDS[n % len(ENDS)]
         hour = own_hour(
@@ -727,14 +707,10 @@ def around_sums():
 
 
 BROKEN_WARMTHS = (
-    *(
-        (1000, 501, 1500), (1001, 500, 1500), (1501, 0, 1500), (0, 1501, 1500), (0, 0, 5001),
-        (0, 0, 65535), (65535, 65535, 65535), (32768, 32768, 1),
-    ),
-    *(
-        (1, 0, 0), (0, 1, 0), (1, 1, 1), (2500, 2501, 5000), (2500, 2500, 5001), (65535, 1, 5000),
-        (1, 65535, 5000), (40000, 25536, 5000),
-    ),
+    (1000, 501, 1500), (1001, 500, 1500), (1501, 0, 1500), (0, 1501, 1500), (0, 0, 5001),
+    (0, 0, 65535), (65535, 65535, 65535), (32768, 32768, 1), (1, 0, 0), (0, 1, 0), (1, 1, 1),
+    (2500, 2501, 5000), (2500, 2500, 5001), (65535, 1, 5000), (1, 65535, 5000),
+    (40000, 25536, 5000),
 )
 
 

@@ -148,17 +148,14 @@ def answer(row):
     return book.refused(row) if row else "accepted"
 
 
-class Sheet:
+class Sheet(sections.Sheet):
     """The commands so far, what they must print, and the two accounts that they leave: one is fed
     lines, the other floats."""
 
     def __init__(self):
-        self.commands, self.answers = [], []
+        super().__init__()
         self.lines = self.floats = Account()
         self.rows = set()  # that floats were refused by
-
-    def command(self, letter, rest=b""):
-        self.commands.append(letter + rest + b"\n")
 
     def fresh(self):
         self.command(b"N")
@@ -355,8 +352,7 @@ def filled():
 
 
 def section():
-    sheet = filled()
-    return b"".join(sheet.commands), "".join(line + "\n" for line in sheet.answers).encode()
+    return filled().section()
 
 
 if __name__ == "__main__":

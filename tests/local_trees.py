@@ -1,5 +1,6 @@
-"""Parameters of a laboratory's own tree (docs/SPECIFICATION.md, "A laboratory's own tree") for the
-case scripts in this folder: at the corners of their ranges, one past them, by lot.
+"""Parameters of a laboratory's own tree and its warmth (docs/SPECIFICATION.md, "A laboratory's own
+tree", "Leaf age by warmth") for the case scripts in this folder: at the corners of their ranges,
+one past them, by lot.
 
 Nothing here is taken from the code.
 """
@@ -29,47 +30,15 @@ def with_temperatures(*three):
 # at the ends of their range; p/q 1/1, 22/1, 1/22, 22/21, 21/22, 22/13, 13/22, reduced from 46/46,
 # 66/3, 3/66, 44/22; on both sides of 0 °C
 GOOD_TEMPERATURES = (
-    (-20, -19, -18),
-    (58, 59, 60),
-    (-20, 20, 60),
-    (-20, -19, 3),
-    (37, 59, 60),
-    (37, 38, 60),
-    (-20, 2, 3),
-    (-20, 1, 23),
-    (17, 39, 60),
-    (-20, 2, 23),
-    (-20, -7, 15),
-    (-20, 2, 15),
-    (-20, 3, 26),
-    (-20, -17, 49),
-    (-9, 57, 60),
-    (-6, 16, 60),
-    (-1, 0, 1),
-    (0, 22, 35),
+    (-20, -19, -18), (58, 59, 60), (-20, 20, 60), (-20, -19, 3), (37, 59, 60), (37, 38, 60),
+    (-20, 2, 3), (-20, 1, 23), (17, 39, 60), (-20, 2, 23), (-20, -7, 15), (-20, 2, 15),
+    (-20, 3, 26), (-20, -17, 49), (-9, 57, 60), (-6, 16, 60), (-1, 0, 1), (0, 22, 35),
 )
 # not rising, past the ends, p or q 23, reduced and not
 BROKEN_TEMPERATURES = (
-    (-21, 0, 21),
-    (-21, -20, -19),
-    (20, 40, 61),
-    (59, 60, 61),
-    (-32768, 0, 20),
-    (0, 20, 32767),
-    (10, 10, 20),
-    (0, 20, 20),
-    (10, 10, 10),
-    (20, 10, 30),
-    (0, 30, 20),
-    (30, 20, 10),
-    (0, 1, 24),
-    (0, 23, 24),
-    (0, 2, 48),
-    (0, 46, 48),
-    (0, 22, 45),
-    (0, 23, 45),
-    (-20, 59, 60),
-    (-20, -19, 60),
+    (-21, 0, 21), (-21, -20, -19), (20, 40, 61), (59, 60, 61), (-32768, 0, 20), (0, 20, 32767),
+    (10, 10, 20), (0, 20, 20), (10, 10, 10), (20, 10, 30), (0, 30, 20), (30, 20, 10), (0, 1, 24),
+    (0, 23, 24), (0, 2, 48), (0, 46, 48), (0, 22, 45), (0, 23, 45), (-20, 59, 60), (-20, -19, 60),
 )
 PAIRS = (("vpdmax", "vpdmin"), ("soilmax", "soilmin"))
 GOOD_PAIRS = ((0, 1), (9999, 10000), (0, 10000), (4096, 4097))
@@ -105,6 +74,13 @@ def broken_changes():
 GOOD = tuple(local(**changes) for changes in good_changes())
 BROKEN = tuple(local(**changes) for changes in broken_changes())
 assert not any(map(parameter_row, GOOD)) and all(map(parameter_row, BROKEN))
+
+# rise, fall and end: each 0 and both, one next to the other, the least and the greatest end
+WARMTHS = (
+    (200, 300, 1500), (0, 300, 1500), (200, 0, 1500), (0, 0, 1500), (1000, 500, 1500),
+    (1500, 0, 1500), (0, 1500, 1500), (0, 0, 1), (1, 0, 1), (0, 1, 1), (0, 0, 5000),
+    (2500, 2500, 5000),
+)
 
 CORNERS = {name: getattr(PARAMETER_LIMITS, name) for name in SINGLE}
 

@@ -23,7 +23,8 @@ import vectors
 from account_cases import ceiling_line, end_line, header_line, hour_line
 from local_trees import parameters_line
 from lot import Lot
-from paper import HOUR_KINDS
+from paper import HOUR_KINDS, MISSING
+from season_texts import replace_ozone, text_of
 from vectors import REPOSITORY
 
 PROGRAM = REPOSITORY / "target" / "bin" / "pod1"
@@ -60,7 +61,7 @@ def leap_year(kind, tree=6):
 
 def leap_years():
     """An evergreen's leap year in each kind."""
-    years = {kind: report_cases.text_of(leap_year(kind)) for kind in HOUR_KINDS}
+    years = {kind: text_of(leap_year(kind)) for kind in HOUR_KINDS}
     assert all(len(year) == LEAP_YEAR[kind] for kind, year in years.items())
     return years
 
@@ -69,10 +70,8 @@ def longest_year():
     """A leap year of tree 7 and kind 04 with a ceiling, ozone missing at noon: the longest text
     that is accepted."""
     header, *lines = leap_year(4, 7)
-    at_noon = (line[:8] + b"FFFF" + line[12:] if line[6:8] == b"0C" else line for line in lines)
-    year = report_cases.text_of(
-        [header, parameters_line(f1=200, f4=165), ceiling_line(5000), *at_noon]
-    )
+    at_noon = (replace_ozone(line, MISSING) if line[6:8] == b"0C" else line for line in lines)
+    year = text_of([header, parameters_line(f1=200, f4=165), ceiling_line(5000), *at_noon])
     assert len(year) == LONGEST and not report_cases.report(year).startswith(b"refused")
     return year
 
@@ -265,7 +264,7 @@ def try_vectors(folder):
 
 def main():
     build()
-    day, years, year = report_cases.text_of(report_cases.day(True)), leap_years(), longest_year()
+    day, years, year = text_of(report_cases.day(True)), leap_years(), longest_year()
     try_vectors(vectors.folder_of(sys.argv))
     named = [(f"leap year of kind {kind}", text) for kind, text in years.items()]
     for texts in (
@@ -276,9 +275,7 @@ def main():
     for text in report_cases.written_by_hand():
         try_text(repr(text[:60]), text)
     sorts = report_cases.mountain_seasons, report_cases.humid_seasons, report_cases.own_seasons
-    for text in chain(
-        map(report_cases.text_of, report_cases.month_seasons()), *(sort() for sort in sorts)
-    ):
+    for text in chain(map(text_of, report_cases.month_seasons()), *(sort() for sort in sorts)):
         try_text(f"season {text[:20].decode()}", text)
     try_fillings()
     try_pieces_of(day, year)

@@ -33,6 +33,20 @@ HEAD = re.compile(rb"(\w+) ([0-9A-F]{8})\n")
 NAME = re.compile(b"^(%b)\n" % "|".join(NAMES).encode(), re.MULTILINE)
 
 
+class Sheet:
+    """The commands of a section, each a line, and what they must print."""
+
+    def __init__(self):
+        self.commands, self.answers = [], []
+
+    def command(self, letter, rest=b""):
+        self.commands.append(letter + rest + b"\n")
+
+    def section(self):
+        """What is read, and what must be printed."""
+        return b"".join(self.commands), "".join(said + "\n" for said in self.answers).encode()
+
+
 def given():
     """What is read of each section, by name."""
     found, text, at = {}, (CRATE / "stdin").read_bytes(), 0

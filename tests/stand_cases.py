@@ -27,7 +27,7 @@ from local_trees import BROKEN, LOCAL, local, parameters_line
 from paper import CEILING, HEADER, HOUR_KINDS, MEASURED, NO_PARAMETERS, NUMBERS, PARAMETERS, Age
 from paper import Parameters, Warmth, ends, exact_dose, excess, frame_of, gap_allowed, hour_of
 from paper import line_of, measure_of, most_hour, sums_before, tree_of
-from trial_cases import DIGITS, answer, shown
+from trial_cases import answer, field_changes, shown
 
 PLACES = 6
 OVER = 7, 8, 255  # counts above six
@@ -58,17 +58,14 @@ def feed_together(accounts, line):
 # ---- commands and answers
 
 
-class Sheet:
+class Sheet(sections.Sheet):
     """The commands so far, what they must print, and the six accounts that they leave."""
 
     def __init__(self):
-        self.commands, self.answers = [], []
+        super().__init__()
         self.accounts, self.count = PLACES * [Account()], 0
         self.given = Counter()  # how often the list gave each row
         self.by_count = Counter()  # how often a list of so many accepted
-
-    def command(self, letter, rest=b""):
-        self.commands.append(letter + rest + b"\n")
 
     def fresh(self):
         self.command(b"N")
@@ -82,11 +79,8 @@ class Sheet:
     def hold(self, *accounts):
         """The accounts of the first places."""
         for place, account in enumerate(accounts):
-            for at, (was, is_now, digits) in enumerate(
-                zip(self.accounts[place].numbers, account.numbers, DIGITS)
-            ):
-                if was != is_now:
-                    self.command(b"H", b"%02X%02X%0*X" % (place, at, digits, is_now % 16**digits))
+            for change in field_changes(self.accounts[place], account):
+                self.command(b"H", b"%02X" % place + change)
             self.accounts[place] = account
 
     def feed_alone(self, place, line):
@@ -746,8 +740,7 @@ def filled():
 
 
 def section():
-    sheet = filled()
-    return b"".join(sheet.commands), "".join(text + "\n" for text in sheet.answers).encode()
+    return filled().section()
 
 
 if __name__ == "__main__":

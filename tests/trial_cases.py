@@ -72,22 +72,25 @@ def answer(row, account):
     return (book.refused(row) if row else "accepted") + ": " + shown(account)
 
 
-class Sheet:
+def field_changes(old, new):
+    """Each field in which the new account is not the old one, and its number."""
+    for at, (was, is_now, digits) in enumerate(zip(old.numbers, new.numbers, DIGITS)):
+        if was != is_now:
+            yield b"%02X%0*X" % (at, digits, is_now % 16**digits)
+
+
+class Sheet(sections.Sheet):
     """The commands so far, what they must print, and the account and the trial that they leave."""
 
     def __init__(self):
-        self.commands, self.answers = [], []
+        super().__init__()
         self.account, self.trial = Account(), trial(Account(), b"")
         self.tried, self.taken = set(), set()  # the rows that trials and takings gave
 
-    def command(self, letter, rest=b""):
-        self.commands.append(letter + rest + b"\n")
-
     def fields(self, letter, old, new):
         """A command for each field in which the new account is not the old one."""
-        for at, (was, is_now, digits) in enumerate(zip(old.numbers, new.numbers, DIGITS)):
-            if was != is_now:
-                self.command(letter, b"%02X%0*X" % (at, digits, is_now % 16**digits))
+        for change in field_changes(old, new):
+            self.command(letter, change)
 
     def hold(self, account):
         self.fields(b"H", self.account, account)
@@ -315,8 +318,7 @@ def filled():
 
 
 def section():
-    sheet = filled()
-    return b"".join(sheet.commands), "".join(text + "\n" for text in sheet.answers).encode()
+    return filled().section()
 
 
 if __name__ == "__main__":
