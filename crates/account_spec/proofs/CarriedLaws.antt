@@ -87,9 +87,6 @@ abbrev pub carried_on : ℕ → List Hour → Carried
 carried_on first hs = record { sum = days_sum first (length hs / 24) hs; total = day_total (first + length hs / 24) hs }
 
 module _ (h : Hour) (n : ℕ) (number : h.hour ≡ n % 24) (c : Carried) where
-  warmer-last : n % 24 ≡ 23 → warmer c h ≡ record { sum = c.sum + not_negative (c.total +ℤ h.temperature); total = pos 0 }
-  warmer-last e = grind (arith, nat_tests)
-
   -- within the limits
   pub warmer-in : temperature_out h.temperature ≡ false → WarmIn n c → WarmIn (suc n) (warmer c h)
   warmer-in hot p =

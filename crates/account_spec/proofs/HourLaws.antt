@@ -3,9 +3,8 @@
 use Prim.Native.Nat.{ℕ, ◌≤◌}
 use mathlib.Core.Path.{◌≡◌, refl, sym, ap, subst}
 use mathlib.Core.Bool.{Bool, true, false, cond}
-use native.Mathlib.Nat.{le_trans, mul-le-mul_right}
+use native.Mathlib.Nat.{mul-le-mul_right}
 use native.Mathlib.Omega.{arith}
-use Rattle.exact.specs.declared.Bounds.{Bounds}
 use Rattle.exact.specs.Frac.{Frac, natural}
 use Rattle.exact.proofs.FracLaws.{≼_refl}
 use Rattle.trees.specs.Sound.{Sound}
@@ -131,10 +130,6 @@ season-stand season stand e =
     let own = figures-by season found.0 (is_measured season) refl (tree-named season.parameters season.header.tree found.0 found.1) in
     subst (SeasonStand season) (accepted-same found.2) (record { sound = own.sound; gap = own.gap; most = own.most; ceiling = refl; warmth = refl })
 
-pub record PairSized (season : Season) (pair : Bounds) : Type 0 where
-  pub order : pair.lower ≤ pair.upper
-  pub most : pair.upper ≤ most_hour season
-
 module _ (season : Season) (h : Hour) where
   -- `hour_dose` goes by the season's stand
   pub dosable-stand : (d : Dosable season h) → stand_in season ≡ accepted d.0
@@ -143,10 +138,3 @@ module _ (season : Season) (h : Hour) where
 
   pub dosable-has : Dosable season h → HasDose season h
   dosable-has d = (d.0, dosable-stand d, (stand-passed _ _ _ _ _ h d.0 d.1).checks)
-
-  pub pair-sized : season.ceiling ≤ 5000 → (c : Carried) → HasDose season h → PairSized season (pair_of (stand_in season) c h)
-  unfolding pair_of
-  pair-sized few c has =
-      let own = season-stand season has.0 has.1 in
-      let one = enclosure.pair (stand_at has.0 c) own.sound (omega (arith, own.ceiling)) h has.2 in
-      rw has.1 (record { order = one.order; most = le_trans one.most (own.most h.air) })

@@ -20,17 +20,11 @@ use Rattle.frames.specs.Parameters.{parameter_out}
 use Rattle.frames.specs.Ranges.{checked, lacks_ceiling, ramps_out}
 use Rattle.frames.specs.Layout.{ozone_of}
 use Rattle.frames.specs.Frames.{parsed_of, sound_of, record_of}
-use Rattle.account_spec.specs.declared.Phase.{Phase}
-use Rattle.account_spec.specs.declared.Phase.TheVariants.{Fresh}
 use Rattle.account_spec.specs.declared.Account.{Account}
 use Rattle.account_spec.specs.declared.State.{State}
 use Rattle.account_spec.specs.HourKinds.{is_mixed}
-use Rattle.account_spec.specs.Account.{is_fresh, impossible}
+use Rattle.account_spec.specs.Account.{impossible}
 use Rattle.account_spec.specs.Rules.{is_due, count_wrong, due_of, answer_of, feed_of, unread_row, feed_frame_of, Answers, Feeds, Fed}
-
--- the arm of a `match` on the phase that is left
-pub fresh-false : (p : Phase) → (p ≡ Fresh → ⊥) → is_fresh p ≡ false
-fresh-false p k = grind (arith, k)
 
 -- ---- a header's rows; row 15, then 9 and 18, before row 10; row 11; row 17; row 25; row 24, then
 -- 7
@@ -41,24 +35,12 @@ module _ (s : State) where
   header-in h = refl
 
   module _ (raw : RawHour) where
-    pub mixed-out : is_mixed s.kind raw.air ≡ true → refused (15, 0) ≡ due_of s (Raw.Hour raw)
+    pub due_in :
+        is_mixed s.kind raw.air ≡ false → is_due s raw ≡ true →
+        lacks_ceiling s.season.ceiling (ozone_of raw.ozone) ≡ false →
+        record_of s.season.header.tree (Raw.Hour raw) ≡ due_of s (Raw.Hour raw)
     unfolding due_of
-    mixed-out m = rw m
-
-    module _ (one : is_mixed s.kind raw.air ≡ false) where
-      pub due-out : is_due s raw ≡ false → refused (9, 0) ≡ due_of s (Raw.Hour raw)
-      unfolding due_of
-      due-out e = rw (one, e)
-
-      module _ (due : is_due s raw ≡ true) where
-        pub lacks-out : lacks_ceiling s.season.ceiling (ozone_of raw.ozone) ≡ true → refused (18, 0) ≡ due_of s (Raw.Hour raw)
-        unfolding due_of
-        lacks-out e = rw (one, due, e)
-
-        pub due_in :
-            lacks_ceiling s.season.ceiling (ozone_of raw.ozone) ≡ false → record_of s.season.header.tree (Raw.Hour raw) ≡ due_of s (Raw.Hour raw)
-        unfolding due_of
-        due_in e = rw (one, due, e)
+    due_in one due e = rw (one, due, e)
 
     -- what an hour that is accepted has passed
     pub record HourPassed (r : Record) : Type 0 where

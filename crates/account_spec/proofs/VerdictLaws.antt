@@ -42,10 +42,6 @@ module _ (phase : Phase) (season : Season) (sums : Sums) where
   unfolding verdict_word
   below-is e = grind (arith, nat_tests)
 
-  pub is_below_lem : is_fresh phase ≡ false → sums.lower ≤ level → sums.upper ≤ level → verdict_word phase season sums ≡ below_word
-  unfolding verdict_word
-  is_below_lem begun lower upper = grind (arith, nat_tests)
-
 -- ---- the exact POD1
 
 pub above-pod : (n m : ℕ) (pod : ℕ → Frac) → n < m → NotAbove m pod → Above n pod

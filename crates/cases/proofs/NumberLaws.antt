@@ -1,19 +1,14 @@
--- What hexadecimal digits say: 0 past the line's end, and below the power of 16 that their count
--- gives.
-use Prim.Native.Nat.{ℕ, zero, suc, ◌+◌, ◌*◌, ◌^◌, ◌≤◌, ◌<◌}
+-- What hexadecimal digits say: below the power of 16 that their count gives.
+use Prim.Native.Nat.{ℕ, zero, suc, ◌+◌, ◌*◌, ◌^◌, ◌<◌}
 use mathlib.Core.Path.{◌≡◌}
 use mathlib.Core.List.{List}
 use native.Mathlib.Nat.{pow-suc, pow-le-pow_right}
 use native.Mathlib.Numerals.{add-one}
 use native.Mathlib.Omega.{arith}
-use lib.ListN.{length, get_or, get_or-eq_default}
+use lib.ListN.{get_or}
 use Rattle.frames.specs.Digits.{value_of}
 use Rattle.frames.proofs.DigitLaws.{value-lt}
 use Rattle.cases.specs.Digits.{hex_at}
-
-pub value_of-past : (l : List ℕ) (n : ℕ) → length l ≤ n → 0 ≡ value_of (get_or l n 0)
-unfolding value_of
-value_of-past l n h = rw (get_or-eq_default l 0 h)
 
 pub hex_at-step : (n at : ℕ) (l : List ℕ) → hex_at (n + 1) at l ≡ hex_at n at l * 16 + value_of (get_or l (at + n) 0)
 unfolding hex_at

@@ -20,7 +20,7 @@ use Rattle.frames.proofs.CheckLaws.{level_in}
 use Rattle.frames.specs.Kinds.{among}
 use Rattle.frames.proofs.KindLaws.{among-passes}
 use Rattle.exact.specs.Rounding.{round_up, round_down}
-use Rattle.dates.specs.Model.{model_start, model_end, first_day, last_day}
+use Rattle.dates.specs.Model.{model_start, model_end}
 use Rattle.dates.specs.Rules.{with_model, has_model, place_out, made_header, placed_of}
 use Rattle.dates.specs.Promise.{InPlace}
 use Rattle.dates.proofs.ModelLaws.{model-kept, extremes-is}
@@ -61,12 +61,6 @@ period-in tree days level latitude height f known year e =
 -- ---- the rows
 
 module _ (tree days level latitude height : ℕ) where
-  -- the header made, by the model's days
-  made-is : (a b : ℕ) → a ≡ first_day latitude height → b ≡ last_day latitude height
-      → record { tree = tree; days = days; first = a; last = b; level = level } ≡ made_header tree days level latitude height
-  unfolding made_header
-  made-is a b first-is last-is = rw (first-is, last-is)
-
   -- row 14 comes before row 7
   pub place_out_lem : (f : Figures) → figures_in no_parameters tree ≡ Some f → is_outside 365 366 days ≡ false → place_out tree latitude height ≡ true
       → placed_of tree days level latitude height ≡ refused (14, 0)

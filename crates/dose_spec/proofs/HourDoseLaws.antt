@@ -1,5 +1,5 @@
--- What the hour's dose is, by each of the tests before it; and what an hour that none of them
--- refuses has passed.
+-- A tree's figures, by rows 24 and 5; what an hour that no row refuses has passed, and what it is
+-- dosed by.
 use Rattle.std.proofs.lemmas.Bool.Decides.{nat_tests}
 use Rattle.std.specs.Prelude.{Some, None}
 use Prim.Native.Nat.{ℕ, ◌+◌, ◌≤◌}
@@ -7,7 +7,6 @@ use mathlib.Core.Path.{◌≡◌, refl, sym}
 use mathlib.Core.Bool.{true, false, ◌&&◌}
 use native.Mathlib.Omega.{arith}
 use lib.Dec.{eqb}
-use Rattle.exact.specs.declared.Bounds.{Bounds}
 use Rattle.trees.specs.declared.Measure.{Measure}
 use Rattle.trees.specs.declared.Figures.{Figures}
 use Rattle.trees.specs.declared.measured.Parameters.{Parameters}
@@ -17,25 +16,21 @@ use Rattle.frames.specs.declared.records.Header.{Header}
 use Rattle.frames.specs.declared.records.Hour.{Hour}
 use Rattle.frames.specs.declared.records.RawHour.{RawHour}
 use Rattle.frames.specs.declared.records.Record.{Record}
-use Rattle.frames.specs.Answers.{Outcome, accepted, refused, onward}
+use Rattle.frames.specs.Answers.{accepted, refused}
 use Rattle.frames.specs.Ranges.{period_out, hour_checked, checked, ceiling_out, warmth_broken, lacks_ceiling}
 use Rattle.frames.proofs.AnswerLaws.{accepted-same, row-passed, onward-passed, on_tree-passed}
 use Rattle.frames.proofs.OzoneLaws.{ceiling-le}
 use Rattle.frames.specs.Layout.{ozone_of, soil_of, hour_of}
 use Rattle.dose_spec.specs.declared.Age.{Age}
 use Rattle.dose_spec.specs.declared.Stand.{Stand}
-use Rattle.dose_spec.specs.Dose.{is_counted}
 use Rattle.dose_spec.specs.HourDose.{
   tree_of,
-  age_by,
   stand_of,
   days_out,
   other_measure,
   soil_unfit,
   stand_by,
   stand_for,
-  hour_dose_of,
-  added_pair,
 }
 
 -- ---- the tree's figures
@@ -69,75 +64,15 @@ figures-named ps tree f e =
     let found = on_tree-passed (figures_in ps tree) _ f within.1 in
     record { passed = within.0; chosen = rw (accepted-same found.2) at found.1 }
 
--- ---- refused, by each row before the tree's figures
+-- ---- what an hour is dosed by, where rows 7, 18 and 10 let it pass
 
-module _ (ps : Parameters) (tree : ℕ) (age : Age) (first last ceiling : ℕ) (h : Hour) where
-  abbrev whole : Outcome Bounds
-  whole = hour_dose_of ps tree age first last ceiling h
-
-  pub ceiling-out-is : ceiling_out ceiling ≡ true → refused (17, 0) ≡ whole
-  unfolding hour_dose_of stand_for
-  ceiling-out-is out = rw out
-
-  module _ (within : ceiling_out ceiling ≡ false) where
-    pub parameter-out-is : eqb tree 7 && parameter_out ps ≡ true → refused (24, 0) ≡ whole
-    unfolding hour_dose_of stand_for
-    parameter-out-is out = rw (within, out)
-
-    module _ (passed : eqb tree 7 && parameter_out ps ≡ false) where
-      pub warmth-out-is : warmth_broken (age_by tree age).warmth ≡ true → refused (25, 0) ≡ whole
-      unfolding hour_dose_of stand_for
-      warmth-out-is out = rw (within, passed, out)
-
-      module _ (warm : warmth_broken (age_by tree age).warmth ≡ false) where
-        pub no-tree-is : figures_in ps tree ≡ None → refused (5, 0) ≡ whole
-        unfolding hour_dose_of stand_for
-        no-tree-is e = rw (within, passed, warm, e)
-
-        pub named-is :
-            (f : Figures) → figures_in ps tree ≡ Some f → (o : Outcome Bounds) →
-            o ≡ onward (stand_by f (age_by tree age) first last ceiling h) (λ s. accepted (added_pair s h)) →
-            o ≡ whole
-        unfolding hour_dose_of stand_for
-        named-is f e o is = rw (within, passed, warm, e) is
-
--- ---- by the figures
-
-module _ (f : Figures) (age : Age) (first last ceiling : ℕ) (h : Hour) where
-  abbrev pub dose : Outcome Bounds
-  dose = onward (stand_by f age first last ceiling h) (λ stand. accepted (added_pair stand h))
-
-  pub days-out-is : days_out f first last ≡ true → refused (7, 0) ≡ dose
-  unfolding stand_by
-  days-out-is out = rw out
-
-  module _ (days : days_out f first last ≡ false) where
-    pub lacks-ceiling-is : lacks_ceiling ceiling h.ozone ≡ true → refused (18, 0) ≡ dose
-    unfolding stand_by
-    lacks-ceiling-is lacks = rw (days, lacks)
-
-    module _ (has : lacks_ceiling ceiling h.ozone ≡ false) where
-      pub reading-out-is :
-          (row : ℕ × ℕ) → hour_checked (soil_unfit f.measure h.soil) h ≡ refused row →
-          refused row ≡ dose
-      unfolding stand_by
-      reading-out-is row out = rw (days, has, out)
-
-      module _ (passed : hour_checked (soil_unfit f.measure h.soil) h ≡ accepted tt) where
-        pub stand-is :
-            stand_by f age first last ceiling h ≡ accepted (stand_of f age first last ceiling)
-        unfolding stand_by
-        stand-is = rw (days, has, passed)
-
-        pub dosed-is :
-            (pair : Bounds) → pair ≡ added_pair (stand_of f age first last ceiling) h →
-            accepted pair ≡ dose
-        dosed-is pair p = rw (stand-is, p)
-
--- ---- an hour that is not counted
-
-pub dark-adds : (stand : Stand) → (h : Hour) → is_counted h ≡ false → added_pair stand h ≡ record { lower = 0; upper = 0 }
-dark-adds stand h dark = rw dark
+stand-is :
+    (f : Figures) (age : Age) (first last ceiling : ℕ) (h : Hour) → days_out f first last ≡ false →
+    lacks_ceiling ceiling h.ozone ≡ false →
+    hour_checked (soil_unfit f.measure h.soil) h ≡ accepted tt →
+    stand_by f age first last ceiling h ≡ accepted (stand_of f age first last ceiling)
+unfolding stand_by
+stand-is f age first last ceiling h days has passed = rw (days, has, passed)
 
 -- ---- row 10 with the measure, and without it
 

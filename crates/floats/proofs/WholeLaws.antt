@@ -72,9 +72,6 @@ minus-zero = (0, refl, refl)
 
 -- ---- the value of a pattern
 
-not-ones : (e : ℕ) → suc e < 255 → suc e ≡ 255 → ⊥
-not-ones e h k = omega arith
-
 pub normal-value : (s : Bool) (e t : ℕ) → suc e < 255 → HasValue (of_fields binary32 s (suc e) t) s ((8388608 + t) * 2 ^ e) (2 ^ 149)
 unfolding of_fields
 normal-value s e t h = grind (arith, nat_tests, cond_no, not_T, eqb→eq, odd_sign)

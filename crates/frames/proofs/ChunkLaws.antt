@@ -10,7 +10,7 @@ use lib.ListN.{length, get_or, set, length-set}
 use lib.Seq.{get_or-set_same, get_or-set_other}
 use Rattle.exact.proofs.OrderLaws.{le-or-lt}
 use Rattle.frames.proofs.AnswerLaws.{and_both}
-use Rattle.frames.specs.Digits.{is_digit, value_of, bits_of, all_digits, byte_at, number_at}
+use Rattle.frames.specs.Digits.{is_digit, bits_of, all_digits, byte_at, number_at}
 use Rattle.frames.proofs.DigitLaws.{bits-value, digit_at}
 use Rattle.frames.specs.steps.HourLines.{ReadTo, SaysBytes}
 

@@ -2,8 +2,6 @@
 use Prim.Native.Nat.{ℕ}
 use mathlib.Core.Path.{◌≡◌, sym, ap, subst, refl}
 use mathlib.Core.Bool.{Bool, true, false, true≢false, cond}
-use mathlib.Core.List.{List}
-use native.Mathlib.Omega.{arith}
 use lib.Dec.{eqb}
 use lib.IntN.{ℤ}
 use Rattle.frames.specs.declared.records.Raw.{Raw}
@@ -11,7 +9,6 @@ use Rattle.frames.specs.declared.records.RawHour.{RawHour}
 use Rattle.frames.specs.Answers.{Outcome, accepted, refused, onward}
 use Rattle.frames.proofs.AnswerLaws.{refused-not-accepted}
 use Rattle.frames.specs.Kinds.{among}
-use Rattle.frames.specs.Frames.{record_of}
 use Rattle.frames.specs.Rows.{reader_rows}
 use Rattle.frames.proofs.RowLaws.{Only, record-only}
 use Rattle.account_spec.specs.declared.Account.{Account}

@@ -34,7 +34,7 @@ use Rattle.account_spec.specs.Timely.{timely_of}
 use Rattle.account_spec.proofs.PossibleLaws.{PossibleFacts, possible-is}
 use Rattle.floats.specs.declared.FloatReadings.{FloatReadings}
 use Rattle.floats.specs.Whole.{signed, IsWhole, Wholeness, whole, broken, whole_of}
-use Rattle.floats.specs.Numbers.{Wholes, wholes_in, raw_of}
+use Rattle.floats.specs.Numbers.{Wholes, raw_of}
 use Rattle.floats.specs.Feeding.{in_field, wholes_of, hour_at, feed_floats_of}
 use Rattle.floats.specs.Promise.{AreWhole, SaidBy, ranges_of}
 use Rattle.floats.proofs.WholeLaws.{divided-back}

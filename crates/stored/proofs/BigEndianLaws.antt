@@ -17,13 +17,6 @@ use Rattle.stored.specs.Packing.{big_endian, big_endian_at}
 pub grown : (i n b : ℕ) → n < 256 ^ i → b < 256 → n * 256 + b < 256 ^ (i + 1)
 grown i n b h k = rw (add-one, pow-suc) (omega arith)
 
--- ---- one more byte written, before those that are
-
-pub big_endian-step : (i n : ℕ) (rest : List ℕ) → 0 < i → big_endian (i - 1) (n / 256) (n % 256 ∷ rest) ≡ big_endian i n rest
-unfolding big_endian
-big_endian-step zero n rest h = absurd (omega arith)
-big_endian-step (suc i) n rest h = let e : suc i - 1 ≡ i = omega arith in rw e
-
 -- ---- the library's bytes
 
 byte_at-suc : (k n : ℕ) → byte_at (suc k) n ≡ byte_at k (n / 256)

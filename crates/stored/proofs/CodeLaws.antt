@@ -1,5 +1,5 @@
 -- Codes and answers are one to one; a code's answer by its tests.
-use Prim.Native.Nat.{ℕ, ◌+◌, ◌*◌, ◌/◌, ◌%◌, ◌≤◌, ◌<◌}
+use Prim.Native.Nat.{ℕ, ◌+◌, ◌*◌, ◌/◌, ◌%◌, ◌≤◌}
 use mathlib.Core.Path.{◌≡◌, refl, sym, ap, ◌∙◌}
 use mathlib.Core.Bool.{Bool, true, false, cond, ◌&&◌, ◌||◌, or-true}
 use Rattle.std.specs.Prelude.{Option, Some, None}
@@ -24,10 +24,6 @@ module _ (row field : ℕ) (e : is_row row field ≡ true) where
 
   row-le : row ≤ 26
   row-le = leb-true row 26 (and_both (leb 1 row) (leb row 26) bounds.0).1
-
--- the row after all others
-pub row_last : (row field : ℕ) → is_row row field ≡ true → (0 < row → 25 < row) → ◌≡◌ {A = ℕ × ℕ} (26, field) (row, field)
-row_last row field e h = grind (arith, row-pos row field e, row-le row field e)
 
 refusal-row : (r : Refusal) → is_row (row_of r).0 (row_of r).1 ≡ true
 refusal-row Length = refl

@@ -4,30 +4,15 @@ use mathlib.Core.Path.{◌≡◌}
 use native.Mathlib.Omega.{arith}
 use mathlib.Core.Bool.{true, false}
 use Rattle.frames.specs.declared.records.Refusal.{Refusal}
-use Rattle.frames.specs.Answers.{Outcome, refused, row_of}
 use Rattle.account_spec.specs.declared.Account.{Account}
 use Rattle.account_spec.specs.Account.{impossible}
 use Rattle.trial.specs.declared.Trial.{Trial}
 use Rattle.trial.specs.Same.{is_same}
 use Rattle.trial.specs.Taking.{take_with, take_of, TakesTrial}
 
--- ---- the rows, in their order
-
-module _ (a tried : Account) (answer : Outcome Account) where
-  pub take-impossible : impossible a ≡ true → take_with a tried answer ≡ refused (13, 0)
-  unfolding take_with
-  take-impossible e = rw e
-
-  pub take-other : impossible a ≡ false → is_same a tried ≡ false → take_with a tried answer ≡ refused (16, 0)
-  unfolding take_with
-  take-other possible e = rw (possible, e)
-
 -- ---- the replies
 
 module _ (a : Account) (t : Trial) where
-  replies-refused : (r : Refusal) → take_of a t ≡ refused (row_of r) → TakesTrial a t (Err (r, a))
-  replies-refused r e = grind arith
-
   pub takes-impossible : impossible a ≡ true → TakesTrial a t (Err (Refusal.Account, a))
   unfolding take_of take_with
   takes-impossible e = grind arith

@@ -7,7 +7,7 @@ use Rattle.trees.specs.declared.Measure.{Measure}
 use Rattle.frames.specs.declared.records.Raw.{Raw}
 use Rattle.frames.specs.declared.records.Record.{Record}
 use Rattle.frames.specs.Answers.{Outcome, accepted, refused, row, onward, reply}
-use Rattle.frames.specs.Answers.{outcome_of, row_of}
+use Rattle.frames.specs.Answers.{row_of}
 use Rattle.frames.specs.Checked.{checked_as}
 use Rattle.frames.specs.Numbers.{same_numbers}
 use Rattle.account_spec.specs.declared.Account.{Account}

@@ -1,6 +1,6 @@
 -- `trial::try_possible` meets its contract.
 use Rattle.std.specs.Prelude.{Ok}
-use mathlib.Core.Path.{refl, sym, subst}
+use mathlib.Core.Path.{refl, subst}
 use Rattle.frames.specs.Answers.{Outcome}
 use Rattle.account_spec.specs.declared.Account.{Account}
 use Rattle.account_spec.specs.Rules.{Answers}
