@@ -41,8 +41,8 @@ lent-mut l = record { ref_ptr = (0, 0); ghost_name = 0; now = l }
 abbrev Begun : (room begun : List ℕ) → Type 0
 Begun room begun = fresh-reads.Post ([], tt) (lent-mut room, tt) 0 (lent-mut begun, tt)
 
-abbrev Fed : (b line : List ℕ) → ℕ → List ℕ → Type 0
-Fed b line code after =
+abbrev CallFeeds : (b line : List ℕ) → ℕ → List ℕ → Type 0
+CallFeeds b line code after =
     feed-reads.Post ([], ([], tt)) (lent-mut b, (lent line, tt)) code
     (lent-mut after, (lent line, tt))
 
@@ -79,7 +79,7 @@ LineTold b buffer answer text =
 
 call-tied : {b after : List ℕ} {t : Told} → CallTold b t after → CallTold b t after
 call-tied (CallTold.feeds b after {line} {code} k) =
-    let call : Fed b line code after = k in CallTold.feeds b after call
+    let call : CallFeeds b line code after = k in CallTold.feeds b after call
 call-tied (CallTold.feeds_floats b after {day} {hour} {readings} {code} k) =
     let call : FloatsFed b day hour readings code after =
     (k, (float-promise, float-bytes-promise)) in

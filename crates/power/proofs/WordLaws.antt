@@ -70,20 +70,22 @@ times-holds c a₀ a i k e l h m n f is =
 -- ---- powers
 
 -- a number times c^j: j words more at most
-pub record Grown (a₀ a : List ℕ) (c j k : ℕ) : Type 0 where
+pub record IsPowerProduct (a₀ a : List ℕ) (c j k : ℕ) : Type 0 where
   pub holds : (m n : ℕ) → n + k ≤ 67 → Holds a₀ m n → Holds a (m * c ^ j) (n + j)
 
-pub grown-none : (a : List ℕ) (c k : ℕ) → Grown a a c 0 k
-grown-none a c k = record {
+pub power_product-none : (a : List ℕ) (c k : ℕ) → IsPowerProduct a a c 0 k
+power_product-none a c k = record {
   holds = λ m n f is.
       let power : m ≡ m * c ^ 0 = simp unary_clauses (sym (mul-one m)) in
       let words : n ≡ n + 0 = omega arith in
       record { value = is.value ∙ power; small = rw (← power, ← words) is.small };
 }
 
-pub grown-next :
-    (a₀ a b : List ℕ) (c j k : ℕ) → j < k → Grown a₀ a c j k → ((m n : ℕ) → n < 67 → Holds a m n → Holds b (m * c) (n + 1)) → Grown a₀ b c (j + 1) k
-grown-next a₀ a b c j k h g next = record {
+pub power_product-next :
+    (a₀ a b : List ℕ) (c j k : ℕ) → j < k → IsPowerProduct a₀ a c j k →
+    ((m n : ℕ) → n < 67 → Holds a m n → Holds b (m * c) (n + 1)) →
+    IsPowerProduct a₀ b c (j + 1) k
+power_product-next a₀ a b c j k h g next = record {
   holds = λ m n f is.
       let more = next (m * c ^ j) (n + j) (omega (arith, f, h)) (g.holds m n f is) in
       let power : m * c ^ j * c ≡ m * c ^ (j + 1) = mul_assoc m (c ^ j) c ∙ ap (λ (t : ℕ). m * t) (sym (pow-suc c j) ∙ ap (λ (t : ℕ). c ^ t) (sym (add-one j))) in

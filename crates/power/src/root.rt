@@ -1,6 +1,6 @@
 //! The root: the greatest t with t^q·rise^q·fall^p at most 10^(9q)·above^q·below^p.
 ghost use Rattle.std.specs.Prelude.{◌≡◌, ◌<◌, ◌≤◌, nat_le};
-ghost use Rattle.power.specs.steps.Power.{left, right, IsRoot, Between};
+ghost use Rattle.power.specs.steps.Power.{left, right, IsRoot, IsInterior};
 
 use crate::guess::guess;
 use crate::rounded::is_certain;
@@ -26,7 +26,7 @@ fn passes(s: Terms, t: u32) -> bool
 // the middle.
 fn next(low: u32, high: u32, step: u32) -> u32
     requires { (low < high) × (high ≤ 1000000001) × (0 < step) }
-    ensures { Between low high result }
+    ensures { IsInterior low high result }
 {
     let half = (high - low) / 2;
     if step < half {

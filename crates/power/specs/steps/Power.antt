@@ -39,7 +39,7 @@ pub record AreTerms (f : Figures) (x : ℕ) (s : Terms) : Type 0 where
   pub q : s.q ≡ f.q
 
 -- a number strictly between two, if there is one
-pub record Between (low high r : ℕ) : Type 0 where
+pub record IsInterior (low high r : ℕ) : Type 0 where
   pub above : low + 1 < high → low < r
   pub below : low + 1 < high → r < high
 

@@ -1,13 +1,13 @@
 -- `power::words::times_power` meets its contract.
 use Rattle.std.proofs.Common.{◌≡◌, arith}
-use Rattle.power.proofs.WordLaws.{grown-none, grown-next}
+use Rattle.power.proofs.WordLaws.{power_product-none, power_product-next}
 use Rattle.power.proofs.words.times_power.Goals as goal
 
 pub loop-j-init : goal.loop-j-init
-loop-j-init c = grown-none _ _ _
+loop-j-init c = power_product-none _ _ _
 
 pub loop-j-preserved : goal.loop-j-preserved
-loop-j-preserved c = grown-next _ _ _ _ _ _ (omega arith) c.loop-j.invariant c.times.ensures
+loop-j-preserved c = power_product-next _ _ _ _ _ _ (omega arith) c.loop-j.invariant c.times.ensures
 
 pub returns : goal.returns
 returns c = let e : c.loop-j.j ≡ c.args.k = omega arith in

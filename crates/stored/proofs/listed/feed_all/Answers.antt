@@ -8,7 +8,7 @@ use Rattle.std.specs.Prelude.{Err}
 use Rattle.stored.proofs.listed.feed_all.Goals as goal
 
 -- beside what a call answers, what holds of every list of calls
-promised : {Fed : Type 0} → Fed → record { feeds_listed : Fed; promise : ListedPromise }
+promised : {F : Type 0} → F → record { feeds_listed : F; promise : ListedPromise }
 promised fed = record { feeds_listed = fed; promise = listed-promise }
 
 pub returns-then-count : goal.returns-then-count
