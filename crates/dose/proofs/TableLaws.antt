@@ -8,6 +8,7 @@ use native.Mathlib.Omega.{arith}
 use Rattle.std.proofs.lemmas.Bool.Decides.{nat_tests}
 use lib.Dec.{T, eqb}
 use lib.ListN.{length, get_or}
+use Rattle.trees.specs.Temperature.{highest_reading}
 use Rattle.dose_spec.specs.Vapour.{celsius, exponent}
 use Rattle.dose_spec.specs.HumidityPair.{entry_of}
 use Rattle.dose_spec.proofs.EntryLaws.{signed_entry}
@@ -27,5 +28,7 @@ tested x [] h i l = absurd (not-suc-le-zero l)
 tested x (t ∷ ts) h zero l = grind (arith, nat_tests)
 tested x (t ∷ ts) h (suc i) l = grind (arith, nat_tests, suc-add, add-suc, (tested (suc x) ts))
 
-pub entry_read : {x r : ℕ} {ts : List ℕ} → EntryRead ts x r → x ≤ 1100 → T (table_test 0 ts) → r ≡ entry_of x
+pub entry_read :
+    {x r : ℕ} {ts : List ℕ} → EntryRead ts x r → x ≤ highest_reading → T (table_test 0 ts) →
+    r ≡ entry_of x
 entry_read {x} {r} {ts} h highest test = grind (arith, h.entry, tested 0 ts test x h.within, entry_of-is x highest)

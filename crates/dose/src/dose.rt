@@ -2,7 +2,7 @@
 //! conductance is g/(41000·10⁷) m/s and the resistance 195·s/10⁷ s/m; both terms of F are taken
 //! 5·41000·10⁷ times.
 ghost use Rattle.std.specs.Prelude.{◌≡◌, ◌/◌, ◌^◌, ◌<◌, ◌≤◌};
-ghost use Rattle.dose_spec.specs.Pair.{divisor, quotient};
+ghost use Rattle.dose_spec.specs.Pair.{divisor, quotient, most_concentration};
 
 // 1: 5·41000·10⁷.
 const ONE: u64 = 2050000000000;
@@ -43,10 +43,9 @@ fn divided(n: u64, d: u64, near: u64) -> u64
 }
 
 // 3600·F, rounded down, at a concentration c/18000, a share p/10⁷ and a root s/10⁷, with the
-// divisor rounded up. No hour in range has a concentration above 29644 nmol m⁻³, which is
-// 533592000/18000.
+// divisor rounded up.
 pub(crate) fn quotient_low(g_max: u64, c: u64, p: u64, s: u64) -> u64
-    requires { (g_max ≤ 500) × (c ≤ 533592000) × (p ≤ 10000003) × (s ≤ 14142136) }
+    requires { (g_max ≤ 500) × (c ≤ most_concentration) × (p ≤ 10000003) × (s ≤ 14142136) }
     ensures { result ≡ quotient g_max c p s 1 }
 {
     c * (g_max * p) / divisor(g_max, p, s, 1)
@@ -54,7 +53,7 @@ pub(crate) fn quotient_low(g_max: u64, c: u64, p: u64, s: u64) -> u64
 
 // The same with the divisor rounded down; quicker where `near` is next to it.
 pub(crate) fn quotient_up(g_max: u64, c: u64, p: u64, s: u64, near: u64) -> u64
-    requires { (g_max ≤ 500) × (c ≤ 533592000) × (p ≤ 10000003) × (s ≤ 14142136) }
+    requires { (g_max ≤ 500) × (c ≤ most_concentration) × (p ≤ 10000003) × (s ≤ 14142136) }
     ensures { result ≡ quotient g_max c p s 0 }
 {
     divided(c * (g_max * p), divisor(g_max, p, s, 0), near)

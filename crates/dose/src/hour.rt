@@ -7,7 +7,7 @@ ghost use Rattle.dose_spec.specs.Conductance.{above_of, phenology_in};
 ghost use Rattle.dose_spec.specs.Deficit.{air_deficits};
 ghost use Rattle.dose_spec.specs.Light.{light_low, light_up};
 ghost use Rattle.dose_spec.specs.Pair.{opening_low, opening_up, share_low, share_up, root_low};
-ghost use Rattle.dose_spec.specs.Pair.{quotient, hour_pair};
+ghost use Rattle.dose_spec.specs.Pair.{quotient, hour_pair, most_concentration};
 
 use crate::given::Dosing;
 use crate::share::{Long, Part, Short};
@@ -72,7 +72,7 @@ fn shares(dosing: Dosing, o: Bounds, l: Bounds, passed: Passed) -> Bounds
 // The pair from the concentration's and the share's, in nmol m⁻².
 #[inline(always)]
 fn pair(dosing: Dosing, wind: u16, c: Bounds, s: Bounds) -> Bounds
-    requires concentration { (c.lower ≤ 533592000) × (c.upper ≤ 533592000) }
+    requires concentration { (c.lower ≤ most_concentration) × (c.upper ≤ most_concentration) }
     requires share { (s.lower ≤ 10000003) × (s.upper ≤ 10000003) }
     ensures lower { let f = dosing.stand.figures in
         result.lower ≡

@@ -9,6 +9,7 @@ use lib.Dec.{ltb}
 use Rattle.trees.specs.declared.Figures.{Figures}
 use Rattle.frames.specs.declared.records.Air.{Air}
 use Rattle.frames.specs.declared.records.Air.TheVariants.{Deficit, Pressure, Humidity}
+use Rattle.dose_spec.specs.Pair.{most_concentration}
 use Rattle.dose_spec.specs.Enclosure.{most_dose, gap_most, gap_dose}
 
 -- f_VPD falls from 1 to f_min within less than 13 Pa, and the deficit is not exact
@@ -31,7 +32,7 @@ near_in false = 5
 -- ppb
 abbrev pub top_in : Bool → ℕ
 top_in true = 374040000
-top_in false = 533592000
+top_in false = most_concentration
 
 -- 3600·F
 abbrev pub step_in : Bool → ℕ

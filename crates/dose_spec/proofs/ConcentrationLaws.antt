@@ -18,7 +18,7 @@ use Rattle.frames.specs.Ozone.{tenths_or, with_ozone}
 use Rattle.frames.proofs.RangeLaws.{PressureIn, HourIn}
 use Rattle.dose_spec.specs.Conductance.{above_of}
 use Rattle.dose_spec.specs.Dose.{kelvin, per_ppb, concentration}
-use Rattle.dose_spec.specs.Pair.{concentration_low, concentration_up}
+use Rattle.dose_spec.specs.Pair.{concentration_low, concentration_up, most_concentration}
 use Rattle.dose_spec.specs.Facts.{OzoneFacts}
 use Rattle.dose_spec.proofs.BudgetLaws.{is_steep, top_in}
 
@@ -92,14 +92,14 @@ concentration-le : (h : Hour) → HourIn h → concentration h ≼ natural 29644
 unfolding concentration
 concentration-le h range = grind (arith, nat_tests, ≼_trans, ⊗-mono, over-mono, per_ppb-le)
 
-pub concentration_up-le : (h : Hour) → HourIn h → concentration_up h ≤ 533592000
+pub concentration_up-le : (h : Hour) → HourIn h → concentration_up h ≤ most_concentration
 unfolding concentration_up
 concentration_up-le h range = times_up-most 18000 (concentration h) 29644 (concentration-le h range)
 
 -- 20780 nmol m⁻³ where no pressure is read
 abbrev pub top_of : Air → ℕ
 top_of (Deficit vpd) = 374040000
-top_of (Pressure vpd p) = 533592000
+top_of (Pressure vpd p) = most_concentration
 top_of (Humidity rh) = 374040000
 
 pub concentration_up-most : (h : Hour) → HourIn h → (a : Air) → h.air ≡ a → concentration_up h ≤ top_of a

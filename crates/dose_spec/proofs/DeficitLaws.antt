@@ -14,6 +14,7 @@ use Rattle.exact.proofs.FracLaws.{≼_refl, ≼_trans}
 use Rattle.exact.proofs.RoundingLaws.{times-order, times-gap, times_up-mono}
 use Rattle.trees.specs.declared.Figures.{Figures}
 use Rattle.trees.specs.Sound.{Sound}
+use Rattle.trees.specs.Temperature.{highest_reading}
 use Rattle.trees.specs.Deficit.{deficit_of, lower_deficit, upper_deficit, lower_factor}
 use Rattle.trees.proofs.DeficitLaws.{deficit-limits, deficit-anti}
 use Rattle.frames.specs.Temperature.{temperature_out}
@@ -26,11 +27,11 @@ use Rattle.dose_spec.specs.Conductance.{above_of}
 use Rattle.dose_spec.proofs.BudgetLaws.{is_steep, width_in}
 
 -- up to 60.0 °C, in range
-pub above-highest : (t : ℤ) → temperature_out t ≡ false → above_of t ≤ 1100
+pub above-highest : (t : ℤ) → temperature_out t ≡ false → above_of t ≤ highest_reading
 unfolding temperature_out
 above-highest t e = grind (arith, nat_tests)
 
-pub has-vpd : (a : Air) {x : ℕ} → x ≤ 1100 → HasVpd a x
+pub has-vpd : (a : Air) {x : ℕ} → x ≤ highest_reading → HasVpd a x
 has-vpd a h = grind arith
 
 module _ (f : Figures) (s : Sound f) where

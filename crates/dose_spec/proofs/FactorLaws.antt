@@ -6,10 +6,10 @@ use native.Mathlib.Nat.{mul-le-mul_right}
 use native.Mathlib.Omega.{arith}
 use Rattle.exact.specs.Frac.{◌over◌, ◌⊕◌, ◌⊗◌, ◌≼◌}
 use Rattle.exact.specs.Rounding.{times_up, times_down}
-use Rattle.exact.proofs.FracLaws.{}
 use Rattle.exact.proofs.TimesLaws.{times-near}
 use Rattle.trees.specs.declared.Figures.{Figures}
 use Rattle.trees.specs.Sound.{Sound}
+use Rattle.trees.specs.Temperature.{highest_reading}
 use Rattle.trees.specs.Deficit.{deficit_of, lower_deficit, upper_deficit, lower_factor, upper_factor}
 use Rattle.trees.proofs.DeficitLaws.{deficit-limits, deficit-anti, deficit-near}
 use Rattle.dose_spec.specs.Vapour.{vpd_at}
@@ -17,7 +17,7 @@ use Rattle.dose_spec.specs.HumidityPair.{entry_k, deficit_pair}
 use Rattle.dose_spec.proofs.FactsLaws.{humidity-facts}
 
 module _ (f : Figures) (sound : Sound f) (h x : ℕ) where
-  module _ (highest : x ≤ 1100) where
+  module _ (highest : x ≤ highest_reading) where
     pub factor-mono : {k l : ℕ} → k ≤ l → deficit_of f (vpd_at k h x) ≼ deficit_of f (vpd_at l h x)
     factor-mono {k} {l} j = deficit-anti f sound (vpd_at l h x) (vpd_at k h x) ((humidity-facts.deficit h x highest).falls k l j)
 

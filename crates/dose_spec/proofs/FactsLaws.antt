@@ -5,6 +5,7 @@ use mathlib.Core.Path.{◌≡◌}
 use native.Mathlib.Omega.{arith}
 use Rattle.exact.specs.Frac.{Frac, natural, ◌over◌, ◌⊗◌, ◌≼◌, ◌≈◌}
 use Rattle.exact.proofs.FracLaws.{≼_refl, ≼_trans, ≈-le, ≈-ge, ⊗-mono}
+use Rattle.trees.specs.Temperature.{highest_reading}
 use Rattle.dose_spec.specs.Vapour.{celsius, exponent, saturation_at, dryness, vpd_at}
 use Rattle.dose_spec.specs.HumidityPair.{units_per_kpa, entry_of, deficit_pair}
 use Rattle.dose_spec.specs.HumidityFacts.{SaturationFacts, VpdFacts, HumidityFacts}
@@ -13,7 +14,7 @@ use Rattle.dose_spec.proofs.EntryLaws.{Rounded, signed_entry, entry-is}
 use Rattle.dose_spec.proofs.CaseLaws.{saturation-cases}
 use Rattle.dose_spec.proofs.EntryTests.{entry-rounded}
 
-module _ (x : ℕ) (highest : x ≤ 1100) where
+module _ (x : ℕ) (highest : x ≤ highest_reading) where
   rounded : Rounded (exponent (celsius x)) (signed_entry (exponent (celsius x)))
   rounded = entry-rounded x highest
 
@@ -40,7 +41,7 @@ module _ (h : ℕ) where
   unfolding dryness
   dryness-is = record { cross = omega arith }
 
-  module _ (x : ℕ) (highest : x ≤ 1100) where
+  module _ (x : ℕ) (highest : x ≤ highest_reading) where
     vpd-mono : {y z : Frac} → y ≼ z → natural 1000 ⊗ (dryness h ⊗ y) ≼ natural 1000 ⊗ (dryness h ⊗ z)
     vpd-mono p = ⊗-mono (≼_refl (natural 1000)) (⊗-mono (≼_refl (dryness h)) p)
 

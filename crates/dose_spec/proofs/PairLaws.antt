@@ -19,6 +19,7 @@ use Rattle.dose_spec.specs.BoundaryLayer.{wind_read, root_up_at}
 use Rattle.dose_spec.specs.Conductance.{phenology_in, opening_at, share_at}
 use Rattle.dose_spec.specs.Dose.{flux_at, dose_at}
 use Rattle.dose_spec.specs.Pair.{concentration_low, concentration_up, opening_low, opening_up, share_low, share_up, root_low, quotient, lower_of, upper_of}
+use Rattle.dose_spec.specs.Pair.{most_concentration}
 use Rattle.dose_spec.specs.Enclosure.{most_dose, gap_dose, OzoneGrows}
 use Rattle.dose_spec.proofs.ShareLaws.{share_at-is}
 use Rattle.dose_spec.proofs.BudgetLaws.{is_steep, near_in, step_in, gap_dose-is}
@@ -69,7 +70,8 @@ module _ (stand : Stand) (h : Hour) where
     quotient-in top each room few = grind (arith, nat_tests, quotient-most)
 
     upper_of-by : (a : Air) → concentration_up h ≤ top_of a → upper_of stand h ≤ most_dose f.g_max a
-    upper_of-by a few = grind (arith, quotient-in 374040000 1825, quotient-in 533592000 2603, g_max)
+    upper_of-by a few =
+        grind (arith, quotient-in 374040000 1825, quotient-in most_concentration 2603, g_max)
 
     pub upper_of-le : upper_of stand h ≤ most_dose f.g_max h.air
     upper_of-le = upper_of-by h.air (concentration_up-most h range h.air refl)

@@ -4,7 +4,7 @@ use Prim.Native.Nat.{ℕ, ◌+◌, ◌*◌, ◌≤◌, ◌<◌}
 use mathlib.Core.Bool.{Bool, true, false}
 use native.Mathlib.Nat.{mul-le-mul, mul-le-mul_left, mul-le-mul_right, lt_of_mul-lt-mul_right, le_of_mul-le-mul_right, div-mul-le_self, lt-div-mul-add}
 use native.Mathlib.Omega.{arith}
-use Rattle.dose_spec.specs.Pair.{dividend, resisted, divisor, quotient}
+use Rattle.dose_spec.specs.Pair.{dividend, resisted, divisor, quotient, most_concentration}
 use Rattle.dose_spec.proofs.BudgetLaws.{near_in, top_in, step_in}
 
 divisor-ge : (g p s m : ℕ) → 2050000000000 ≤ divisor g p s m
@@ -43,17 +43,19 @@ quotient-most top each g c p s m room k l =
     le_of_mul-le-mul_right {k = 2050000000000}
     (omega (arith, quotient_le g c p s m, mul-le-mul_left (quotient g c p s m) (divisor-ge g p s m), dividend-le top g c p k l, mul-le-mul_right g room)) (omega arith)
 
--- 29644 nmol m⁻³ and a g_max of 500: 533592000 is 18000·29644
-quotient-small : (g c p s m : ℕ) → c ≤ 533592000 → p ≤ 10000003 → quotient g c p s m ≤ 2603 * g
-quotient-small g c p s m k l = quotient-most 533592000 2603 g c p s m (omega arith) k l
+-- for any concentration in range
+quotient-small :
+    (g c p s m : ℕ) → c ≤ most_concentration → p ≤ 10000003 → quotient g c p s m ≤ 2603 * g
+quotient-small g c p s m k l =
+    quotient-most most_concentration 2603 g c p s m (omega arith) k l
 
 product_le : (g p : ℕ) → g ≤ 500 → p ≤ 10000003 → g * p ≤ 5000001500
 product_le g p h k = omega (arith, mul-le-mul h k)
 
-top_in-le : (steep : Bool) → top_in steep ≤ 533592000
+top_in-le : (steep : Bool) → top_in steep ≤ most_concentration
 top_in-le steep = grind arith
 
--- 533592000·500·5, or 374040000·500·51, for the share and 5000001500 for the concentration
+-- most_concentration·500·5, or 374040000·500·51, for the share and 5000001500 for the concentration
 abbrev room_in : Bool → ℕ
 room_in true = 9543020001500
 room_in false = 1338980001500

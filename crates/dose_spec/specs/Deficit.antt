@@ -4,6 +4,7 @@ use Rattle.std.specs.Prelude.{ℕ, ◌≤◌}
 use Rattle.exact.specs.Frac.{Frac, natural}
 use Rattle.trees.specs.declared.Figures.{Figures}
 use Rattle.trees.specs.declared.Deficits.{Deficits}
+use Rattle.trees.specs.Temperature.{highest_reading}
 use Rattle.trees.specs.Deficit.{deficit_of, lower_factor, upper_factor}
 use Rattle.frames.specs.declared.records.Air.{Air}
 use Rattle.frames.specs.declared.records.Air.TheVariants.{Deficit, Pressure, Humidity}
@@ -20,7 +21,7 @@ air_vpd_at k (Humidity rh) x = vpd_at k rh x
 abbrev pub HasVpd : Air → ℕ → Type 0
 HasVpd (Deficit vpd) x = Unit
 HasVpd (Pressure vpd p) x = Unit
-HasVpd (Humidity rh) x = x ≤ 1100
+HasVpd (Humidity rh) x = x ≤ highest_reading
 
 -- f_VPD
 unfoldable pub deficit_at : ℕ → Figures → Air → ℕ → Frac

@@ -3,6 +3,7 @@
 -- enclose VPD.
 use Rattle.std.specs.Prelude.{ℕ, ◌+◌, ◌≤◌, ◌≡◌}
 use Rattle.exact.specs.Frac.{natural, ◌over◌, ◌≼◌, ◌≺◌}
+use Rattle.trees.specs.Temperature.{highest_reading}
 use Rattle.dose_spec.specs.Vapour.{Signed, plus, minus, celsius, exponent, exp_at, saturation_at}
 use Rattle.dose_spec.specs.Vapour.{vpd_at}
 use Rattle.dose_spec.specs.HumidityPair.{entry_k, entry_of, units_per_kpa, deficit_pair}
@@ -37,6 +38,6 @@ pub record SaturationCases : Type 0 where
   pub warm : entry_of 700 ≡ 467295885
 
 pub record HumidityFacts : Type 0 where
-  pub saturation : (x : ℕ) → x ≤ 1100 → SaturationFacts x
-  pub deficit : (h x : ℕ) → x ≤ 1100 → VpdFacts h x
+  pub saturation : (x : ℕ) → x ≤ highest_reading → SaturationFacts x
+  pub deficit : (h x : ℕ) → x ≤ highest_reading → VpdFacts h x
   pub cases : SaturationCases

@@ -27,6 +27,11 @@ concentration_low h = times_down 18000 (concentration h)
 unfoldable pub concentration_up : Hour → ℕ
 concentration_up h = times_up 18000 (concentration h)
 
+-- the most that they are in range: 500 ppb at 1100.0 hPa and -50.0 °C are less than 29644 nmol m⁻³,
+-- and 533592000 = 18000·29644
+abbrev pub most_concentration : ℕ
+most_concentration = 533592000
+
 -- max(f_min, f_temp·f_VPD·f_SW), in units of 10⁻⁹
 unfoldable pub opening_low : Figures → Hour → ℕ
 opening_low f h =

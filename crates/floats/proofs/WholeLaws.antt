@@ -13,7 +13,7 @@ use lib.Ieee.Bits.{cond_no}
 use lib.Ieee.Exact.{HasValue, odd_sign}
 use lib.Ieee.Fits.{down_pos}
 use lib.Ieee.Back.{round_whole}
-use Rattle.floats.specs.Whole.{signed, IsWhole, whole, broken, whole_of}
+use Rattle.floats.specs.Whole.{units_in_one, signed, IsWhole, whole, broken, whole_of}
 
 -- ---- a test of the remainder
 
@@ -72,13 +72,17 @@ minus-zero = (0, refl, refl)
 
 -- ---- the value of a pattern
 
-pub normal-value : (s : Bool) (e t : ℕ) → suc e < 255 → HasValue (of_fields binary32 s (suc e) t) s ((8388608 + t) * 2 ^ e) (2 ^ 149)
+pub normal-value :
+    (s : Bool) (e t : ℕ) → suc e < 255 →
+    HasValue (of_fields binary32 s (suc e) t) s ((8388608 + t) * 2 ^ e) units_in_one
 unfolding of_fields
 normal-value s e t h = grind (arith, nat_tests, cond_no, not_T, eqb→eq, odd_sign)
 
-pub subnormal-value : (s : Bool) (t : ℕ) → HasValue (of_fields binary32 s 0 t) s t (2 ^ 149)
+pub subnormal-value : (s : Bool) (t : ℕ) → HasValue (of_fields binary32 s 0 t) s t units_in_one
 unfolding of_fields
-subnormal-value s t = subst (λ (n : ℕ). HasValue (odd 24 s t 0 149) s n (2 ^ 149)) (mul-one t) (odd_sign 24 s t 0 149)
+subnormal-value s t =
+    subst (λ (n : ℕ). HasValue (odd 24 s t 0 149) s n units_in_one) (mul-one t)
+    (odd_sign 24 s t 0 149)
 
 pub no_value : (s : Bool) (t : ℕ) (z : ℤ) → IsWhole (of_fields binary32 s 255 t) z → ⊥
 unfolding of_fields

@@ -18,7 +18,7 @@ use Rattle.account_spec.specs.declared.Account.{Account}
 use Rattle.account_spec.specs.Rules.{feed_of, feed_frame_of}
 use Rattle.account_spec.specs.Timely.{timely_of}
 use Rattle.floats.specs.declared.FloatReadings.{FloatReadings}
-use Rattle.floats.specs.Whole.{IsWhole, whole, broken, whole_of}
+use Rattle.floats.specs.Whole.{IsWhole, whole, broken, whole_of, units_in_one}
 use Rattle.floats.specs.Numbers.{Wholes, wholes_in, raw_of}
 use Rattle.floats.specs.Feeding.{hour_at, feed_floats_of}
 
@@ -90,12 +90,12 @@ pub record FloatPromise : Type 0 where
   pub negative : (n : ℕ) → suc n ≤ 65535 → IsWhole (of_int binary32 (negsuc n)) (negsuc n)
   -- minus zero, the pattern 80000000, is 0
   pub minus_zero : IsWhole (of_bits binary32 0x80000000) (pos 0)
-  -- the value by the pattern: with the exponent's field e + 1 up to 254 and the 23 digits t it is
-  -- (2 ^ 23 + t) * 2 ^ e / 2 ^ 149, with the field 0 it is t / 2 ^ 149, with 255 it is none
+  -- the value by the pattern, in subnormal units: with the exponent's field e + 1 up to 254 and the
+  -- 23 digits t it is (2 ^ 23 + t) * 2 ^ e of them, with the field 0 it is t, with 255 it is none
   pub normal :
       (s : Bool) (e t : ℕ) → suc e < 255 →
-      HasValue (of_fields binary32 s (suc e) t) s ((8388608 + t) * 2 ^ e) (2 ^ 149)
-  pub subnormal : (s : Bool) (t : ℕ) → HasValue (of_fields binary32 s 0 t) s t (2 ^ 149)
+      HasValue (of_fields binary32 s (suc e) t) s ((8388608 + t) * 2 ^ e) units_in_one
+  pub subnormal : (s : Bool) (t : ℕ) → HasValue (of_fields binary32 s 0 t) s t units_in_one
   pub unbounded : (s : Bool) (t : ℕ) (z : ℤ) → IsWhole (of_fields binary32 s 255 t) z → ⊥
   -- the hour, all of its numbers in range or ozone missing, is as the kind 02 line of these
   -- numbers, for every account

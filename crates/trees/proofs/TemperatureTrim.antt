@@ -9,7 +9,7 @@ use lib.Dec.{T, leb, ltb, leb→le, ltb→lt}
 use store.Enc.{and_l, and_r}
 use Rattle.trees.specs.declared.Figures.{Figures}
 use Rattle.trees.specs.Sound.{Sound}
-use Rattle.trees.specs.Temperature.{tried, allowed, root_at, temperature_pair}
+use Rattle.trees.specs.Temperature.{tried, allowed, root_at, temperature_pair, highest_reading}
 use Rattle.trees.specs.TemperatureTable.{IsTrimmed}
 use Rattle.trees.proofs.TemperatureRoot.{root_at-above, root_at-below}
 use Rattle.trees.proofs.TemperatureLookup.{pair-floor}
@@ -46,10 +46,18 @@ module _ (f : Figures) (first last : ℕ) where
   unfolding tried allowed
   ends_test = reaches_test f first && reaches_test f last
 
+  abbrev cold_test : Bool
+  unfolding tried allowed
+  cold_test = all_from (under_test f) cold (first - cold)
+
   -- past Tmax, too: there w is 0 on whole numbers
+  abbrev warm_test : Bool
+  unfolding tried allowed
+  warm_test = all_from (under_test f) (suc last) (highest_reading - last)
+
   abbrev cut_test : Bool
   unfolding tried allowed
-  cut_test = all_from (under_test f) cold (first - cold) && all_from (under_test f) (suc last) (1100 - last)
+  cut_test = cold_test && warm_test
 
   abbrev pub trimmed_test : Bool
   unfolding tried allowed
@@ -63,17 +71,23 @@ module _ (f : Figures) (first last : ℕ) where
       record {
         begins = reaches-tested f s.q.0 first (and_l (reaches_test f first) (reaches_test f last) ends);
         ends = reaches-tested f s.q.0 last (and_r (reaches_test f first) (reaches_test f last) ends);
-        colder = λ x low high. under-tested f s.q.0 cold (first - cold) (and_l _ (all_from (under_test f) (suc last) (1100 - last)) cut) x low (omega arith);
-        warmer = λ x low high highest. under-tested f s.q.0 (suc last) (1100 - last) (and_r (all_from (under_test f) cold (first - cold)) _ cut) x low (omega arith);
+        colder = λ x low high.
+            under-tested f s.q.0 cold (first - cold) (and_l cold_test warm_test cut) x low
+            (omega arith);
+        warmer = λ x low high highest.
+            under-tested f s.q.0 (suc last) (highest_reading - last)
+            (and_r cold_test warm_test cut) x low (omega arith);
       }
 
   -- what the table does not hold is under f_min
   trimmed-under :
-      IsTrimmed f first last → (x : ℕ) → x ≤ 1100 → (first ≤ x → last < x) → 10 * f.t_min < x → x < 10 * f.t_max → root_at 9 f x < floor f
+      IsTrimmed f first last → (x : ℕ) → x ≤ highest_reading → (first ≤ x → last < x) →
+      10 * f.t_min < x → x < 10 * f.t_max → root_at 9 f x < floor f
   trimmed-under h x highest outside low high = grind (arith, nat_tests)
 
 -- f_min at each reading that the table does not hold
 pub floor-pair :
-    {f : Figures} {first last x : ℕ} {r : Bounds} → IsTrimmed f first last → x ≤ 1100 → (first ≤ x → last < x) →
+    {f : Figures} {first last x : ℕ} {r : Bounds} → IsTrimmed f first last →
+    x ≤ highest_reading → (first ≤ x → last < x) →
     (r.lower ≡ f.f_min * 10000000) × (r.upper ≡ f.f_min * 10000000) → r ≡ temperature_pair f x
 floor-pair {f} {first} {last} {x} trimmed highest outside h = pair-floor f x (trimmed-under f first last trimmed x highest outside) h

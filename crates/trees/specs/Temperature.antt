@@ -8,6 +8,10 @@ use Rattle.exact.specs.declared.Bounds.{Bounds}
 use Rattle.exact.specs.Frac.{Frac, ◌over◌, greater}
 use Rattle.exact.specs.Root.{greatest}
 
+-- the highest reading that row 10 lets pass: 60.0 °C, 1100 tenths of a degree above -50.0 °C
+abbrev pub highest_reading : ℕ
+highest_reading = 1100
+
 abbrev pub a : Figures → ℕ → Frac
 a f x = (x - 10 * f.t_min) over (10 * (f.t_opt - f.t_min))
 

@@ -1,6 +1,7 @@
 -- `dose::hour::dosed` meets its contract.
 use Rattle.std.proofs.Common.{◌≡◌, ℕ, ◌+◌, ◌-◌, ◌*◌, ◌≤◌, sym, ◌∙◌, ap₂, arith}
 use Rattle.dose_spec.specs.Pair.{concentration_up, lower_of, upper_of, quotient, root_low}
+use Rattle.dose_spec.specs.Pair.{most_concentration}
 use Rattle.frames.specs.declared.records.Hour.{Hour}
 use Rattle.frames.specs.declared.records.Record.{Record}
 use Rattle.frames.specs.Answers.{accepted}
@@ -14,7 +15,9 @@ use Rattle.dose_spec.proofs.PairLaws.{share_low-same, share_up-same}
 use Rattle.dose.proofs.hour.dosed.Goals as goal
 
 -- ozone read as a number
-thick : (m : ℕ) (h : Hour) → m ≤ 5000 → checked (Record.Hour h) ≡ accepted tt → concentration_up (read_as m h) ≤ 533592000
+thick :
+    (m : ℕ) (h : Hour) → m ≤ 5000 → checked (Record.Hour h) ≡ accepted tt →
+    concentration_up (read_as m h) ≤ most_concentration
 thick m h small passed = concentration_up-le (read_as m h) (checked-passed (Record.Hour (read_as m h)) (read-passed m h small passed))
 
 pub pair-requires : goal.pair-requires

@@ -1,6 +1,6 @@
 -- `dose::hour::pair` meets its contract.
 use Rattle.std.proofs.Common.{◌≡◌, ℕ, ◌+◌, ◌≤◌, arith}
-use Rattle.dose_spec.specs.Pair.{root_low}
+use Rattle.dose_spec.specs.Pair.{root_low, most_concentration}
 use Rattle.dose_spec.proofs.BoundaryLaws.{root_low-200}
 use Rattle.dose_spec.proofs.QuotientSizes.{quotient-most}
 use Rattle.dose.specs.declared.given.Dosing.{Dosing}
@@ -27,6 +27,7 @@ quotient_up-upper-requires c =
 pub overflow_add-upper : goal.overflow_add-upper
 overflow_add-upper c = let a = c.args in
     let g_max = a.dosing.stand.figures.g_max in
-    let most = quotient-most 533592000 2603 g_max a.c.upper a.s.upper c.root_low-r.result 0 in
+    let root = c.root_low-r.result in
+    let most = quotient-most most_concentration 2603 g_max a.c.upper a.s.upper root 0 in
     let within = most (omega arith) c.requires.concentration.1 c.requires.share.1 in
     omega (arith, c.quotient_up-upper.ensures, within, a.dosing.sound.g_max.1)
