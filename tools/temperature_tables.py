@@ -89,6 +89,7 @@ def values() -> list[str]:
 
 # ---- specs and proofs
 
+SOUND = [f"{snake(tree)}-sound" for tree in TREES]
 FIGURES = f"use Rattle.trees.specs.Figures.{{{', '.join(map(snake, TREES))}}}"
 
 TRIMMED = f"""\
@@ -105,15 +106,12 @@ TRIMMED_LAWS = f"""\
 -- computed test a tree. Made by tools/temperature_tables.py.
 {FIGURES}
 use Rattle.trees.specs.Temperature.{{tried, allowed}}
-use Rattle.trees.specs.TemperatureTable.{{IsTrimmed}}
-use Rattle.trees.proofs.SoundLaws.{{{', '.join(f'{snake(tree)}-sound' for tree in TREES)}}}
+use Rattle.trees.proofs.SoundLaws.{{{', '.join(SOUND[:3])}}}
+use Rattle.trees.proofs.SoundLaws.{{{', '.join(SOUND[3:])}}}
 use Rattle.trees.proofs.TemperatureTrim.{{trimmed-tested}}
 use Rattle.power.specs.Trimmed.{{Trimmed}}"""
 
-LAW = """
-{name}-trimmed : IsTrimmed {name} {ends}
-unfolding tried allowed
-{name}-trimmed = trimmed-tested {name} {ends} {name}-sound tt"""
+LAW = "  {name}_table = trimmed-tested {name} {ends} {name}-sound tt;"
 
 
 def trimmed() -> list[str]:
@@ -122,9 +120,9 @@ def trimmed() -> list[str]:
 
 
 def trimmed_laws() -> list[str]:
+    head = ["", "pub trimmed : Trimmed", "unfolding tried allowed", "trimmed = record {"]
     laws = [LAW.format(name=snake(tree), ends=ends(tree)) for tree in TREES]
-    fields = [f"  {snake(tree)}_table = {snake(tree)}-trimmed;" for tree in TREES]
-    return [TRIMMED_LAWS, *laws, "", "pub trimmed : Trimmed", "trimmed = record {", *fields, "}"]
+    return [TRIMMED_LAWS, *head, *laws, "}"]
 
 
 def main() -> None:

@@ -10,17 +10,28 @@ fn field_of(refusal: Refusal) -> Option<u8> {
     }
 }
 
+// A word and the row, then, where the refusal names a field, a second word and the field.
+fn put<W: fmt::Write>(
+    f: &mut fmt::Formatter<W>,
+    refusal: Refusal,
+    word: &str,
+    second: &str,
+) -> fmt::Result {
+    let row = frames::row_of(refusal);
+    write!(f, "{word} {row}")?;
+    if let Some(field) = field_of(refusal) {
+        write!(f, "{second} {field}")?;
+    }
+    Ok(())
+}
+
 /// As `row 10 field 3`, the field where the refusal names one.
 #[derive(Clone, Copy)]
 pub(crate) struct Row(pub(crate) Refusal);
 
 impl fmt::Display for Row {
     fn fmt<W: fmt::Write>(&self, f: &mut fmt::Formatter<W>) -> fmt::Result {
-        write!(f, "row {}", frames::row_of(self.0))?;
-        if let Some(field) = field_of(self.0) {
-            write!(f, " field {field}")?;
-        }
-        Ok(())
+        put(f, self.0, "row", " field")
     }
 }
 
@@ -30,10 +41,6 @@ pub(crate) struct Refused(pub(crate) Refusal);
 
 impl fmt::Display for Refused {
     fn fmt<W: fmt::Write>(&self, f: &mut fmt::Formatter<W>) -> fmt::Result {
-        write!(f, "refused {}", frames::row_of(self.0))?;
-        if let Some(field) = field_of(self.0) {
-            write!(f, " {field}")?;
-        }
-        Ok(())
+        put(f, self.0, "refused", "")
     }
 }

@@ -47,17 +47,17 @@ module _ (f : Figures) (s : Sound f) (h : Hour) where
   abbrev low₀ : ℕ
   low₀ = (temperature_pair f x).lower
 
-  abbrev low₁ : ℕ
-  low₁ = times_down low₀ (deficit_low f h.air x)
-
-  abbrev low₂ : ℕ
-  low₂ = times_down low₁ sw
-
   abbrev up₀ : ℕ
   up₀ = (temperature_pair f x).upper
 
+  abbrev low₁ : ℕ
+  low₁ = times_down low₀ (deficit_low f h.air x)
+
   abbrev up₁ : ℕ
   up₁ = times_up up₀ (deficit_up f h.air x)
+
+  abbrev low₂ : ℕ
+  low₂ = times_down low₁ sw
 
   abbrev up₂ : ℕ
   up₂ = times_up up₁ sw

@@ -27,21 +27,39 @@ cut-held {A} limit most n h f other = go (ltb n limit) refl
     go false e = rw (e, le-ltb (min n most) limit (omega (arith, ltb-false n limit e))) refl
 
 -- the bytes of a float's number, or row 26
-abbrev pub natural_at : ℕ → Wholeness → Outcome ℕ
+abbrev natural_at : ℕ → Wholeness → Outcome ℕ
 natural_at f w = in_field f w (λ z. accepted (natural_bytes z))
 
-abbrev natural_in : ℕ → Option ℤ → Outcome ℕ
-natural_in f (Some z) = accepted (natural_bytes z)
-natural_in f None = refused (26, f)
+abbrev complement_at : ℕ → Wholeness → Outcome ℕ
+complement_at f w = in_field f w (λ z. accepted (complement_bytes z))
 
-natural-cut : (f : ℕ) (w : Wholeness) → natural_in f (cut w) ≡ natural_at f w
+-- the same of a cut number
+abbrev field_in : (ℤ → ℕ) → ℕ → Option ℤ → Outcome ℕ
+field_in bytes f (Some z) = accepted (bytes z)
+field_in bytes f None = refused (26, f)
+
+natural-cut : (f : ℕ) (w : Wholeness) → field_in natural_bytes f (cut w) ≡ natural_at f w
 unfolding natural_bytes
-natural-cut f (whole (pos n)) = ap (λ (b : ℕ). accepted b) (cut-held 65536 16777216 n (omega arith) (λ k. k) 65534)
+natural-cut f (whole (pos n)) =
+    ap (λ (b : ℕ). accepted b) (cut-held 65536 16777216 n (omega arith) (λ k. k) 65534)
 natural-cut f (whole (negsuc n)) = refl
 natural-cut f broken = refl
 
-pub natural-says : (f : ℕ) (x : Float) (n : Option ℤ) → n ≡ cut (whole_of x) → natural_in f n ≡ natural_at f (whole_of x)
-natural-says f x n e = ap (natural_in f) e ∙ natural-cut f (whole_of x)
+complement-cut : (f : ℕ) (w : Wholeness) → field_in complement_bytes f (cut w) ≡ complement_at f w
+unfolding complement_bytes
+complement-cut f (whole (pos n)) =
+    ap (λ (b : ℕ). accepted b) (cut-held 32768 16777216 n (omega arith) (λ k. k) 32767)
+complement-cut f (whole (negsuc n)) =
+    ap (λ (b : ℕ). accepted b)
+    (cut-held 32768 16777215 n (omega arith) (λ k. 65535 - k) 32767)
+complement-cut f broken = refl
+
+module _ (f : ℕ) (x : Float) (n : Option ℤ) (is : n ≡ cut (whole_of x)) where
+  pub natural-says : field_in natural_bytes f n ≡ natural_at f (whole_of x)
+  natural-says = ap (field_in natural_bytes f) is ∙ natural-cut f (whole_of x)
+
+  pub complement-says : field_in complement_bytes f n ≡ complement_at f (whole_of x)
+  complement-says = ap (field_in complement_bytes f) is ∙ complement-cut f (whole_of x)
 
 test-false : (n limit : ℕ) → (n < limit → ⊥) → ltb n limit ≡ false
 test-false n limit h = go (ltb n limit) refl
@@ -57,22 +75,6 @@ natural-held (pos n) (Ok x) h = rw (h.1, lt-ltb n 65536 (omega (arith, h.0))) re
 natural-held (pos n) (Err e) h = rw (test-false n 65536 h) refl
 natural-held (negsuc n) (Ok x) h = absurd h.0
 natural-held (negsuc n) (Err e) h = refl
-
-abbrev pub complement_at : ℕ → Wholeness → Outcome ℕ
-complement_at f w = in_field f w (λ z. accepted (complement_bytes z))
-
-abbrev complement_in : ℕ → Option ℤ → Outcome ℕ
-complement_in f (Some z) = accepted (complement_bytes z)
-complement_in f None = refused (26, f)
-
-complement-cut : (f : ℕ) (w : Wholeness) → complement_in f (cut w) ≡ complement_at f w
-unfolding complement_bytes
-complement-cut f (whole (pos n)) = ap (λ (b : ℕ). accepted b) (cut-held 32768 16777216 n (omega arith) (λ k. k) 32767)
-complement-cut f (whole (negsuc n)) = ap (λ (b : ℕ). accepted b) (cut-held 32768 16777215 n (omega arith) (λ k. 65535 - k) 32767)
-complement-cut f broken = refl
-
-pub complement-says : (f : ℕ) (x : Float) (n : Option ℤ) → n ≡ cut (whole_of x) → complement_in f n ≡ complement_at f (whole_of x)
-complement-says f x n e = ap (complement_in f) e ∙ complement-cut f (whole_of x)
 
 -- the library's conversion into a temperature, then its two bytes, 32767 where they do not hold z
 pub complement-held : {E : Type 0} (z : ℤ) (r : Result ℤ E) (m : ℕ) (Gives : ℤ → Type 0) → ((t : ℤ) → Gives t → m ≡ complement_of t) → OkIff r (FitsSigned w16 z) z

@@ -1,4 +1,5 @@
 -- A digit says a number below 16, and each place of a line of digits is one.
+use Rattle.std.proofs.lemmas.Bool.Decides.{nat_tests}
 use Prim.Native.Nat.{ℕ, zero, suc, ◌+◌, ◌-◌, ◌*◌, ◌/◌, ◌%◌, ◌≤◌, ◌<◌}
 use mathlib.Core.Path.{◌≡◌, refl, sym, ◌∙◌}
 use mathlib.Core.Bool.{Bool, true, false, true≢false, ◌&&◌}
@@ -6,7 +7,6 @@ use mathlib.Core.Logic.{⊎_elim}
 use mathlib.Core.List.{List, [], ◌∷◌}
 use native.Mathlib.Numerals.{add-one}
 use native.Mathlib.Omega.{arith}
-use borrow.Author.Tests.{le-leb, lt-leb}
 use lib.ListN.{length, get_or, drop}
 use lib.Seq.{drop-cons}
 use Rattle.exact.proofs.OrderLaws.{le-or-lt}
@@ -45,19 +45,11 @@ is_digit_in c (over p) = false
 
 pub value-is : (c : ℕ) (at : DigitCase c) → value_in c at ≡ value_of c
 unfolding value_of
-value-is c (decimal p q) = simp (le-leb 48 c p, le-leb c 57 q)
-value-is c (letter p q) = simp (le-leb 48 c (omega arith), lt-leb c 57 (omega arith), le-leb 65 c p, le-leb c 70 q)
-value-is c (under p) = simp (lt-leb 48 c p, lt-leb 65 c (omega arith))
-value-is c (between p q) = simp (le-leb 48 c (omega arith), lt-leb c 57 p, lt-leb 65 c q)
-value-is c (over p) = simp (le-leb 48 c (omega arith), lt-leb c 57 (omega arith), le-leb 65 c (omega arith), lt-leb c 70 p)
+value-is c at = grind (arith, nat_tests)
 
 pub digit-is : (c : ℕ) (at : DigitCase c) → is_digit_in c at ≡ is_digit c
 unfolding is_digit
-digit-is c (decimal p q) = simp (le-leb 48 c p, le-leb c 57 q)
-digit-is c (letter p q) = simp (le-leb 48 c (omega arith), lt-leb c 57 (omega arith), le-leb 65 c p, le-leb c 70 q)
-digit-is c (under p) = simp (lt-leb 48 c p, lt-leb 65 c (omega arith))
-digit-is c (between p q) = simp (le-leb 48 c (omega arith), lt-leb c 57 p, lt-leb 65 c q)
-digit-is c (over p) = simp (le-leb 48 c (omega arith), lt-leb c 57 (omega arith), le-leb 65 c (omega arith), lt-leb c 70 p)
+digit-is c at = grind (arith, nat_tests)
 
 case-lt : (c : ℕ) (at : DigitCase c) → value_in c at < 16
 case-lt c (decimal p q) = omega arith

@@ -7,7 +7,7 @@ use native.Mathlib.Omega.{arith}
 use borrow.Author.Tests.{eqb-true, leb-true, ne_eqb}
 use lib.Dec.{eqb, leb}
 use Rattle.frames.specs.declared.records.Refusal.{Refusal}
-use Rattle.frames.specs.declared.records.Refusal.TheVariants.{Length, Digit, Kind, Turn, Tree, Year, Period, Level, Due, Range, Count, Buffer, Account, Place, Mixed, Tried, Ceiling, NoCeiling, Unlike, Days, Scratch, ListSize, UnlikeAccounts, Parameter, Warmth, Float}
+use Rattle.frames.specs.declared.records.Refusal.TheVariants.{Range, Float}
 use Rattle.frames.specs.Answers.{Outcome, accepted, refused, row_of}
 use Rattle.frames.proofs.AnswerLaws.{and_both}
 use Rattle.stored.specs.Code.{code_of_row, code_of, is_row, is_code, named_answer, coded_of}
@@ -26,32 +26,9 @@ module _ (row field : ℕ) (e : is_row row field ≡ true) where
   row-le = leb-true row 26 (and_both (leb 1 row) (leb row 26) bounds.0).1
 
 refusal-row : (r : Refusal) → is_row (row_of r).0 (row_of r).1 ≡ true
-refusal-row Length = refl
-refusal-row Digit = refl
-refusal-row Kind = refl
-refusal-row Turn = refl
-refusal-row Tree = refl
-refusal-row Year = refl
-refusal-row Period = refl
-refusal-row Level = refl
-refusal-row Due = refl
 refusal-row (Range f) = simp or-true
-refusal-row Count = refl
-refusal-row Buffer = refl
-refusal-row Account = refl
-refusal-row Place = refl
-refusal-row Mixed = refl
-refusal-row Tried = refl
-refusal-row Ceiling = refl
-refusal-row NoCeiling = refl
-refusal-row Unlike = refl
-refusal-row Days = refl
-refusal-row Scratch = refl
-refusal-row ListSize = refl
-refusal-row UnlikeAccounts = refl
-refusal-row Parameter = refl
-refusal-row Warmth = refl
 refusal-row (Float f) = simp or-true
+refusal-row r = refl
 
 -- ---- a code's answer
 
