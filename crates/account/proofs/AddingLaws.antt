@@ -63,7 +63,7 @@ module _ (season : Season) (h : Hour) (d : Dosable season h) where
       let p = stand-passed _ _ _ _ _ h d.0 d.1 in
       record { figures = d.0.figures; named = p.named; few = p.within }
 
-  pub hour-passes : checked (Record.Hour h) ≡ accepted tt
+  hour-passes : checked (Record.Hour h) ≡ accepted tt
   hour-passes = (stand-passed _ _ _ _ _ h d.0 d.1).checks
 
   pub hour-temperate : temperature_out h.temperature ≡ false
@@ -92,7 +92,7 @@ module _ (season : Season) (h : Hour) (d : Dosable season h) where
         (ap₂ (λ (s : Stand) (n : ℕ). counted_sums (hour_pair s h) n h) (sym day-stand) (sym ceiling))
     sums-by false e = rw e refl
 
-    pub sums_is :
+    sums_is :
         (pair : Option Bounds) → pair ≡ counted_pair stand h →
         added pair season.ceiling h ≡ hour_sums (stand_in season) c h
     sums_is pair e = rw e (sums-by (is_counted h) refl)

@@ -66,18 +66,18 @@ module _ (season : Season) (hours : ℕ) (c : Carried) where
 -- ---- the book's days, with one hour more at the end of its list
 
 module _ (h : Hour) where
-  pub total-on : (day : ℕ) (hs : List Hour) → h.day ≡ day → day_total day (hs ++ h ∷ []) ≡ day_total day hs +ℤ h.temperature
+  total-on : (day : ℕ) (hs : List Hour) → h.day ≡ day → day_total day (hs ++ h ∷ []) ≡ day_total day hs +ℤ h.temperature
   unfolding day_total
   total-on day [] e = rw (eq-eqb h.day day e) (+ℤ_idr h.temperature ∙ sym (+ℤ_idl h.temperature))
   total-on day (x ∷ xs) e = grind (arith, total-on day xs e, +ℤ_assoc x.temperature (day_total day xs) h.temperature)
 
-  pub total-off : (day : ℕ) (hs : List Hour) → eqb h.day day ≡ false → day_total day (hs ++ h ∷ []) ≡ day_total day hs
+  total-off : (day : ℕ) (hs : List Hour) → eqb h.day day ≡ false → day_total day (hs ++ h ∷ []) ≡ day_total day hs
   unfolding day_total
   total-off day [] e = rw e
   total-off day (x ∷ xs) e = rw (total-off day xs e) refl
 
   -- the days before its own stay as they are
-  pub days-off : (first n : ℕ) (hs : List Hour) → first + n ≤ h.day → days_sum first n (hs ++ h ∷ []) ≡ days_sum first n hs
+  days-off : (first n : ℕ) (hs : List Hour) → first + n ≤ h.day → days_sum first n (hs ++ h ∷ []) ≡ days_sum first n hs
   unfolding days_sum
   days-off first zero hs p = refl
   days-off first (suc n) hs p = rw (days-off first n hs (omega arith), total-off (first + n) hs (ne_eqb h.day (first + n) (omega arith))) refl

@@ -56,7 +56,7 @@ sized-more : {a b each : ℕ} {s : Sums} → a ≤ b → SumsSized a each s → 
 sized-more {s = s} wide e = grind (arith, mul-le-mul_right (s.counted - s.missing) wide)
 
 -- within row 13's gap
-pub sized-gap :
+sized-gap :
     (season : Season) {s : Sums} → SumsSized (gap_hour season) (most_hour season) s →
     s.upper ≤ s.lower + (gap_each season * (s.counted - s.missing) + most_hour season * s.missing)
 sized-gap season e = (sized-more (grind arith) e).gap

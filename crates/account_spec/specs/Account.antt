@@ -94,7 +94,7 @@ abbrev pub sums_numbers : Sums → List ℕ
 sums_numbers s = s.hours ∷ s.counted ∷ s.missing ∷ s.lower ∷ s.upper ∷ s.least ∷ s.most ∷ []
 
 -- a number below 0 is one with 1 before it: -(n + 1) as 1, n
-abbrev pub signed_numbers : ℤ → List ℕ
+abbrev signed_numbers : ℤ → List ℕ
 signed_numbers (pos n) = 0 ∷ n ∷ []
 signed_numbers (negsuc n) = 1 ∷ n ∷ []
 

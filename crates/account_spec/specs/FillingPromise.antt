@@ -11,7 +11,7 @@ use Rattle.account_spec.specs.Lines.{lines_read_as, FillsLines}
 
 -- ---- the lines that a run accepted
 
-abbrev pub if_accepted : Fed → List ℕ → List (List ℕ) → List (List ℕ)
+abbrev if_accepted : Fed → List ℕ → List (List ℕ) → List (List ℕ)
 if_accepted (Ok a) l ls = l ∷ ls
 if_accepted (Err (r, a)) l ls = ls
 

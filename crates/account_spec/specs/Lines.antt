@@ -11,7 +11,7 @@ use Rattle.frames.specs.Layout.{ozone_of}
 use Rattle.frames.specs.Frames.{parsed_of}
 
 -- ozone stands past kind, day and hour
-abbrev pub ozone_at : ℕ
+abbrev ozone_at : ℕ
 ozone_at = span (one ∷ two ∷ one ∷ [])
 
 -- the line with other digits in ozone's place
@@ -32,7 +32,7 @@ unfoldable pub lacks_ozone : List ℕ → Bool
 lacks_ozone l = lacks_in (parsed_of l)
 
 -- lines with every ozone FFFF read as a number
-abbrev pub line_read_as : ℕ → List ℕ → List ℕ
+abbrev line_read_as : ℕ → List ℕ → List ℕ
 line_read_as n l = if lacks_ozone l then line_with n l else l
 
 abbrev pub lines_read_as : ℕ → List (List ℕ) → List (List ℕ)

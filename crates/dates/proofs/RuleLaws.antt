@@ -33,7 +33,7 @@ pole-is = (refl, refl)
 -- ---- inside row 14's ranges
 
 module _ (tree latitude height : ℕ) (e : place_out tree latitude height ≡ false) where
-  pub place_in : InPlace latitude height
+  place_in : InPlace latitude height
   unfolding place_out
   place_in = record { southmost = grind (arith, nat_tests, e); northmost = grind (arith, nat_tests, e); highest = grind (arith, nat_tests, e) }
 

@@ -55,10 +55,10 @@ module _ (stand : Stand) (s : Sound stand.figures) (h : Hour) where
     share-under : share_low stand h over 10 ^ 7 ≼ share_at hour_terms stand h
     share-under = grind (arith, share-low stand s h has light-mono light_terms, light-low f h.ppfd steep range.ppfd)
 
-    pub lower-under : natural (lower_of stand h) ≼ dose_at hour_terms stand h
+    lower-under : natural (lower_of stand h) ≼ dose_at hour_terms stand h
     lower-under = lower_of-under stand h hour_terms (omega arith) share-under
 
-    pub upper-over : (k : ℕ) → dose_at k stand h ≼ natural (upper_of stand h)
+    upper-over : (k : ℕ) → dose_at k stand h ≼ natural (upper_of stand h)
     upper-over k = upper_of-over stand h k (share-high stand s h has (light-high f h.ppfd steep range.ppfd) k)
 
     pub shares-order : share_low stand h ≤ share_up stand h

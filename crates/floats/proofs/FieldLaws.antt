@@ -126,7 +126,7 @@ module _ (day hour : ℕ) where
   together (whole o) (whole p) (whole g) (whole t) (whole v) (whole w) broken = refl
   together (whole o) (whole p) (whole g) (whole t) (whole v) (whole w) (whole s) = refl
 
-  pub frame-answer : (r : FloatReadings)
+  frame-answer : (r : FloatReadings)
       → framed (natural_at 1 (whole_of r.ozone)) (natural_at 2 (whole_of r.ppfd)) (natural_at 3 (whole_of r.radiation)) (complement_at 4 (whole_of r.temperature)) (natural_at 5 (whole_of r.vpd)) (natural_at 6 (whole_of r.wind)) (natural_at 7 (whole_of r.soil))
       ≡ onward (wholes_of r) (λ w. accepted (raw_of day hour w))
   unfolding wholes_of

@@ -69,7 +69,7 @@ case-bits c (under p) e = absurd (true≢false (sym e))
 case-bits c (between p q) e = absurd (true≢false (sym e))
 case-bits c (over p) e = absurd (true≢false (sym e))
 
-pub value-bits : (c : ℕ) → is_digit c ≡ true → c % 16 + 9 * (c / 64) ≡ value_of c
+value-bits : (c : ℕ) → is_digit c ≡ true → c % 16 + 9 * (c / 64) ≡ value_of c
 value-bits c e = case-bits c (digit-cases c) (digit-is c (digit-cases c) ∙ e) ∙ value-is c (digit-cases c)
 
 pub bits-lt : (c : ℕ) → bits_of c < 16

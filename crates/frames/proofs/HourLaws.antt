@@ -96,14 +96,14 @@ pub hour-is :
     } ≡ hour_in kind l
 hour-is l is e₁ e₂ e₃ e₄ e₅ e₆ e₇ e₈ e₉ = rw (e₁, e₂, e₃, e₄, e₅, e₆, e₇, e₈, e₉) (hour-same l is _)
 
-pub kind-is : (ns : List ℕ) {kind : ℕ} → IsHour kind → air_kind (air_of kind ns) ≡ kind
+kind-is : (ns : List ℕ) {kind : ℕ} → IsHour kind → air_kind (air_of kind ns) ≡ kind
 kind-is ns (with_deficit e) = rw e
 kind-is ns (with_pressure e) = rw e
 kind-is ns (with_humidity e) = rw e
 
 -- ---- the line
 
-pub hour-parsed : (kind : ℕ) (l : List ℕ) → LengthOf kind (length l) → all_digits l ≡ true → byte_at 0 l ≡ kind → parsed_of l ≡ accepted (Raw.Hour (hour_in kind l))
+hour-parsed : (kind : ℕ) (l : List ℕ) → LengthOf kind (length l) → all_digits l ≡ true → byte_at 0 l ≡ kind → parsed_of l ≡ accepted (Raw.Hour (hour_in kind l))
 hour-parsed kind l s all e =
     sym (kind-in l (sized s.hour s.digits) all (eq-eqb (length_of (byte_at 0 l)) (length l) (ap length_of e ∙ sym s.digits)))
     ∙ ap accepted (hour-framed l s.hour e)

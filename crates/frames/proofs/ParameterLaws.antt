@@ -55,24 +55,24 @@ parameters-passed ps e = (row-passed (parameter_out ps) _ _ tt e).0
 
 -- ---- worked out, not tabled
 
-pub measured-worked : (ps : Parameters) → (measured_figures ps).source ≡ Worked
+measured-worked : (ps : Parameters) → (measured_figures ps).source ≡ Worked
 unfolding measured_figures
 measured-worked ps = refl
 
 worked-not-tabled : {A : Type 0} {s : Source} (curve : Curve) → s ≡ Worked → s ≡ Tabled curve → A
 worked-not-tabled curve e f = let z : ◌≡◌ {A = ℕ} 0 1 = cc in absurd (omega arith)
 
-pub measured-tabled : (ps : Parameters) → HasTable (measured_figures ps)
+measured-tabled : (ps : Parameters) → HasTable (measured_figures ps)
 measured-tabled ps = record { pair = λ curve named x. worked-not-tabled curve (measured-worked ps) named }
 
 -- ---- by the tree's number
 
 module _ (ps : Parameters) (t : ℕ) where
-  pub figures-in-measured : eqb t 7 ≡ true → figures_in ps t ≡ Some (measured_figures ps)
+  figures-in-measured : eqb t 7 ≡ true → figures_in ps t ≡ Some (measured_figures ps)
   unfolding figures_in
   figures-in-measured e = rw e
 
-  pub figures-in-other : eqb t 7 ≡ false → figures_in ps t ≡ figures_of t
+  figures-in-other : eqb t 7 ≡ false → figures_in ps t ≡ figures_of t
   unfolding figures_in
   figures-in-other e = rw e
 
@@ -82,7 +82,7 @@ module _ (P : Figures → Type 0) (ps : Parameters) (t : ℕ) (f : Figures) (cho
   by-test false e measured tabled = tabled (sym (figures-in-other ps t e) ∙ chosen)
 
   -- what holds of the measured tree and of the six holds of any tree that is chosen
-  pub figures-in-all : (eqb t 7 ≡ true → P (measured_figures ps)) → (figures_of t ≡ Some f → P f) → P f
+  figures-in-all : (eqb t 7 ≡ true → P (measured_figures ps)) → (figures_of t ≡ Some f → P f) → P f
   figures-in-all = by-test (eqb t 7) refl
 
 module _ (ps : Parameters) (t : ℕ) (f : Figures) (chosen : figures_in ps t ≡ Some f) where

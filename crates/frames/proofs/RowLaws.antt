@@ -33,7 +33,7 @@ module _ {A : Type 0} {rows : List ℕ} where
   pub accepted-only : (a : A) → Only rows (accepted a)
   accepted-only a = record { only = λ n f e. refused-not-accepted (sym e) }
 
-  pub refused-only : (n f : ℕ) → one_of rows n f ≡ true → Only {A = A} rows (refused (n, f))
+  refused-only : (n f : ℕ) → one_of rows n f ≡ true → Only {A = A} rows (refused (n, f))
   refused-only n f h = record { only = λ m g e. let same : ◌≡◌ {A = ℕ × ℕ} (n, f) (m, g) = cc in subst (λ (w : ℕ × ℕ). one_of rows w.0 w.1 ≡ true) same h }
 
   -- `row` and `field`, by their test

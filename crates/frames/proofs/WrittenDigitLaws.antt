@@ -21,11 +21,11 @@ number_lt at l = omega (arith, byte-lt at l, byte-lt (at + 2) l)
 
 -- ---- the digit that says a number
 
-pub digit_low : (d : ℕ) → d < 10 → d + 48 ≡ digit_of d
+digit_low : (d : ℕ) → d < 10 → d + 48 ≡ digit_of d
 unfolding digit_of
 digit_low d h = simp (lt-ltb d 10 h)
 
-pub digit-high : (d : ℕ) → 10 ≤ d → d + 55 ≡ digit_of d
+digit-high : (d : ℕ) → 10 ≤ d → d + 55 ≡ digit_of d
 unfolding digit_of
 digit-high d h = simp (le-ltb d 10 h)
 

@@ -107,7 +107,7 @@ begun-tied p room begun k = let call : Begun room begun = (k, p) in call.0
 takes-tied : (b trial after : List ℕ) → TakesBytes b trial 0 after → TakesBytes b trial 0 after
 takes-tied b trial after k = let call : Takes b trial 0 after = (k, trial-bytes-promise) in call.0
 
-pub calls-cited : PartPromise → PartPromise
+calls-cited : PartPromise → PartPromise
 calls-cited p = record {
   season =
       λ room begun left ts k calls. p.season room begun left ts (begun-tied p room begun k)

@@ -106,7 +106,7 @@ carried-fed a l r k =
     ∙ k.answers
 
 -- a trial that is accepted tried this account
-pub accepts-tried : (a : Account) (trial : List ℕ) (c : Contents) (b : Account)
+accepts-tried : (a : Account) (trial : List ℕ) (c : Contents) (b : Account)
     → contents_in trial ≡ accepted c → taken_from trial a ≡ accepted b → a ≡ c.tried
 unfolding take_with
 accepts-tried a trial c b e f = grind (arith, (same-is a c.tried).0)

@@ -370,7 +370,7 @@ module _ (room : List ℕ) (long : account_width ≤ length room) where
       record
       { answers = rw test refl; leaves = rw (test, size) refl; holds = λ none. fresh-up.back (drop account_width room) }
 
-  pub shown-run : (buffer paper : List ℕ) → trial_width ≤ length buffer → 18 ≤ length paper
+  shown-run : (buffer paper : List ℕ) → trial_width ≤ length buffer → 18 ≤ length paper
       → ShownRun room buffer paper
   shown-run buffer paper h k =
       let header = frame_line (Record.Header dark_header) in

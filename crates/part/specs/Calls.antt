@@ -16,7 +16,7 @@ use Rattle.stored.specs.Writing.{printed_of}
 
 -- ---- storing an account
 
-abbrev pub stored_in : Account → List ℕ → Outcome ℕ
+abbrev stored_in : Account → List ℕ → Outcome ℕ
 stored_in a before = put_of (account_bytes a) (length before)
 
 -- row 12 alone; the bytes left are taken up as the account

@@ -8,7 +8,7 @@ use Rattle.trees.specs.Temperature.{temperature_pair}
 use Rattle.power.specs.Answers.{rising, is_power, in_ratio, fit, factor_of}
 use Rattle.power.specs.steps.Power.{Fits}
 
-pub rising-lt : (t_min t_opt t_max : ℕ) → T (rising t_min t_opt t_max) → (30 ≤ t_min) × (t_min < t_opt) × (t_opt < t_max) × (t_max ≤ 250)
+rising-lt : (t_min t_opt t_max : ℕ) → T (rising t_min t_opt t_max) → (30 ≤ t_min) × (t_min < t_opt) × (t_opt < t_max) × (t_max ≤ 250)
 rising-lt t_min t_opt t_max h =
     let low = and_l (leb 30 t_min && ltb t_min t_opt) (ltb t_opt t_max && leb t_max 250) h in
     let high = and_r (leb 30 t_min && ltb t_min t_opt) (ltb t_opt t_max && leb t_max 250) h in (

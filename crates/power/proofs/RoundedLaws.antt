@@ -7,7 +7,7 @@ use Rattle.power.specs.steps.Power.{full, IsHigh, StandsFor}
 
 -- ---- the product of two rounded numbers
 
-abbrev pub rounded_of : ℕ → ℕ → ℕ → Rounded
+abbrev rounded_of : ℕ → ℕ → ℕ → Rounded
 rounded_of m k e = record { mantissa = m; short = k; exponent = e }
 
 -- P and R are powers of 2, B is 2⁶⁴

@@ -31,7 +31,7 @@ small-tested (t ∷ ts) h (suc i) = grind (arith, nat_tests, (small-tested ts))
 abbrev ends_test : ℕ → List ℕ → Bool
 ends_test f_min ts = leb f_min 100 && (leb (f_min * 10000000) (get_or ts 0 0) && leb (f_min * 10000000) (get_or ts (length ts - 1) 0))
 
-abbrev pub read_test : ℕ → List ℕ → Bool
+abbrev read_test : ℕ → List ℕ → Bool
 read_test f_min ts = ends_test f_min ts && small_test ts
 
 readable : {f_min from x : ℕ} {ts : List ℕ} → T (read_test f_min ts) → from ≤ x → x < from + length ts → Readable f_min ts from x

@@ -41,7 +41,7 @@ pub account-length : (a : Account) → length (account_bytes a) ≡ total_width 
 unfolding account_bytes
 account-length a = packed-length widths (account_numbers a) refl
 
-pub account-back : (a : Account) → Storable a → (rest : List ℕ) → take_up_of (account_bytes a ++ rest) ≡ accepted a
+account-back : (a : Account) → Storable a → (rest : List ℕ) → take_up_of (account_bytes a ++ rest) ≡ accepted a
 unfolding take_up_of holds_none account_in account_bytes big_endian
 account-back a s rest =
     let l = account_bytes a ++ rest in

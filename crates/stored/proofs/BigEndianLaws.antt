@@ -65,11 +65,11 @@ from-end k (suc w) at l b z h =
 
 -- ---- eight bytes, of which the last w are those at a place of b
 
-abbrev pub noughts : ℕ → List ℕ
+abbrev noughts : ℕ → List ℕ
 noughts zero = []
 noughts (suc n) = 0 ∷ noughts n
 
-abbrev pub eight_zeros : List ℕ
+abbrev eight_zeros : List ℕ
 eight_zeros = noughts 8
 
 nought-at : (n i : ℕ) → get_or (noughts n) i 0 ≡ 0

@@ -37,7 +37,7 @@ module _ {A : Type 0} (a : A) where
   code_at code true e = sym (eqb-true code 0 e)
   code_at code false e = omega arith
 
-  pub answer-code : (code : ℕ) → code_of (named_answer code a) ≡ code
+  answer-code : (code : ℕ) → code_of (named_answer code a) ≡ code
   unfolding named_answer
   answer-code code = code_at code (eqb code 0) refl
 

@@ -104,7 +104,7 @@ module _ (l : List ℕ) (room : account_width ≤ length l) (current : get_or l 
 -- ---- the bytes of an account alone
 
 module _ (l : List ℕ) (room : account_width ≤ length l) where
-  pub front-none : holds_none (take account_width l) ≡ holds_none l
+  front-none : holds_none (take account_width l) ≡ holds_none l
   unfolding holds_none
   front-none =
       let size : length (take account_width l) ≡ account_width = length-take-le account_width l room in
@@ -116,7 +116,7 @@ module _ (l : List ℕ) (room : account_width ≤ length l) where
         get_or-take account_width l 2 0 (omega arith),
       )
 
-  pub front-account : account_in (take account_width l) ≡ account_in l
+  front-account : account_in (take account_width l) ≡ account_in l
   unfolding account_in
   front-account =
       ap (λ (ns : List ℕ). account_from (phase_of (get_or ns 1 0)) (hour_kind_of (get_or ns 2 0)) (signed_of (get_or ns 11 0)) ns)

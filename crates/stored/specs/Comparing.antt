@@ -5,7 +5,7 @@ use Rattle.compare.specs.Comparison.{Compared, figures, refused_text, refused_bo
 use Rattle.stored.specs.declared.comparing.ComparisonNumbers.{ComparisonNumbers}
 
 -- where the line starts and ends; 0 and 0 where there is none
-abbrev pub place_numbers : Option (ℕ × ℕ) → ℕ × ℕ
+abbrev place_numbers : Option (ℕ × ℕ) → ℕ × ℕ
 place_numbers None = (0, 0)
 place_numbers (Some place) = place
 

@@ -97,7 +97,7 @@ module _ (f : Figures) (sound : Sound f) where
   -- ---- the two factors
 
   module _ (vpd : Deficits) where
-    pub deficit-encloses : (x : Frac) → Between (lower_deficit vpd) (upper_deficit vpd) x → Between (lower_factor f vpd) (upper_factor f vpd) (deficit_of f x)
+    deficit-encloses : (x : Frac) → Between (lower_deficit vpd) (upper_deficit vpd) x → Between (lower_factor f vpd) (upper_factor f vpd) (deficit_of f x)
     deficit-encloses x b = grind (arith, nat_tests, deficit-anti)
 
     deficit-crossed : upper_deficit vpd ≺ lower_deficit vpd → upper_factor f vpd ≼ lower_factor f vpd

@@ -30,14 +30,14 @@ module _ (rise fall : ℕ) where
     lowest-rest =
         eqb→eq (lowest_q rise fall * fall % rise) 0 (and_r (ltb 0 (lowest_q rise fall)) (eqb (lowest_q rise fall * fall % rise) 0) lowest-whole)
 
-    pub lowest-terms : InLowestTerms rise fall (lowest_p rise fall) (lowest_q rise fall)
+    lowest-terms : InLowestTerms rise fall (lowest_p rise fall) (lowest_q rise fall)
     lowest-terms = record {
       positive = ltb→lt 0 (lowest_q rise fall) (and_l (ltb 0 (lowest_q rise fall)) (eqb (lowest_q rise fall * fall % rise) 0) lowest-whole);
       ratio = omega (arith, div-add-mod' (lowest_q rise fall * fall) rise, lowest-rest);
       least = λ r s h e. least_under whole rise s (whole-true s h (ap (λ (m : ℕ). m % rise) (sym e) ∙ mul-mod_left r rise));
     }
 
-    pub lowest-unique : {p q : ℕ} → InLowestTerms rise fall p q → (lowest_p rise fall ≡ p) × (lowest_q rise fall ≡ q)
+    lowest-unique : {p q : ℕ} → InLowestTerms rise fall p q → (lowest_p rise fall ≡ p) × (lowest_q rise fall ≡ q)
     lowest-unique {p} {q} h =
         let l = lowest-terms in
         let same : lowest_q rise fall ≡ q = le_antisymm (l.least p q h.positive h.ratio) (h.least (lowest_p rise fall) (lowest_q rise fall) l.positive l.ratio) in

@@ -132,7 +132,7 @@ Keeps (accepted u) (accepted r) a b = b ≡ entered a r
 -- ---- a text
 
 -- what is left to feed of a text, past the frames that open its own account
-abbrev pub opened_as : List Account → List ℕ → Result Place Stop → TextFed
+abbrev opened_as : List Account → List ℕ → Result Place Stop → TextFed
 opened_as xs text (Ok p) = lines_fed xs p.line (lines_of (drop p.at text))
 opened_as xs text (Err s) = stopped_at xs (row_of s.refusal) s.line
 
