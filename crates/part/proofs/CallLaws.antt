@@ -42,8 +42,15 @@ module _ (a : Account) (before after : List ℕ) (w : Result ℕ Refusal) (p : P
   short-code : short ≡ true → code_of (outcome_of w) ≡ 12
   short-code e = ap code_of p.answers ∙ rw e
 
-  pub stores : (code : ℕ) → code ≡ code_of (outcome_of w) → Stores a before code after
-  stores code is = record { answers = is ∙ ap code_of p.answers; leaves = p.leaves; holds = λ none. grind (arith, put-held, short-code) }
+  own-stored : (code : ℕ) → code ≡ code_of (outcome_of w) → Stores a before code after
+  own-stored code is = record { answers = is ∙ ap code_of p.answers; leaves = p.leaves; holds = λ none. grind (arith, put-held, short-code) }
+
+-- an account, given as one that it equals
+pub stores : (a given : Account) (before after : List ℕ) (w : Result ℕ Refusal) → given ≡ a
+    → Prints (accepted (account_bytes given)) before w after → TakenUp given
+    → (code : ℕ) → code ≡ code_of (outcome_of w) → Stores a before code after
+stores a given before after w e p back =
+    own-stored a before after w (rw e at p) (rw e at back)
 
 -- ---- the account that an answer gives, over the bytes of the one before
 
@@ -84,3 +91,8 @@ given-room before step given q a e =
 module _ {A : Type 0} (o : Outcome A) (text : A → Outcome (List ℕ)) (before after : List ℕ) (w : Result ℕ Refusal) (answer : Printed) (is : answer ≡ printed_of (outcome_of w)) where
   pub prints-refused : (why : Refusal) → o ≡ refused (row_of why) → w ≡ Err why → after ≡ before → PrintsBytes (onward o text) before answer after
   prints-refused why q v left = record { written = w; prints = record { answers = ap outcome_of v ∙ rw q; leaves = left ∙ rw q }; answers = is }
+
+pub prints-accepted : {A : Type 0} (o : Outcome A) (text : A → Outcome (List ℕ))
+    (before after : List ℕ) (answer : Printed) (a : A) → o ≡ accepted a
+    → PrintsBytes (text a) before answer after → PrintsBytes (onward o text) before answer after
+prints-accepted o text before after answer a q p = rw q p

@@ -7,4 +7,5 @@ pub returns-clause-season : goal.returns-clause-season
 returns-clause-season c = part-cited c.fresh.ensures.season c.fresh.ensures.filling
 
 pub returns-clause-stores : goal.returns-clause-stores
-returns-clause-stores c = stores _ _ _ _ (rw c.fresh.ensures.value at c.store.ensures.prints) (rw c.fresh.ensures.value at c.store.ensures.back) _ c.of_answer.ensures
+returns-clause-stores c = let put = c.store.ensures in
+    stores _ _ _ _ _ c.fresh.ensures.value put.prints put.back _ c.of_answer.ensures

@@ -2,12 +2,17 @@
 use Rattle.frames.specs.Answers.{outcome_of}
 use mathlib.Core.Path.{refl, sym, ap, ◌∙◌}
 use Rattle.part.specs.Frames.{placed_text}
-use Rattle.part.proofs.CallLaws.{prints-refused}
+use Rattle.part.proofs.CallLaws.{prints-accepted, prints-refused}
 use Rattle.part.proofs.writing.pod1_write_place.Goals as goal
 
 pub returns-in-Ok : goal.returns-in-Ok
 unfolding placed_text
-returns-in-Ok c = record { prints_bytes = rw (sym c.header_at.ensures.result_value ∙ ap outcome_of c.in-Ok.is) c.write.ensures.prints_bytes; promise = c.header_at.ensures.promise }
+returns-in-Ok c = let q = sym c.header_at.ensures.result_value ∙ ap outcome_of c.in-Ok.is in
+    let line = c.write.ensures.prints_bytes in
+    record {
+      prints_bytes = prints-accepted _ _ _ _ _ c.in-Ok.header q line;
+      promise = c.header_at.ensures.promise;
+    }
 
 pub returns-in-Err : goal.returns-in-Err
 unfolding placed_text
