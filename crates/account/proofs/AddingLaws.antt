@@ -89,7 +89,8 @@ module _ (season : Season) (h : Hour) (d : Dosable season h) where
         let p = stand-passed _ _ _ _ _ h d.0 d.1 in
         let ceiling = ap (λ (s : Stand). s.ceiling) p.is in
         rw (dosable-stand season h d, e)
-        (ap₂ (λ (s : Stand) (n : ℕ). counted_sums (hour_pair s h) n h) (sym day-stand) (sym ceiling))
+        (ap₂ (λ (s : Stand) (n : ℕ). counted_sums (hour_pair s h) n h)
+        (sym day-stand) (sym ceiling))
     sums-by false e = rw e refl
 
     sums_is :
@@ -103,8 +104,20 @@ module _ (a : Account) (h : Hour) (d : Dosable a.season h) where
       kind ≡ hour_kind h.air → DosedBy a.season a.carried.sum stand → pair ≡ counted_pair stand h →
       sums ≡ plus a.sums (added pair a.season.ceiling h) →
       carried ≡ carried_by a.season.warmth a.carried h →
-      record { phase = a.phase; season = a.season; kind = Some kind; sums = sums; carried = carried }
+      record {
+        phase = a.phase;
+        season = a.season;
+        kind = Some kind;
+        sums = sums;
+        carried = carried;
+      }
       ≡ with_hour a h
   hour-is kind sums carried pair stand k by p s c =
-      rw (k, s, c, sums_is a.season h d a.carried stand by pair p, carried-is a.season h d a.carried)
+      rw (
+        k,
+        s,
+        c,
+        sums_is a.season h d a.carried stand by pair p,
+        carried-is a.season h d a.carried,
+      )
       refl

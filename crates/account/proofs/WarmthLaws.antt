@@ -14,7 +14,8 @@ use Rattle.account_spec.proofs.CarriedLaws.{total-step}
 total-fits : (z : ℤ) → total_out 25 z ≡ false → SFits w16 z
 total-fits z e = grind (arith, nat_tests)
 
-module _ (z t : ℤ) (f : SFits w16 z) (g : SFits w16 t) (within : total_out 24 z ≡ false) (hot : temperature_out t ≡ false) where
+module _ (z t : ℤ) (f : SFits w16 z) (g : SFits w16 t) (within : total_out 24 z ≡ false)
+    (hot : temperature_out t ≡ false) where
   sum : to_z w16 (of_z w16 z) +ℤ to_z w16 (of_z w16 t) ≡ z +ℤ t
   sum = rw (plain z f, plain t g)
 

@@ -40,7 +40,8 @@ lacking-by l (accepted (Raw.Warmth w)) e k = absurd (false≢true (rw e at k))
 lacking-by l (refused w) e k = absurd (false≢true (rw e at k))
 
 -- an hour's turn does not go by what it says
-turn-same : (p : Phase) (s : State) (x y : RawHour) → turn_in p s (Raw.Hour x) ≡ turn_in p s (Raw.Hour y)
+turn-same :
+    (p : Phase) (s : State) (x y : RawHour) → turn_in p s (Raw.Hour x) ≡ turn_in p s (Raw.Hour y)
 turn-same p s x y = grind arith
 
 -- the same day, hour and air, and ozone is read: all that rows 4, 15, 9 and 18 go by
@@ -51,7 +52,8 @@ record Alike (x y : RawHour) : Type 0 where
   has : is_missing (ozone_of y.ozone) ≡ false
 
 -- frames whose hours are the same but for ozone
-hours-alike : (x y : RawHour) (m k : Measure) (n : ℕ) → hour_of y k ≡ with_ozone n (hour_of x m) → Alike x y
+hours-alike :
+    (x y : RawHour) (m k : Measure) (n : ℕ) → hour_of y k ≡ with_ozone n (hour_of x m) → Alike x y
 unfolding hour_of
 hours-alike x y m k n e = grind arith
 
@@ -65,7 +67,9 @@ module _ (s : State) (x : RawHour) (q : Record) (e : turn_of s (Raw.Hour x) ≡ 
   passed = hour-passed s x q (row-passed (out_of_turn s (Raw.Hour x)) _ _ q e).1
 
   -- taken with one, taken with the other
-  turn-alike : (y : RawHour) (r : Record) → Alike x y → record_of s.season.header.tree (Raw.Hour y) ≡ accepted r → turn_of s (Raw.Hour y) ≡ accepted r
+  turn-alike :
+      (y : RawHour) (r : Record) → Alike x y →
+      record_of s.season.header.tree (Raw.Hour y) ≡ accepted r → turn_of s (Raw.Hour y) ≡ accepted r
   unfolding turn_of
   turn-alike y r alike is =
       let one : is_mixed s.kind y.air ≡ false = rw alike.air passed.one-kind in
@@ -78,7 +82,9 @@ pub record AnswerFilled (s : State) (n : ℕ) (l : List ℕ) (r : Record) : Type
   pub missing : is_missing hour.ozone ≡ true
   pub answer : answer_of s (line_with n l) ≡ accepted (Record.Hour (with_ozone n hour))
 
-pub answer-filled : (s : State) (n : ℕ) (l : List ℕ) (r : Record) → n ≤ 5000 → lacks_ozone l ≡ true → answer_of s l ≡ accepted r → AnswerFilled s n l r
+pub answer-filled :
+    (s : State) (n : ℕ) (l : List ℕ) (r : Record) → n ≤ 5000 → lacks_ozone l ≡ true →
+    answer_of s l ≡ accepted r → AnswerFilled s n l r
 unfolding answer_of hour_of
 answer-filled s n l r small lacks e =
     let tree = s.season.header.tree in
@@ -88,9 +94,12 @@ answer-filled s n l r small lacks e =
     let is = (passed s raw r turned).is in
     let read = hour-read tree raw r is in
     let h = hour_of raw read.figures.measure in
-    let filled = line-filled tree n l raw h small lacking.parsed (is ∙ ap accepted (sym read.is.same)) in
+    let filled =
+    line-filled tree n l raw h small lacking.parsed (is ∙ ap accepted (sym read.is.same)) in
     let again = hour-read tree filled.raw (Record.Hour (with_ozone n h)) filled.read in
-    let alike = hours-alike raw filled.raw read.figures.measure again.figures.measure n (hour-inside {g = hour_of filled.raw again.figures.measure} again.is.same) in
+    let alike =
+    hours-alike raw filled.raw read.figures.measure again.figures.measure n
+    (hour-inside {g = hour_of filled.raw again.figures.measure} again.is.same) in
     record {
       hour = h;
       is = sym read.is.same;

@@ -26,17 +26,24 @@ use Rattle.account_spec.specs.Book.{counted_of, excess_over}
 -- ---- what they are
 
 -- AOT40 of an hour and the next ones
-pub excess-cons : (h : Hour) (hs : List Hour) → excess_over (counted_of (h ∷ hs)) ≡ cond (is_counted h) (excess h) 0 + excess_over (counted_of hs)
+pub excess-cons :
+    (h : Hour) (hs : List Hour) →
+    excess_over (counted_of (h ∷ hs))
+    ≡ cond (is_counted h) (excess h) 0 + excess_over (counted_of hs)
 unfolding counted_of excess_over
 excess-cons h hs = grind arith
 
 module _ (stand : Outcome Stand) where
-  pub least-is : (c : Carried) (hs : List Hour) → (sums_of stand c hs).least ≡ excess_over (counted_of (all_read_as 0 hs))
+  pub least-is :
+      (c : Carried) (hs : List Hour) →
+      (sums_of stand c hs).least ≡ excess_over (counted_of (all_read_as 0 hs))
   unfolding sums_of counted_of excess_over hour_sums
   least-is c [] = refl
   least-is c (h ∷ hs) = grind (arith, least-is (carried_after stand c h) hs)
 
-  pub most-is : (c : Carried) (hs : List Hour) → (sums_of stand c hs).most ≡ excess_over (counted_of (all_read_as (ceiling_in stand) hs))
+  pub most-is :
+      (c : Carried) (hs : List Hour) →
+      (sums_of stand c hs).most ≡ excess_over (counted_of (all_read_as (ceiling_in stand) hs))
   unfolding sums_of counted_of excess_over hour_sums
   most-is c [] = refl
   most-is c (h ∷ hs) = grind (arith, most-is (carried_after stand c h) hs)
@@ -49,14 +56,21 @@ pub record Aot40In (season : Season) (s : Sums) : Type 0 where
   pub most : s.most ≤ most_aot40 season * s.counted
   pub width : s.most ≤ s.least + most_aot40 season * s.missing
 
-pub excess-le : (season : Season) (m : ℕ) (h : Hour) → m ≤ 5000 → checked (Record.Hour h) ≡ accepted tt → excess (read_as m h) ≤ most_aot40 season
-excess-le season m h few passed = omega (arith, (checked-passed (Record.Hour (read_as m h)) (read-passed m h few passed)).ozone)
+pub excess-le :
+    (season : Season) (m : ℕ) (h : Hour) → m ≤ 5000 → checked (Record.Hour h) ≡ accepted tt →
+    excess (read_as m h) ≤ most_aot40 season
+excess-le season m h few passed =
+    omega (arith, (checked-passed (Record.Hour (read_as m h)) (read-passed m h few passed)).ozone)
 
-width-le : (m : ℕ) (o : Option ℕ) → m ≤ 5000 → tenths_or m o - 400 ≤ tenths_or 0 o - 400 + 4600 * cond (is_missing o) 1 0
+width-le :
+    (m : ℕ) (o : Option ℕ) → m ≤ 5000 →
+    tenths_or m o - 400 ≤ tenths_or 0 o - 400 + 4600 * cond (is_missing o) 1 0
 width-le m o few = grind arith
 
 module _ (season : Season) (stand : Outcome Stand) (few : ceiling_in stand ≤ 5000) where
-  hour-aot40 : (c : Carried) (h : Hour) → checked (Record.Hour h) ≡ accepted tt → Aot40In season (hour_sums stand c h)
+  hour-aot40 :
+      (c : Carried) (h : Hour) → checked (Record.Hour h) ≡ accepted tt →
+      Aot40In season (hour_sums stand c h)
   unfolding hour_sums
   hour-aot40 c h passed =
       let nothing : 0 ≤ ceiling_in stand = omega arith in
@@ -65,7 +79,9 @@ module _ (season : Season) (stand : Outcome Stand) (few : ceiling_in stand ≤ 5
       let width = width-le (ceiling_in stand) h.ozone few in
       record { order = grind arith; most = grind arith; width = grind arith }
 
-  pub aot40-in : (c : Carried) (hs : List Hour) → AllChecked hs → Aot40In season (sums_of stand c hs)
+  pub aot40-in :
+      (c : Carried) (hs : List Hour) → AllChecked hs → Aot40In season (sums_of stand c hs)
   unfolding sums_of
   aot40-in c [] all = grind arith
-  aot40-in c (h ∷ hs) all = grind (arith, hour-aot40 c h all.0, aot40-in (carried_after stand c h) hs all.1)
+  aot40-in c (h ∷ hs) all =
+      grind (arith, hour-aot40 c h all.0, aot40-in (carried_after stand c h) hs all.1)

@@ -24,15 +24,21 @@ use Rattle.account_spec.specs.Runs.{TakesAll}
 
 pub data FilledHour (low high : ℕ) (h : Hour) : Hour → Type 0 where
   same : FilledHour low high h h
-  filled : is_missing h.ozone ≡ true → (n : ℕ) → low ≤ n → n ≤ high → FilledHour low high h (with_ozone n h)
+  filled :
+      is_missing h.ozone ≡ true → (n : ℕ) → low ≤ n → n ≤ high →
+      FilledHour low high h (with_ozone n h)
 
 pub data FilledHours (low high : ℕ) : List Hour → List Hour → Type 0 where
   none : FilledHours low high [] []
-  hours : {h f : Hour} {hs fs : List Hour} → FilledHour low high h f → FilledHours low high hs fs → FilledHours low high (h ∷ hs) (f ∷ fs)
+  hours :
+      {h f : Hour} {hs fs : List Hour} → FilledHour low high h f → FilledHours low high hs fs →
+      FilledHours low high (h ∷ hs) (f ∷ fs)
 
 pub data FilledRecord (low high : ℕ) (r : Record) : Record → Type 0 where
   same : FilledRecord low high r r
-  hour : {h f : Hour} → r ≡ Record.Hour h → FilledHour low high h f → FilledRecord low high r (Record.Hour f)
+  hour :
+      {h f : Hour} → r ≡ Record.Hour h → FilledHour low high h f →
+      FilledRecord low high r (Record.Hour f)
 
 -- a line in another's place: where that is accepted, it is too
 pub record FilledAnswer (low high : ℕ) (s : State) (m : List ℕ) (r : Record) : Type 0 where
@@ -41,11 +47,14 @@ pub record FilledAnswer (low high : ℕ) (s : State) (m : List ℕ) (r : Record)
   pub filled : FilledRecord low high r record_of
 
 abbrev pub FilledLine : ℕ → ℕ → List ℕ → List ℕ → Type 0
-FilledLine low high l m = (s : State) (r : Record) → answer_of s l ≡ accepted r → FilledAnswer low high s m r
+FilledLine low high l m =
+    (s : State) (r : Record) → answer_of s l ≡ accepted r → FilledAnswer low high s m r
 
 pub data FilledLines (low high : ℕ) : List (List ℕ) → List (List ℕ) → Type 0 where
   none : FilledLines low high [] []
-  lines : {l m : List ℕ} {ls ms : List (List ℕ)} → FilledLine low high l m → FilledLines low high ls ms → FilledLines low high (l ∷ ls) (m ∷ ms)
+  lines :
+      {l m : List ℕ} {ls ms : List (List ℕ)} → FilledLine low high l m →
+      FilledLines low high ls ms → FilledLines low high (l ∷ ls) (m ∷ ms)
 
 -- ---- books side by side
 
@@ -59,7 +68,8 @@ module _ {low high : ℕ} where
   hour-air FilledHour.same = refl
   hour-air (FilledHour.filled e n l k) = refl
 
-  hours-kind : {hs fs : List Hour} → FilledHours low high hs fs → kind_of_hours fs ≡ kind_of_hours hs
+  hours-kind :
+      {hs fs : List Hour} → FilledHours low high hs fs → kind_of_hours fs ≡ kind_of_hours hs
   hours-kind FilledHours.none = refl
   hours-kind (FilledHours.hours one rest) = rw (hour-air one) refl
 
@@ -67,7 +77,9 @@ module _ {low high : ℕ} where
   hours-length FilledHours.none = refl
   hours-length (FilledHours.hours one rest) = rw (hours-length rest) refl
 
-  hours-snoc : {hs fs : List Hour} {h f : Hour} → FilledHours low high hs fs → FilledHour low high h f → FilledHours low high (hs ++ h ∷ []) (fs ++ f ∷ [])
+  hours-snoc :
+      {hs fs : List Hour} {h f : Hour} → FilledHours low high hs fs → FilledHour low high h f →
+      FilledHours low high (hs ++ h ∷ []) (fs ++ f ∷ [])
   hours-snoc FilledHours.none last = FilledHours.hours last FilledHours.none
   hours-snoc (FilledHours.hours one rest) last = FilledHours.hours one (hours-snoc rest last)
 
@@ -75,20 +87,31 @@ module _ {low high : ℕ} where
   state-same : {b c : Book} → Beside low high b c → book_state c ≡ book_state b
   state-same e = rw (e.phase, e.season, hours-kind e.hours, hours-length e.hours) refl
 
-  hour-entry : {b c : Book} {h f : Hour} → Beside low high b c → FilledHour low high h f → Beside low high (book_entry b (Record.Hour h)) (book_entry c (Record.Hour f))
+  hour-entry :
+      {b c : Book} {h f : Hour} → Beside low high b c → FilledHour low high h f →
+      Beside low high (book_entry b (Record.Hour h)) (book_entry c (Record.Hour f))
   hour-entry e one = record { phase = e.phase; season = e.season; hours = hours-snoc e.hours one }
 
-  same-entry : {b c : Book} (r : Record) → Beside low high b c → Beside low high (book_entry b r) (book_entry c r)
+  same-entry :
+      {b c : Book} (r : Record) → Beside low high b c →
+      Beside low high (book_entry b r) (book_entry c r)
   same-entry (Record.Header h) e = record { phase = refl; season = refl; hours = e.hours }
   same-entry (Record.Hour h) e = hour-entry e FilledHour.same
   same-entry (Record.End x) e = record { phase = refl; season = e.season; hours = e.hours }
-  same-entry (Record.Ceiling x) e = record { phase = e.phase; season = rw e.season refl; hours = e.hours }
-  same-entry (Record.Parameters x) e = record { phase = e.phase; season = rw e.season refl; hours = e.hours }
-  same-entry (Record.Warmth x) e = record { phase = e.phase; season = rw e.season refl; hours = e.hours }
+  same-entry (Record.Ceiling x) e =
+      record { phase = e.phase; season = rw e.season refl; hours = e.hours }
+  same-entry (Record.Parameters x) e =
+      record { phase = e.phase; season = rw e.season refl; hours = e.hours }
+  same-entry (Record.Warmth x) e =
+      record { phase = e.phase; season = rw e.season refl; hours = e.hours }
 
-  entry-beside : {b c : Book} {r q : Record} → Beside low high b c → FilledRecord low high r q → Beside low high (book_entry b r) (book_entry c q)
+  entry-beside :
+      {b c : Book} {r q : Record} → Beside low high b c → FilledRecord low high r q →
+      Beside low high (book_entry b r) (book_entry c q)
   entry-beside {r = r} e FilledRecord.same = same-entry r e
-  entry-beside {b} {c} e (FilledRecord.hour {f = f} is one) = subst (λ (r : Record). Beside low high (book_entry b r) (book_entry c (Record.Hour f))) (sym is) (hour-entry e one)
+  entry-beside {b} {c} e (FilledRecord.hour {f = f} is one) =
+      subst (λ (r : Record). Beside low high (book_entry b r) (book_entry c (Record.Hour f)))
+      (sym is) (hour-entry e one)
 
 -- ---- a line that the account of a book takes
 
@@ -104,7 +127,9 @@ module _ (b : Book) (p : Proper b) (l : List ℕ) where
       record {
         record_of = found.0;
         answer = found.1;
-        is = sym (accepted-same found.2) ∙ entered-same b found.0 p (answer-takes b l found.0 found.1);
+        is =
+            sym (accepted-same found.2)
+            ∙ entered-same b found.0 p (answer-takes b l found.0 found.1);
       }
 
   module _ (r : Record) (e : book_answer b l ≡ accepted r) where
@@ -122,11 +147,14 @@ pub record Booked (a : Account) : Type 0 where
   pub proper : Proper book
   pub is : a ≡ account_of book
 
-pub lines-booked : (b : Book) (x a : Account) (ls : List (List ℕ)) → Proper b → x ≡ account_of b → TakesAll x ls a → Booked a
+pub lines-booked :
+    (b : Book) (x a : Account) (ls : List (List ℕ)) → Proper b → x ≡ account_of b →
+    TakesAll x ls a → Booked a
 lines-booked b x a ls p e TakesAll.none = record { book = b; proper = p; is = e }
 lines-booked b x a ls p e (TakesAll.line {b = y} {l = l} {ls = rest} takes more) =
     let one = line-entered b p l y (subst (λ (z : Account). feed_of z l ≡ accepted y) e takes) in
-    lines-booked (book_entry b one.record_of) y a rest (line-proper b p l one.record_of one.answer) one.is more
+    lines-booked (book_entry b one.record_of) y a rest
+    (line-proper b p l one.record_of one.answer) one.is more
 
 -- two books, one beside the other, and the lines that the second took
 pub record Both (low high : ℕ) (a : Account) (c : Book) (ms : List (List ℕ)) : Type 0 where
@@ -139,7 +167,8 @@ pub record Both (low high : ℕ) (a : Account) (c : Book) (ms : List (List ℕ))
   pub takes : TakesAll (account_of c) ms (account_of other)
 
 pub lines-both :
-    {low high : ℕ} (b c : Book) (x a : Account) (ls ms : List (List ℕ)) → Proper b → Proper c → Beside low high b c → x ≡ account_of b →
+    {low high : ℕ} (b c : Book) (x a : Account) (ls ms : List (List ℕ)) → Proper b → Proper c →
+    Beside low high b c → x ≡ account_of b →
     FilledLines low high ls ms → TakesAll x ls a → Both low high a c ms
 unfolding book_answer
 lines-both b c x a ls ms p q beside e FilledLines.none TakesAll.none = record {
@@ -151,14 +180,17 @@ lines-both b c x a ls ms p q beside e FilledLines.none TakesAll.none = record {
   is = e;
   takes = TakesAll.none;
 }
-lines-both b c x a ls ms p q beside e (FilledLines.lines {l = l} {m = m} {ls = rest} {ms = others} step steps) (TakesAll.line {b = y} takes more) =
+lines-both b c x a ls ms p q beside e
+    (FilledLines.lines {l = l} {m = m} {ls = rest} {ms = others} step steps)
+    (TakesAll.line {b = y} takes more) =
     let one = line-entered b p l y (subst (λ (z : Account). feed_of z l ≡ accepted y) e takes) in
     let r = one.record_of in
     let second = step (book_state b) r one.answer in
     let f = second.record_of in
     let answer : book_answer c m ≡ accepted f = rw (state-same beside) second.answer in
     let after =
-    lines-both (book_entry b r) (book_entry c f) y a rest others (line-proper b p l r one.answer) (line-proper c q m f answer)
+    lines-both (book_entry b r) (book_entry c f) y a rest others (line-proper b p l r one.answer)
+    (line-proper c q m f answer)
     (entry-beside beside second.filled) one.is steps more
     in
     record {

@@ -23,7 +23,9 @@ use Rattle.account_spec.specs.Book.{day_total, days_sum}
 -- ---- one hour more
 
 -- a reading is at most 600 tenths and at least -500
-pub total-step : (hours : ℕ) (z t : ℤ) → total_out hours z ≡ false → temperature_out t ≡ false → total_out (suc hours) (z +ℤ t) ≡ false
+pub total-step :
+    (hours : ℕ) (z t : ℤ) → total_out hours z ≡ false → temperature_out t ≡ false →
+    total_out (suc hours) (z +ℤ t) ≡ false
 unfolding temperature_out
 total-step hours z t p q = grind (arith, nat_tests)
 
@@ -42,7 +44,8 @@ pub record ColdIn (c : Carried) : Type 0 where
   pub sum : c.sum ≡ 0
   pub total : c.total ≡ pos 0
 
-module _ (season : Season) (hours : ℕ) (c : Carried) (out : carried_out season hours c ≡ false) where
+module _ (season : Season) (hours : ℕ) (c : Carried)
+    (out : carried_out season hours c ≡ false) where
   pub warm-in : has_warmth season.warmth ≡ true → WarmIn hours c
   warm-in e = grind (arith, nat_tests)
 
@@ -57,7 +60,8 @@ module _ (season : Season) (hours : ℕ) (c : Carried) (out : carried_out season
 
 -- and what lets it pass
 module _ (season : Season) (hours : ℕ) (c : Carried) where
-  pub in-warm : has_warmth season.warmth ≡ true → WarmIn hours c → carried_out season hours c ≡ false
+  pub in-warm :
+      has_warmth season.warmth ≡ true → WarmIn hours c → carried_out season hours c ≡ false
   in-warm e p = grind (arith, nat_tests)
 
   pub in-cold : has_warmth season.warmth ≡ false → ColdIn c → carried_out season hours c ≡ false
@@ -66,25 +70,40 @@ module _ (season : Season) (hours : ℕ) (c : Carried) where
 -- ---- the book's days, with one hour more at the end of its list
 
 module _ (h : Hour) where
-  total-on : (day : ℕ) (hs : List Hour) → h.day ≡ day → day_total day (hs ++ h ∷ []) ≡ day_total day hs +ℤ h.temperature
+  total-on :
+      (day : ℕ) (hs : List Hour) → h.day ≡ day →
+      day_total day (hs ++ h ∷ []) ≡ day_total day hs +ℤ h.temperature
   unfolding day_total
   total-on day [] e = rw (eq-eqb h.day day e) (+ℤ_idr h.temperature ∙ sym (+ℤ_idl h.temperature))
-  total-on day (x ∷ xs) e = grind (arith, total-on day xs e, +ℤ_assoc x.temperature (day_total day xs) h.temperature)
+  total-on day (x ∷ xs) e =
+      grind (arith, total-on day xs e, +ℤ_assoc x.temperature (day_total day xs) h.temperature)
 
-  total-off : (day : ℕ) (hs : List Hour) → eqb h.day day ≡ false → day_total day (hs ++ h ∷ []) ≡ day_total day hs
+  total-off :
+      (day : ℕ) (hs : List Hour) → eqb h.day day ≡ false →
+      day_total day (hs ++ h ∷ []) ≡ day_total day hs
   unfolding day_total
   total-off day [] e = rw e
   total-off day (x ∷ xs) e = rw (total-off day xs e) refl
 
   -- the days before its own stay as they are
-  days-off : (first n : ℕ) (hs : List Hour) → first + n ≤ h.day → days_sum first n (hs ++ h ∷ []) ≡ days_sum first n hs
+  days-off :
+      (first n : ℕ) (hs : List Hour) → first + n ≤ h.day →
+      days_sum first n (hs ++ h ∷ []) ≡ days_sum first n hs
   unfolding days_sum
   days-off first zero hs p = refl
-  days-off first (suc n) hs p = rw (days-off first n hs (omega arith), total-off (first + n) hs (ne_eqb h.day (first + n) (omega arith))) refl
+  days-off first (suc n) hs p =
+      rw (
+        days-off first n hs (omega arith),
+        total-off (first + n) hs (ne_eqb h.day (first + n) (omega arith)),
+      )
+      refl
 
 -- the sum of the whole days of hours in a row and the total of the day after them
 abbrev pub carried_on : ℕ → List Hour → Carried
-carried_on first hs = record { sum = days_sum first (length hs / 24) hs; total = day_total (first + length hs / 24) hs }
+carried_on first hs = record {
+  sum = days_sum first (length hs / 24) hs;
+  total = day_total (first + length hs / 24) hs;
+}
 
 module _ (h : Hour) (n : ℕ) (number : h.hour ≡ n % 24) (c : Carried) where
   -- within the limits
@@ -94,7 +113,8 @@ module _ (h : Hour) (n : ℕ) (number : h.hour ≡ n % 24) (c : Carried) where
       grind (arith, nat_tests, not_negative-le 24 (c.total +ℤ h.temperature))
 
 -- those of the book's days
-module _ (first : ℕ) (hs : List Hour) (h : Hour) (day : h.day ≡ first + length hs / 24) (number : h.hour ≡ length hs % 24) where
+module _ (first : ℕ) (hs : List Hour) (h : Hour) (day : h.day ≡ first + length hs / 24)
+    (number : h.hour ≡ length hs % 24) where
   abbrev days : ℕ
   days = length hs / 24
 
@@ -107,7 +127,9 @@ module _ (first : ℕ) (hs : List Hour) (h : Hour) (day : h.day ≡ first + leng
   same-day : (h.hour ≡ 23 → ⊥) → length (hs ++ h ∷ []) / 24 ≡ days
   same-day e = omega (arith, longer)
 
-  pub warmer-is : day_total (first + suc days) hs ≡ pos 0 → warmer (carried_on first hs) h ≡ carried_on first (hs ++ h ∷ [])
+  pub warmer-is :
+      day_total (first + suc days) hs ≡ pos 0 →
+      warmer (carried_on first hs) h ≡ carried_on first (hs ++ h ∷ [])
   unfolding days_sum
   warmer-is later =
       let before = days-off h first days hs (omega arith) in
@@ -119,5 +141,6 @@ module _ (first : ℕ) (hs : List Hour) (h : Hour) (day : h.day ≡ first + leng
 
   -- and no hour is listed for a later day
   pub later-on :
-      ((d : ℕ) → first + days < d → day_total d hs ≡ pos 0) → (d : ℕ) → first + length (hs ++ h ∷ []) / 24 < d → day_total d (hs ++ h ∷ []) ≡ pos 0
+      ((d : ℕ) → first + days < d → day_total d hs ≡ pos 0) → (d : ℕ) →
+      first + length (hs ++ h ∷ []) / 24 < d → day_total d (hs ++ h ∷ []) ≡ pos 0
   later-on later d p = grind (arith, nat_tests, longer, later d, total-off h d hs)

@@ -38,15 +38,23 @@ use Rattle.account_spec.specs.steps.Account.{Dosable}
 
 not_above-le : {m n : ℕ} {pod : ℕ → Frac} → m ≤ n → NotAbove n pod → NotAbove m pod
 not_above-le {pod = pod} h low =
-    record { at = low.at; under = record { cross = omega (arith, low.under.cross, mul-le-mul_right (pod low.at).den h) } }
+    record {
+      at = low.at;
+      under =
+          record { cross = omega (arith, low.under.cross, mul-le-mul_right (pod low.at).den h) };
+    }
 
 pub not_below-le : {m n : ℕ} {pod : ℕ → Frac} → m ≤ n → NotBelow m pod → NotBelow n pod
-not_below-le {pod = pod} h high = record { every = λ k. record { cross = omega (arith, (high.every k).cross, mul-le-mul_right (pod k).den h) } }
+not_below-le {pod = pod} h high = record {
+  every =
+      λ k. record { cross = omega (arith, (high.every k).cross, mul-le-mul_right (pod k).den h) };
+}
 
 -- ---- one hour, by any stand
 
 -- nothing encloses nothing, whatever the number of hours
-pub none-encloses : (s : Sums) → s.lower ≡ 0 → s.upper ≡ 0 → s.least ≡ 0 → Encloses s (λ k. natural 0) 0
+pub none-encloses :
+    (s : Sums) → s.lower ≡ 0 → s.upper ≡ 0 → s.least ≡ 0 → Encloses s (λ k. natural 0) 0
 none-encloses s l u a = record {
   low = record { at = 0; under = rw l (≼_refl (natural 0)) };
   high = record { every = λ k. rw u (≼_refl (natural 0)) };
@@ -55,11 +63,13 @@ none-encloses s l u a = record {
   grows = λ k l j. ≼_refl (natural 0);
 }
 
-pub none-sized : (apart each : ℕ) (s : Sums) → s.missing ≡ 0 → s.lower ≡ 0 → s.upper ≡ 0 → SumsSized apart each s
+pub none-sized :
+    (apart each : ℕ) (s : Sums) → s.missing ≡ 0 → s.lower ≡ 0 → s.upper ≡ 0 → SumsSized apart each s
 none-sized apart each s m l u = grind arith
 
 module _
-    (stand : Stand) (sound : Sound stand.figures) (few : stand.ceiling ≤ 5000) (c : Carried) (h : Hour)
+    (stand : Stand) (sound : Sound stand.figures) (few : stand.ceiling ≤ 5000)
+    (c : Carried) (h : Hour)
     (passed : checked (Record.Hour h) ≡ accepted tt)
   where
     abbrev apart : ℕ
@@ -70,7 +80,9 @@ module _
 
     module _ (f : Hour) (fills : Fills stand.ceiling h f) where
       -- a counted hour adds its pair
-      counted-encloses : Encloses (counted_sums (hour_pair (stand_at stand c) h) stand.ceiling h) (λ k. dose_at k (stand_at stand c) f) (excess f)
+      counted-encloses :
+          Encloses (counted_sums (hour_pair (stand_at stand c) h) stand.ceiling h)
+          (λ k. dose_at k (stand_at stand c) f) (excess f)
       counted-encloses =
           let within = filling-within stand.ceiling h f fills in
           record {
@@ -83,14 +95,21 @@ module _
 
     -- G is the filling's too
     pub hour-encloses :
-        (f : Hour) → Fills stand.ceiling h f → Encloses (hour_sums (accepted stand) c h) (hour_pod (accepted stand) c f) (cond (is_counted f) (excess f) 0)
+        (f : Hour) → Fills stand.ceiling h f →
+        Encloses (hour_sums (accepted stand) c h) (hour_pod (accepted stand) c f)
+        (cond (is_counted f) (excess f) 0)
     unfolding hour_sums hour_pod pair_of
-    hour-encloses f (Fills.given e) = grind (arith, counted-encloses f (Fills.given e), none-encloses)
-    hour-encloses f (Fills.filled e n le) = grind (arith, counted-encloses f (Fills.filled e n le), none-encloses)
+    hour-encloses f (Fills.given e) =
+        grind (arith, counted-encloses f (Fills.given e), none-encloses)
+    hour-encloses f (Fills.filled e n le) =
+        grind (arith, counted-encloses f (Fills.filled e n le), none-encloses)
 
-    pub hour-sized : (each : ℕ) → most_dose stand.figures.g_max h.air ≤ each → SumsSized apart each (hour_sums (accepted stand) c h)
+    pub hour-sized :
+        (each : ℕ) → most_dose stand.figures.g_max h.air ≤ each →
+        SumsSized apart each (hour_sums (accepted stand) c h)
     unfolding hour_sums pair_of
-    hour-sized each room = grind (arith, pair.gap, gap_dose-most stand.figures h.air, pair.order, pair.most)
+    hour-sized each room =
+        grind (arith, pair.gap, gap_dose-most stand.figures h.air, pair.order, pair.most)
 
 -- ---- one hour of a season
 
@@ -100,13 +119,16 @@ record FiguresIn (season : Season) (f : Figures) : Type 0 where
   gap : gap_most f ≤ gap_hour season
   most : (air : Air) → most_dose f.g_max air ≤ most_hour season
 
-figures-by : (season : Season) (f : Figures) (seventh : Bool) → is_measured season ≡ seventh → TreeNamed season.parameters season.header.tree f → FiguresIn season f
+figures-by :
+    (season : Season) (f : Figures) (seventh : Bool) → is_measured season ≡ seventh →
+    TreeNamed season.parameters season.header.tree f → FiguresIn season f
 unfolding figures_in
 figures-by season f true e named =
     let own = enclosure.measured season.parameters (named.measured e) in
     let chosen = rw e at named.chosen in
     let same : measured_figures season.parameters ≡ f = cc in
-    rw (← same) (record { sound = own.sound; gap = rw e own.gap; most = λ air. rw e (own.most air) })
+    rw (← same)
+    (record { sound = own.sound; gap = rw e own.gap; most = λ air. rw e (own.most air) })
 figures-by season f false e named =
     let own = enclosure.trees season.header.tree f (rw e at named.chosen) in
     record {
@@ -123,12 +145,16 @@ pub record SeasonStand (season : Season) (stand : Stand) : Type 0 where
   pub ceiling : stand.ceiling ≡ season.ceiling
   pub warmth : stand.age.warmth ≡ season.warmth
 
-pub season-stand : (season : Season) (stand : Stand) → stand_in season ≡ accepted stand → SeasonStand season stand
+pub season-stand :
+    (season : Season) (stand : Stand) → stand_in season ≡ accepted stand → SeasonStand season stand
 unfolding stand_in
 season-stand season stand e =
     let found = onward-passed (tree_of season.parameters season.header.tree) _ stand e in
-    let own = figures-by season found.0 (is_measured season) refl (tree-named season.parameters season.header.tree found.0 found.1) in
-    subst (SeasonStand season) (accepted-same found.2) (record { sound = own.sound; gap = own.gap; most = own.most; ceiling = refl; warmth = refl })
+    let own =
+    figures-by season found.0 (is_measured season) refl
+    (tree-named season.parameters season.header.tree found.0 found.1) in
+    subst (SeasonStand season) (accepted-same found.2)
+    (record { sound = own.sound; gap = own.gap; most = own.most; ceiling = refl; warmth = refl })
 
 module _ (season : Season) (h : Hour) where
   -- `hour_dose` goes by the season's stand

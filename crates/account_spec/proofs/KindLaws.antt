@@ -33,7 +33,9 @@ kind-numbered (Air.Deficit d) = refl
 kind-numbered (Air.Pressure d p) = refl
 kind-numbered (Air.Humidity d) = refl
 
-pub mixed-is : (first next : Air) → is_mixed (Some (hour_kind first)) next ≡ not (eqb (air_kind first) (air_kind next))
+pub mixed-is :
+    (first next : Air) →
+    is_mixed (Some (hour_kind first)) next ≡ not (eqb (air_kind first) (air_kind next))
 mixed-is (Air.Deficit d) next = refl
 mixed-is (Air.Pressure d p) next = refl
 mixed-is (Air.Humidity d) next = refl
@@ -41,12 +43,17 @@ mixed-is (Air.Humidity d) next = refl
 -- ---- one kind
 
 -- airs that are not mixed
-one-kind : (first next : Air) → is_mixed (Some (hour_kind first)) next ≡ false → Some (hour_kind next) ≡ Some (hour_kind first)
+one-kind :
+    (first next : Air) → is_mixed (Some (hour_kind first)) next ≡ false →
+    Some (hour_kind next) ≡ Some (hour_kind first)
 one-kind first next m =
-    let same = eqb-true (air_kind first) (air_kind next) (not-false _ (sym (mixed-is first next) ∙ m)) in
+    let same =
+    eqb-true (air_kind first) (air_kind next) (not-false _ (sym (mixed-is first next) ∙ m)) in
     kind-numbered next ∙ ap numbered (sym same) ∙ sym (kind-numbered first)
 
 -- an hour that row 15 lets pass leaves the season's kind
-pub kind-same : (hs : List Hour) (h : Hour) → is_mixed (kind_of_hours hs) h.air ≡ false → Some (hour_kind h.air) ≡ kind_of_hours (hs ++ h ∷ [])
+pub kind-same :
+    (hs : List Hour) (h : Hour) → is_mixed (kind_of_hours hs) h.air ≡ false →
+    Some (hour_kind h.air) ≡ kind_of_hours (hs ++ h ∷ [])
 kind-same [] h m = refl
 kind-same (x ∷ hs) h m = one-kind x.air h.air m

@@ -18,7 +18,9 @@ use Rattle.account_spec.specs.declared.Sums.{Sums}
 use Rattle.account_spec.specs.declared.Account.{Account}
 use Rattle.account_spec.specs.Limits.{most_hour, gap_each, most_aot40}
 use Rattle.account_spec.specs.HourKinds.{kind_out}
-use Rattle.account_spec.specs.Account.{is_fresh, is_closed, is_begun, is_refused, parameters_broken, is_broken, unmeasured_in, warmth_alone, carried_out, is_blank, any_of, sums_out, impossible}
+use Rattle.account_spec.specs.Account.{is_fresh, is_closed, is_begun, is_refused, parameters_broken}
+use Rattle.account_spec.specs.Account.{is_broken, unmeasured_in, warmth_alone, carried_out}
+use Rattle.account_spec.specs.Account.{is_blank, any_of, sums_out, impossible}
 use Rattle.account_spec.specs.steps.Account.{Room}
 use Rattle.account_spec.proofs.CarriedLaws.{sum-le, total-in}
 
@@ -29,7 +31,8 @@ pub record SumsIn (season : Season) (s : Sums) : Type 0 where
   pub bounded : season.ceiling ≡ 0 → s.missing ≡ 0
   pub order : s.lower ≤ s.upper
   pub most : s.upper ≤ most_hour season * s.counted
-  pub gap : s.upper ≤ s.lower + (gap_each season * (s.counted - s.missing) + most_hour season * s.missing)
+  pub gap :
+      s.upper ≤ s.lower + (gap_each season * (s.counted - s.missing) + most_hour season * s.missing)
   pub aot40-order : s.least ≤ s.most
   pub aot40-most : s.most ≤ most_aot40 season * s.counted
   pub aot40-width : s.most ≤ s.least + most_aot40 season * s.missing
@@ -54,10 +57,13 @@ accepted-is : (o : Outcome Unit) → is_refused o ≡ false → o ≡ accepted t
 accepted-is o e = grind arith
 
 all-false : (b p s k u w c x y : Bool) → (b || p || s || k || u || w || c || x || y) ≡ false
-    → (b ≡ false) × (p ≡ false) × (s ≡ false) × (k ≡ false) × (u ≡ false) × (w ≡ false) × (c ≡ false) × (x ≡ false) × (y ≡ false)
+    → (b ≡ false) × (p ≡ false) × (s ≡ false) × (k ≡ false) × (u ≡ false) × (w ≡ false)
+    × (c ≡ false) × (x ≡ false) × (y ≡ false)
 all-false b p s k u w c x y e = grind arith
 
-then-false : (t r c p w : Bool) → (t && (r || c || p || w)) ≡ false → t ≡ true → (r ≡ false) × (c ≡ false) × (p ≡ false) × (w ≡ false)
+then-false :
+    (t r c p w : Bool) → (t && (r || c || p || w)) ≡ false → t ≡ true →
+    (r ≡ false) × (c ≡ false) × (p ≡ false) × (w ≡ false)
 then-false t r c p w e h = grind arith
 
 then-true : (a b : Bool) → (a && not b) ≡ false → a ≡ true → b ≡ true
@@ -92,7 +98,8 @@ module _ (a : Account) where
       let season = a.season in
       let rows = all-false _ (ltb (period_hours season.header) a.sums.hours) _ _ _ _ _ _ _ e in
       let sound =
-      then-false (is_begun a.phase) (is_refused (checked (Record.Header season.header))) (ceiling_out season.ceiling) (parameters_broken season) (warmth_broken season.warmth) rows.0
+      then-false (is_begun a.phase) (is_refused (checked (Record.Header season.header)))
+      (ceiling_out season.ceiling) (parameters_broken season) (warmth_broken season.warmth) rows.0
       in
       record {
         header = λ h. accepted-is (checked (Record.Header season.header)) (sound h).0;
@@ -113,7 +120,8 @@ module _ (a : Account) where
   unfolding impossible
   possible-false p =
       simp (
-        false-and (is_begun a.phase) (is_broken a.season) (λ h. simp (p.header h, p.ceiling h, p.parameters h, p.warmth h)),
+        false-and (is_begun a.phase) (is_broken a.season)
+            (λ h. simp (p.header h, p.ceiling h, p.parameters h, p.warmth h)),
         le-ltb (period_hours a.season.header) a.sums.hours p.hours,
         in-sums a.season a.sums p.sums,
         p.kind,
@@ -121,7 +129,8 @@ module _ (a : Account) where
         p.alone,
         p.carried,
         false-and (is_fresh a.phase) (not (is_blank a)) (λ h. ap not (p.blank h)),
-        false-and (is_closed a.phase) (not (all_given a.season.header a.sums.hours)) (λ h. ap not (p.given h)),
+        false-and (is_closed a.phase) (not (all_given a.season.header a.sums.hours))
+            (λ h. ap not (p.given h)),
       )
 
 -- ---- the most that an hour can bring, whatever the tree

@@ -21,16 +21,19 @@ use Rattle.account_spec.specs.steps.Account.{account_of, Proper}
 use Rattle.account_spec.proofs.SumsLaws.{missing-none}
 use Rattle.account_spec.proofs.HourLaws.{not_below-le}
 use Rattle.account_spec.proofs.EnclosedLaws.{season-fill, season-read, read-fill, read_same}
-use Rattle.account_spec.proofs.BookLaws.{book-hours, book-counted, book-missing, book-enclosed, book-in, proper-possible}
+use Rattle.account_spec.proofs.BookLaws.{book-hours, book-counted, book-missing, book-enclosed}
+use Rattle.account_spec.proofs.BookLaws.{book-in, proper-possible}
 use Rattle.account_spec.proofs.VerdictLaws.{word-is, exceeded-is, below-is, above-pod}
 
 -- the gap where nothing is missing
 none-missing :
-    (each most counted missing lower upper : ℕ) → missing ≡ 0 → upper ≤ lower + (each * (counted - missing) + most * missing) → upper ≤ lower + each * counted
+    (each most counted missing lower upper : ℕ) → missing ≡ 0 →
+    upper ≤ lower + (each * (counted - missing) + most * missing) → upper ≤ lower + each * counted
 none-missing each most counted missing lower upper none gap = grind arith
 
 module _ (b : Book) (p : Proper b) where
-  pub word : word_of (totals_of (account_of b)).verdict ≡ verdict_word b.phase b.season (book_sums b)
+  pub word :
+      word_of (totals_of (account_of b)).verdict ≡ verdict_word b.phase b.season (book_sums b)
   word = word-is b.phase b.season (book_sums b)
 
   pub read_of-is : read_of (account_of b) ≡ accepted (totals_of (account_of b))
@@ -43,13 +46,21 @@ module _ (b : Book) (p : Proper b) where
 
   most : (book_sums b).most ≡ excess_over (counted_of (all_read_as b.season.ceiling b.hours))
   unfolding book_sums
-  most = (book-enclosed b p).most ∙ ap (λ (hs : List Hour). excess_over (counted_of hs)) (season-read b.season b.hours p.dosed-hours)
+  most =
+      (book-enclosed b p).most
+      ∙ ap (λ (hs : List Hour). excess_over (counted_of hs))
+      (season-read b.season b.hours p.dosed-hours)
 
-  filled : (fs : List Hour) → AllFill b.season.ceiling b.hours fs → Encloses (book_sums b) (pod_in b fs) (excess_over (counted_of fs))
+  filled :
+      (fs : List Hour) → AllFill b.season.ceiling b.hours fs →
+      Encloses (book_sums b) (pod_in b fs) (excess_over (counted_of fs))
   unfolding book_sums pod_in
-  filled fs fill = (book-enclosed b p).filled fs (season-fill b.season b.hours fs p.dosed-hours fill)
+  filled fs fill =
+      (book-enclosed b p).filled fs (season-fill b.season b.hours fs p.dosed-hours fill)
 
-  filling-kept : (fs : List Hour) → AllFill b.season.ceiling b.hours fs → FillingKept b (totals_of (account_of b)) fs
+  filling-kept :
+      (fs : List Hour) → AllFill b.season.ceiling b.hours fs →
+      FillingKept b (totals_of (account_of b)) fs
   filling-kept fs fill =
       let e = filled fs fill in
       record {
@@ -57,8 +68,11 @@ module _ (b : Book) (p : Proper b) where
         high = e.high;
         least = e.least;
         most = e.most;
-        exceeded = λ says. above-pod _ _ (pod_in b fs) (exceeded-is b.phase b.season (book_sums b) (sym word ∙ says)).above e.low;
-        below = λ says. not_below-le (below-is b.phase b.season (book_sums b) (sym word ∙ says)) e.high;
+        exceeded = λ says.
+            above-pod _ _ (pod_in b fs)
+            (exceeded-is b.phase b.season (book_sums b) (sym word ∙ says)).above e.low;
+        below =
+            λ says. not_below-le (below-is b.phase b.season (book_sums b) (sym word ∙ says)) e.high;
       }
 
   module _ (all : AllRead b.hours) where
@@ -71,11 +85,18 @@ module _ (b : Book) (p : Proper b) where
     read_kept =
         let own = filling-kept b.hours (read-fill b.season.ceiling b.hours all) in
         record {
-          least = least ∙ ap (λ (hs : List Hour). excess_over (counted_of hs)) (read_same 0 b.hours all);
-          most = most ∙ ap (λ (hs : List Hour). excess_over (counted_of hs)) (read_same b.season.ceiling b.hours all);
+          least =
+              least
+              ∙ ap (λ (hs : List Hour). excess_over (counted_of hs)) (read_same 0 b.hours all);
+          most =
+              most
+              ∙ ap (λ (hs : List Hour). excess_over (counted_of hs))
+              (read_same b.season.ceiling b.hours all);
           low = own.low;
           high = own.high;
-          gap = none-missing (gap_each b.season) (most_hour b.season) _ _ _ _ missing (book-in b p).gap;
+          gap =
+              none-missing (gap_each b.season)
+              (most_hour b.season) _ _ _ _ missing (book-in b p).gap;
           exceeded = own.exceeded;
           below = own.below;
         }
@@ -95,6 +116,7 @@ module _ (b : Book) (p : Proper b) where
     read = read_kept;
   }
 
-  pub reading-is : (r : Result Totals Refusal) → Reads (account_of b) r → r ≡ Ok (totals_of (account_of b))
+  pub reading-is :
+      (r : Result Totals Refusal) → Reads (account_of b) r → r ≡ Ok (totals_of (account_of b))
   reading-is (Ok t) k = ap Ok (accepted-same (k.answers ∙ read_of-is))
   reading-is (Err x) k = refused-not-accepted (k.answers ∙ read_of-is)

@@ -24,13 +24,15 @@ use Rattle.account_spec.specs.declared.Account.{Account}
 use Rattle.account_spec.specs.declared.State.{State}
 use Rattle.account_spec.specs.HourKinds.{is_mixed}
 use Rattle.account_spec.specs.Account.{impossible}
-use Rattle.account_spec.specs.Rules.{is_due, count_wrong, due_of, answer_of, feed_of, unread_row, feed_frame_of, Answers, Feeds, Fed}
+use Rattle.account_spec.specs.Rules.{is_due, count_wrong, due_of, answer_of, feed_of, unread_row}
+use Rattle.account_spec.specs.Rules.{feed_frame_of, Answers, Feeds, Fed}
 
 -- ---- a header's rows; row 15, then 9 and 18, before row 10; row 11; row 17; row 25; row 24, then
 -- 7
 
 module _ (s : State) where
-  pub header-in : (h : Header) → record_of s.season.header.tree (Raw.Header h) ≡ due_of s (Raw.Header h)
+  pub header-in :
+      (h : Header) → record_of s.season.header.tree (Raw.Header h) ≡ due_of s (Raw.Header h)
   unfolding due_of
   header-in h = refl
 
@@ -54,15 +56,19 @@ module _ (s : State) where
     hour-passed r e = grind arith
 
   module _ (x : End) where
-    pub count-in : count_wrong s x.hours ≡ false → record_of s.season.header.tree (Raw.End x) ≡ due_of s (Raw.End x)
+    pub count-in :
+        count_wrong s x.hours ≡ false →
+        record_of s.season.header.tree (Raw.End x) ≡ due_of s (Raw.End x)
     unfolding due_of record_of sound_of checked
     count-in e = rw e
 
-  pub ceiling-in : (c : Ceiling) → record_of s.season.header.tree (Raw.Ceiling c) ≡ due_of s (Raw.Ceiling c)
+  pub ceiling-in :
+      (c : Ceiling) → record_of s.season.header.tree (Raw.Ceiling c) ≡ due_of s (Raw.Ceiling c)
   unfolding due_of
   ceiling-in c = refl
 
-  pub warmth-in : (w : Warmth) → record_of s.season.header.tree (Raw.Warmth w) ≡ due_of s (Raw.Warmth w)
+  pub warmth-in :
+      (w : Warmth) → record_of s.season.header.tree (Raw.Warmth w) ≡ due_of s (Raw.Warmth w)
   unfolding due_of
   warmth-in w = refl
 
@@ -72,11 +78,14 @@ module _ (s : State) where
     parameters-out e = rw e
 
     module _ (sound : parameter_out p ≡ false) where
-      pub ramps-out : ramps_out s.season.header p ≡ true → refused (7, 0) ≡ due_of s (Raw.Parameters p)
+      pub ramps-out :
+          ramps_out s.season.header p ≡ true → refused (7, 0) ≡ due_of s (Raw.Parameters p)
       unfolding due_of record_of sound_of checked
       ramps-out e = rw (sound, e)
 
-      pub ramps-in : ramps_out s.season.header p ≡ false → record_of s.season.header.tree (Raw.Parameters p) ≡ due_of s (Raw.Parameters p)
+      pub ramps-in :
+          ramps_out s.season.header p ≡ false →
+          record_of s.season.header.tree (Raw.Parameters p) ≡ due_of s (Raw.Parameters p)
       unfolding due_of record_of sound_of checked
       ramps-in e = rw (sound, e)
 
@@ -86,29 +95,38 @@ module _ (s : State) where
       pub sound : parameter_out p ≡ false
       pub ramps : ramps_out s.season.header p ≡ false
 
-    pub parameters-passed : (r : Record) → due_of s (Raw.Parameters p) ≡ accepted r → ParametersPassed r
+    pub parameters-passed :
+        (r : Record) → due_of s (Raw.Parameters p) ≡ accepted r → ParametersPassed r
     unfolding due_of record_of sound_of checked
     parameters-passed r e = grind arith
 
 -- ---- feeding
 
 module _ (a : Account) (frame : Raw) where
-  pub answers-impossible : impossible a ≡ true → Answers a (feed_frame_of a frame) (Err (Refusal.Account, a))
+  pub answers-impossible :
+      impossible a ≡ true → Answers a (feed_frame_of a frame) (Err (Refusal.Account, a))
   unfolding feed_frame_of
   answers-impossible e = record { answers = rw e; leaves = rw e }
 
 -- a line is its frame, or refused by rows 1 to 3
-module _ (a : Account) (l : List ℕ) (p : Result Raw Refusal) (parsed : outcome_of p ≡ parsed_of l) where
-  pub frame-feeds : (frame : Raw) (r : Fed) → p ≡ Ok frame → Answers a (feed_frame_of a frame) r → Feeds a l r
+module _ (a : Account) (l : List ℕ) (p : Result Raw Refusal)
+    (parsed : outcome_of p ≡ parsed_of l) where
+  pub frame-feeds :
+      (frame : Raw) (r : Fed) → p ≡ Ok frame → Answers a (feed_frame_of a frame) r → Feeds a l r
   unfolding feed_of answer_of feed_frame_of
   frame-feeds frame r e k = rw (← parsed, e) k
 
-  unread-by : (t : Bool) (s r : Refusal) → impossible a ≡ t → p ≡ Err s → row_of r ≡ unread_row a (row_of s) → Feeds a l (Err (r, a))
+  unread-by :
+      (t : Bool) (s r : Refusal) → impossible a ≡ t → p ≡ Err s →
+      row_of r ≡ unread_row a (row_of s) → Feeds a l (Err (r, a))
   unfolding feed_of answer_of
-  unread-by true s r i e k = record { answers = rw (← parsed, e, k, i) refl; leaves = rw (← parsed, e, i) refl }
-  unread-by false s r i e k = record { answers = rw (← parsed, e, k, i) refl; leaves = rw (← parsed, e, i) refl }
+  unread-by true s r i e k =
+      record { answers = rw (← parsed, e, k, i) refl; leaves = rw (← parsed, e, i) refl }
+  unread-by false s r i e k =
+      record { answers = rw (← parsed, e, k, i) refl; leaves = rw (← parsed, e, i) refl }
 
-  pub unread-feeds : (s r : Refusal) → p ≡ Err s → row_of r ≡ unread_row a (row_of s) → Feeds a l (Err (r, a))
+  pub unread-feeds :
+      (s r : Refusal) → p ≡ Err s → row_of r ≡ unread_row a (row_of s) → Feeds a l (Err (r, a))
   unread-feeds s r e k = unread-by (impossible a) s r refl e k
 
 -- a line that is fed has a frame

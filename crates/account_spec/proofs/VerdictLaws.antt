@@ -30,11 +30,13 @@ module _ (phase : Phase) (season : Season) (sums : Sums) where
   unfolding verdict_of verdict_word
   word-is = grind arith
 
-  pub exceeded-is : verdict_word phase season sums ≡ exceeded_word → IsExceeded phase season sums.lower
+  pub exceeded-is :
+      verdict_word phase season sums ≡ exceeded_word → IsExceeded phase season sums.lower
   unfolding verdict_word
   exceeded-is e = grind (arith, nat_tests)
 
-  pub is-exceeded : IsExceeded phase season sums.lower → verdict_word phase season sums ≡ exceeded_word
+  pub is-exceeded :
+      IsExceeded phase season sums.lower → verdict_word phase season sums ≡ exceeded_word
   unfolding verdict_word
   is-exceeded x = grind (arith, nat_tests)
 
@@ -45,4 +47,10 @@ module _ (phase : Phase) (season : Season) (sums : Sums) where
 -- ---- the exact POD1
 
 pub above-pod : (n m : ℕ) (pod : ℕ → Frac) → n < m → NotAbove m pod → Above n pod
-above-pod n m pod e low = record { at = low.at; over = record { cross = omega (arith, low.under.cross, mul-le-mul_right (pod low.at).den e, (pod low.at).positive) } }
+above-pod n m pod e low = record {
+  at = low.at;
+  over = record {
+    cross =
+        omega (arith, low.under.cross, mul-le-mul_right (pod low.at).den e, (pod low.at).positive);
+  };
+}

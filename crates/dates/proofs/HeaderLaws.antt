@@ -27,7 +27,9 @@ module _ (h : Header) (sound : checked (Record.Header h) ≡ accepted tt) where
 
   line-is : parsed_of (frame_line made) ≡ accepted (Raw.Header h)
   unfolding frame_of
-  line-is = let fits = range-fits made (checked-passed made sound) tt in line-parsed made fits ∙ rw (line_frame made fits) refl
+  line-is =
+      let fits = range-fits made (checked-passed made sound) tt in
+      line-parsed made fits ∙ rw (line_frame made fits) refl
 
   turn_is : turn_of (state_of fresh_account) (Raw.Header h) ≡ accepted made
   unfolding turn_of due_of record_of sound_of
@@ -45,5 +47,6 @@ module _ (h : Header) (sound : checked (Record.Header h) ≡ accepted tt) where
   header-kept = record {
     fed = fed-fresh;
     written = writes-20;
-    read_back = λ buffer tree room. round_trip.read_back made buffer 20 tree tt tt (writes-20 buffer room);
+    read_back =
+        λ buffer tree room. round_trip.read_back made buffer 20 tree tt tt (writes-20 buffer room);
   }

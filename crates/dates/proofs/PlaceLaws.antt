@@ -3,7 +3,8 @@ use Rattle.dates.specs.Promise.{PlacePromise}
 use Rattle.dates.specs.Model.{model_start, model_end}
 use Rattle.exact.proofs.RoundingLaws.{round_up-ceiling, round_down-floor}
 use Rattle.dates.proofs.ModelLaws.{sixty-is, edges-is, extremes-is, model-kept, thousand-is}
-use Rattle.dates.proofs.RuleLaws.{pole-is, period-in, place_out_lem, placed-rows, placed-made, placed-passed, without-model}
+use Rattle.dates.proofs.RuleLaws.{pole-is, period-in, place_out_lem, placed-rows, placed-made}
+use Rattle.dates.proofs.RuleLaws.{placed-passed, without-model}
 use Rattle.dates.proofs.HeaderLaws.{header-kept}
 
 pub place_promise : PlacePromise
@@ -21,5 +22,6 @@ place_promise = record {
   period = period-in;
   rows = placed-rows;
   made = placed-made;
-  header = λ tree days level latitude height h e. header-kept h (placed-passed tree days level latitude height h e);
+  header = λ tree days level latitude height h e.
+      header-kept h (placed-passed tree days level latitude height h e);
 }

@@ -6,7 +6,9 @@ use Rattle.dose_spec.proofs.DecayLaws.{decay_entry-le}
 found-le : (n a : ℕ) → a ≡ decay_entry n → a ≤ 10 ^ 9
 found-le n a e = rw e (decay_entry-le n)
 
-module _ (n a b c : ℕ) (a-is : a ≡ decay_entry (1 * (n % 100))) (b-is : b ≡ decay_entry (100 * (n / 100 % 100))) (c-is : c ≡ decay_entry (10000 * (n / 100 / 100))) where
+module _ (n a b c : ℕ) (a-is : a ≡ decay_entry (1 * (n % 100)))
+    (b-is : b ≡ decay_entry (100 * (n / 100 % 100)))
+    (c-is : c ≡ decay_entry (10000 * (n / 100 / 100))) where
   pub found-is : a * b / 10 ^ 9 * c / 10 ^ 9 ≡ decay_low n
   unfolding decay_low
   found-is =

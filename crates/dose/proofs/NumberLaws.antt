@@ -1,10 +1,12 @@
 -- The code's numbers: what it computes from the terms of f_VPD, f_SW and f_phen is the opening's
 -- pair and the share's, and fits 64 bits.
-use Rattle.std.proofs.Common.{◌≡◌, ℕ, ◌+◌, ◌-◌, ◌*◌, ◌/◌, ◌^◌, ◌<◌, ◌≤◌, max, ap, ◌∙◌, ap₂, div-mul-le_self, arith}
+use Rattle.std.proofs.Common.{◌≡◌, ℕ, ◌+◌, ◌-◌, ◌*◌, ◌/◌, ◌^◌, ◌<◌, ◌≤◌, max, ap, ◌∙◌, ap₂}
+use Rattle.std.proofs.Common.{div-mul-le_self, arith}
 use Rattle.trees.specs.declared.Figures.{Figures}
 use Rattle.trees.specs.Sound.{Sound}
 use Rattle.trees.specs.Temperature.{temperature_pair}
-use Rattle.trees.specs.Deficit.{deficit_of, lower_deficit, upper_deficit, lower_factor, upper_factor}
+use Rattle.trees.specs.Deficit.{deficit_of, lower_deficit, upper_deficit, lower_factor}
+use Rattle.trees.specs.Deficit.{upper_factor}
 use Rattle.trees.specs.SoilWater.{soil_water_of}
 use Rattle.trees.proofs.DeficitLaws.{deficit-limits}
 use Rattle.trees.proofs.FactorLaws.{soil_water-limits}
@@ -42,7 +44,8 @@ module _ (n d : ℕ) (pos : 0 < d) where
 
 -- ---- the factors
 
-factor-is : {r : Fraction} {x : Frac} {most : ℕ} → Is r x → x ≼ natural 1 → x.den ≤ most → Factor most r
+factor-is :
+    {r : Fraction} {x : Frac} {most : ℕ} → Is r x → x ≼ natural 1 → x.den ≤ most → Factor most r
 factor-is {r} {x} i below small = record {
   whole = omega (arith, i.den, x.positive);
   below = omega (arith, i.num, i.den, below.cross);
@@ -56,21 +59,32 @@ deficits-den (Pressure vpd p) x = omega arith
 deficits-den (Humidity rh) x = omega arith
 
 module _ (f : Figures) (s : Sound f) {r : Fraction} where
-  deficit-factor : (vpd : Frac) → vpd.den ≤ 2 * 10 ^ 8 → Is r (deficit_of f vpd) → Factor (2 * 10 ^ 14) r
-  deficit-factor vpd h i = factor-is i (deficit-limits f s vpd).below (omega (arith, deficit-small f s vpd))
+  deficit-factor :
+      (vpd : Frac) → vpd.den ≤ 2 * 10 ^ 8 → Is r (deficit_of f vpd) → Factor (2 * 10 ^ 14) r
+  deficit-factor vpd h i =
+      factor-is i (deficit-limits f s vpd).below (omega (arith, deficit-small f s vpd))
 
-  pub lower-factor : (a : Air) (x : ℕ) → Is r (lower_factor f (air_deficits a x)) → Factor (2 * 10 ^ 14) r
-  lower-factor a x i = deficit-factor (upper_deficit (air_deficits a x)) (omega (arith, deficits-den a x)) i
+  pub lower-factor :
+      (a : Air) (x : ℕ) → Is r (lower_factor f (air_deficits a x)) → Factor (2 * 10 ^ 14) r
+  lower-factor a x i =
+      deficit-factor (upper_deficit (air_deficits a x)) (omega (arith, deficits-den a x)) i
 
-  pub upper-factor : (a : Air) (x : ℕ) → Is r (upper_factor f (air_deficits a x)) → Factor (2 * 10 ^ 14) r
-  upper-factor a x i = deficit-factor (lower_deficit (air_deficits a x)) (omega (arith, deficits-den a x)) i
+  pub upper-factor :
+      (a : Air) (x : ℕ) → Is r (upper_factor f (air_deficits a x)) → Factor (2 * 10 ^ 14) r
+  upper-factor a x i =
+      deficit-factor (lower_deficit (air_deficits a x)) (omega (arith, deficits-den a x)) i
 
   pub soil_water-factor : (reading : ℕ) → Is r (soil_water_of f reading) → Factor (2 * 10 ^ 9) r
-  soil_water-factor reading i = factor-is i (soil_water-limits f s reading).below (omega (arith, (soil_water-small f s reading).den))
+  soil_water-factor reading i =
+      factor-is i (soil_water-limits f s reading).below
+      (omega (arith, (soil_water-small f s reading).den))
 
 module _ (stand : Stand) (s : Sound stand.figures) (h : Hour) {r : Fraction} where
-  pub phenology-factor : stand.age.warmth.rise < 65536 → stand.age.warmth.fall < 65536 → Is r (phenology_in stand h) → Factor (2 * 10 ^ 9) r
-  phenology-factor rise fall i = factor-is i (phenology_in-limits stand s h).below (phenology_in-den stand s h rise fall)
+  pub phenology-factor :
+      stand.age.warmth.rise < 65536 → stand.age.warmth.fall < 65536 → Is r (phenology_in stand h) →
+      Factor (2 * 10 ^ 9) r
+  phenology-factor rise fall i =
+      factor-is i (phenology_in-limits stand s h).below (phenology_in-den stand s h rise fall)
 
 -- ---- the pairs
 
@@ -84,14 +98,18 @@ module _ (n : ℕ) {r : Fraction} {x : Frac} (i : Is r x) where
 module _ (f : Figures) (h : Hour) {vpd sw : Fraction} where
   module _ (w : Is sw (soil_water_of f (soil_number h.soil))) where
     pub opening_low-is :
-        {t : ℕ} → Is vpd (lower_factor f (air_deficits h.air (above_of h.temperature))) → t ≡ (temperature_pair f (above_of h.temperature)).lower →
+        {t : ℕ} → Is vpd (lower_factor f (air_deficits h.air (above_of h.temperature))) →
+        t ≡ (temperature_pair f (above_of h.temperature)).lower →
         max (f.f_min * 10 ^ 7) (t * vpd.num / vpd.den * sw.num / sw.den) ≡ opening_low f h
     unfolding opening_low deficit_low
     opening_low-is {t} v e = rw (down_is t v, down_is _ w, e)
 
     pub opening_up-is :
-        {t : ℕ} → Is vpd (upper_factor f (air_deficits h.air (above_of h.temperature))) → t ≡ (temperature_pair f (above_of h.temperature)).upper →
-        max (f.f_min * 10 ^ 7) (((t * vpd.num + (vpd.den - 1)) / vpd.den * sw.num + (sw.den - 1)) / sw.den) ≡ opening_up f h
+        {t : ℕ} → Is vpd (upper_factor f (air_deficits h.air (above_of h.temperature))) →
+        t ≡ (temperature_pair f (above_of h.temperature)).upper →
+        max (f.f_min * 10 ^ 7)
+        (((t * vpd.num + (vpd.den - 1)) / vpd.den * sw.num + (sw.den - 1)) / sw.den)
+        ≡ opening_up f h
     unfolding opening_up deficit_up
     opening_up-is {t} v e = rw (up_is t v, up_is _ w, e)
 
@@ -105,6 +123,7 @@ module _ (stand : Stand) (h : Hour) {phen : Fraction} {light opening : ℕ} wher
 
     pub share_up-is :
         light ≡ light_up stand.figures h.ppfd → opening ≡ opening_up stand.figures h →
-        ((light * phen.num + (phen.den - 1)) / phen.den * opening + (10 ^ 11 - 1)) / 10 ^ 11 ≡ share_up stand h
+        ((light * phen.num + (phen.den - 1)) / phen.den * opening + (10 ^ 11 - 1)) / 10 ^ 11
+        ≡ share_up stand h
     unfolding share_up round_up
     share_up-is l o = rw (up_is light p, l, o)

@@ -1,6 +1,7 @@
 -- What is remembered of a temperature is f_temp's pair there, and of which tree a memory is.
 use Rattle.std.specs.Prelude.{Option, Some, None, nat_lt, if◌then◌else◌}
-use Rattle.std.proofs.Common.{◌≡◌, ◌≢◌, ℕ, ◌+◌, ◌*◌, ◌^◌, ◌<◌, ◌≤◌, max, List, length, get_or, set, replicate, sym, ◌∙◌, ap, ap₂, subst, ⊎_elim, arith}
+use Rattle.std.proofs.Common.{◌≡◌, ◌≢◌, ℕ, ◌+◌, ◌*◌, ◌^◌, ◌<◌, ◌≤◌, max, List, length, get_or, set}
+use Rattle.std.proofs.Common.{replicate, sym, ◌∙◌, ap, ap₂, subst, ⊎_elim, arith}
 use Rattle.std.proofs.lemmas.Bool.{cases_eq}
 use Rattle.std.proofs.lemmas.Bool.Decides.{nat_tests}
 use lib.ListN.{length-replicate, get_or-replicate}
@@ -41,15 +42,36 @@ module _ (f : Figures) (t : ℕ) where
       warm.saturation ≡ entry_of t → IsWarm f t warm
   warm-made s pair warm is root e =
       record {
-        lower = rw (root, is) (grind (arith, nat_tests, s.f_min, floor-le, level, temperature_pair-gap f s t, temperature_pair-order f s t));
-        upper = rw (root, is) (grind (arith, nat_tests, s.f_min, floor-le, level, temperature_pair-gap f s t, temperature_pair-order f s t));
+        lower =
+            rw (root, is)
+            (grind (
+              arith,
+              nat_tests,
+              s.f_min,
+              floor-le,
+              level,
+              temperature_pair-gap f s t,
+              temperature_pair-order f s t,
+            ));
+        upper =
+            rw (root, is)
+            (grind (
+              arith,
+              nat_tests,
+              s.f_min,
+              floor-le,
+              level,
+              temperature_pair-gap f s t,
+              temperature_pair-order f s t,
+            ));
         saturation = e;
       }
 
   pub pair-back :
       {warm : Warm} → IsWarm f t warm → (b : Bounds) → b.lower ≡ max (f.f_min * 10 ^ 7) warm.root →
       b.upper ≡ max (f.f_min * 10 ^ 7) (warm.root + 1) → b ≡ temperature_pair f t
-  pair-back is b l u = ap₂ (λ (x y : ℕ). record { lower = x; upper = y }) (l ∙ is.lower) (u ∙ is.upper)
+  pair-back is b l u =
+      ap₂ (λ (x y : ℕ). record { lower = x; upper = y }) (l ∙ is.lower) (u ∙ is.upper)
 
 abbrev none : Warm
 none = record { root = 0; saturation = 0 }
@@ -57,16 +79,21 @@ none = record { root = 0; saturation = 0 }
 module _ (f : Figures) where
   -- what is remembered at a place that has come up is right
   pub read-back : {memory : List Warm} {t : ℕ} (d : Warm) {warm : Warm} →
-      Remembers f memory → t < length memory → get_or memory t d ≡ warm → 0 < warm.saturation → IsWarm f t warm
-  read-back {memory} {t} d {warm} kept within e some = kept.each t warm (slice_get-get_or memory t d within ∙ ap Some e) some
+      Remembers f memory → t < length memory → get_or memory t d ≡ warm →
+      0 < warm.saturation → IsWarm f t warm
+  read-back {memory} {t} d {warm} kept within e some =
+      kept.each t warm (slice_get-get_or memory t d within ∙ ap Some e) some
 
   -- where none has come up nothing is remembered
   pub none-remembered : (n : ℕ) → Remembers f (replicate n none)
   none-remembered n = record { each = λ t warm is some. nothing t warm is some }
     where
-      nothing : (t : ℕ) (warm : Warm) → slice_get (replicate n none) t ≡ Some warm → 0 < warm.saturation → IsWarm f t warm
+      nothing :
+          (t : ℕ) (warm : Warm) → slice_get (replicate n none) t ≡ Some warm →
+          0 < warm.saturation → IsWarm f t warm
       nothing t warm is some =
-          let within : t < n = rw (length-replicate n none) at (slice_get_within (replicate n none) t warm is) in
+          let within : t < n =
+          rw (length-replicate n none) at (slice_get_within (replicate n none) t warm is) in
           let had = get_or_from_slice_get (replicate n none) t warm none is in
           let e : none ≡ warm = sym (get_or-replicate n t none none within) ∙ had in
           let zero : 0 ≡ warm.saturation = ap (λ (w : Warm). w.saturation) e in
@@ -77,13 +104,21 @@ module _ (f : Figures) where
       Remembers f memory → i < length memory → IsWarm f i warm → Remembers f (set memory i warm)
   given {memory} {i} {warm} kept within is = record { each = each }
     where
-      each : (t : ℕ) (w : Warm) → slice_get (set memory i warm) t ≡ Some w → 0 < w.saturation → IsWarm f t w
+      each :
+          (t : ℕ) (w : Warm) → slice_get (set memory i warm) t ≡ Some w →
+          0 < w.saturation → IsWarm f t w
       each t w e some =
-          let within' : t < length memory = rw (length-set memory i warm) at (slice_get_within (set memory i warm) t w e) in
-          let had : get_or (set memory i warm) t none ≡ w = get_or_from_slice_get (set memory i warm) t w none e in
+          let within' : t < length memory =
+          rw (length-set memory i warm) at (slice_get_within (set memory i warm) t w e) in
+          let had : get_or (set memory i warm) t none ≡ w =
+          get_or_from_slice_get (set memory i warm) t w none e in
           ⊎_elim
-          (λ (same : t ≡ i). let own : warm ≡ w = sym (get_or-set_at memory i t warm none same within) ∙ had in rw (← own, same) is)
-          (λ (other : t ≢ i). read-back none kept within' (sym (get_or-set_other memory i t warm none other) ∙ had) some)
+          (λ (same : t ≡ i).
+          let own : warm ≡ w = sym (get_or-set_at memory i t warm none same within) ∙ had in
+          rw (← own, same) is)
+          (λ (other : t ≢ i).
+          read-back none kept within'
+          (sym (get_or-set_other memory i t warm none other) ∙ had) some)
           (cases_eq t i)
 
 -- ---- of which tree a memory is
@@ -106,7 +141,8 @@ pub named-of :
 named-of is named = record { own = λ other qs same. sym (same-tree (sym is ∙ same)) ∙ named }
 
 pub same-kept :
-    {of : Option (ℕ × Parameters)} {tree : ℕ} {ps : Parameters} {f g : Figures} {memory : List Warm} →
+    {of : Option (ℕ × Parameters)} {tree : ℕ} {ps : Parameters} {f g : Figures}
+    {memory : List Warm} →
     of ≡ Some (tree, ps) → tree_of ps tree ≡ accepted f → IsOf of g → Remembers g memory →
     Remembers f memory
 same-kept {memory = memory} is named own kept =

@@ -22,4 +22,7 @@ pub pair-small :
 pair-small stand sound few h passes pair is =
     let own = enclosure.pair stand sound few h passes in
     let most = most_dose-le stand.figures.g_max h.air in
-    rw is (omega (arith, own.order, own.most, most, sound.g_max.1), omega (arith, own.most, most, sound.g_max.1))
+    rw is (
+      omega (arith, own.order, own.most, most, sound.g_max.1),
+      omega (arith, own.most, most, sound.g_max.1),
+    )

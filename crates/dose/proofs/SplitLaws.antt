@@ -38,4 +38,8 @@ module _ (ps : Parameters) (tree : ℕ) (age : Age) (first last ceiling : ℕ) (
       onward (run_of ps tree age first last ceiling) (λ stand. hour_by stand h)
       ≡ hour_dose_of ps tree age first last ceiling h
   unfolding hour_dose_of stand_for stand_by
-  split-is = simp (through {A = Stand} {B = Bounds}, through-tree {A = Stand} {B = Bounds}, through-both {A = Unit} {B = Stand} {C = Bounds})
+  split-is = simp (
+    through {A = Stand} {B = Bounds},
+    through-tree {A = Stand} {B = Bounds},
+    through-both {A = Unit} {B = Stand} {C = Bounds},
+  )

@@ -23,7 +23,9 @@ abbrev pub table_test : ℕ → List ℕ → Bool
 table_test x [] = true
 table_test x (t ∷ ts) = eqb t (computed x) && table_test (suc x) ts
 
-tested : (x : ℕ) (ts : List ℕ) → T (table_test x ts) → (i : ℕ) → i < length ts → get_or ts i 0 ≡ computed (x + i)
+tested :
+    (x : ℕ) (ts : List ℕ) → T (table_test x ts) → (i : ℕ) → i < length ts →
+    get_or ts i 0 ≡ computed (x + i)
 tested x [] h i l = absurd (not-suc-le-zero l)
 tested x (t ∷ ts) h zero l = grind (arith, nat_tests)
 tested x (t ∷ ts) h (suc i) l = grind (arith, nat_tests, suc-add, add-suc, (tested (suc x) ts))
@@ -31,4 +33,5 @@ tested x (t ∷ ts) h (suc i) l = grind (arith, nat_tests, suc-add, add-suc, (te
 pub entry_read :
     {x r : ℕ} {ts : List ℕ} → EntryRead ts x r → x ≤ highest_reading → T (table_test 0 ts) →
     r ≡ entry_of x
-entry_read {x} {r} {ts} h highest test = grind (arith, h.entry, tested 0 ts test x h.within, entry_of-is x highest)
+entry_read {x} {r} {ts} h highest test =
+    grind (arith, h.entry, tested 0 ts test x h.within, entry_of-is x highest)

@@ -29,17 +29,23 @@ all_same (pair ∷ rest) = same pair && all_same rest
 
 all_same_lem : (l : List (Frac × Frac)) → T (all_same l) → AllSame l
 all_same_lem [] h = tt
-all_same_lem (pair ∷ rest) h =
-    (record { cross = eqb→eq _ _ (and_l (same pair) (all_same rest) h) }, all_same_lem rest (and_r (same pair) (all_same rest) h))
+all_same_lem (pair ∷ rest) h = (
+  record { cross = eqb→eq _ _ (and_l (same pair) (all_same rest) h) },
+  all_same_lem rest (and_r (same pair) (all_same rest) h),
+)
 
 pub bench-cases : BenchCases
-unfolding phenology_of by_ramps by_dip falling deficit_of soil_water_of straight tried allowed temperature_at
+unfolding phenology_of by_ramps by_dip falling deficit_of soil_water_of straight tried allowed
+    temperature_at
 bench-cases = record {
   phenology = all_same_lem phenology_cases tt;
-  continental_spruce7_degrees = root_at-is continental_spruce 570 (omega arith) (greatest-tested continental_spruce 570 769800358 tt);
+  continental_spruce7_degrees =
+      root_at-is continental_spruce 570 (omega arith)
+      (greatest-tested continental_spruce 570 769800358 tt);
   beech5_degrees = λ k. record { cross = refl };
   beech16_degrees = λ k.
-      ≼-antisym (temperature_at-le beech beech-sound 660 k) (temperature_at-optimum beech beech-sound k);
+      ≼-antisym (temperature_at-le beech beech-sound 660 k)
+      (temperature_at-optimum beech beech-sound k);
   readings = all_same_lem reading_cases tt;
   radiation50 = λ h e. rw e;
   radiation51 = λ h e. rw e;

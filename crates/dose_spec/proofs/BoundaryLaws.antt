@@ -3,7 +3,8 @@
 use Rattle.std.proofs.lemmas.Bool.Decides.{nat_tests}
 use mathlib.Core.Path.{◌≡◌, ap, ◌∙◌}
 use Prim.Native.Nat.{ℕ, ◌+◌, ◌-◌, ◌*◌, ◌/◌, ◌^◌, ◌≤◌, ◌<◌}
-use native.Mathlib.Nat.{le_trans, mul-le-mul_left, mul-le-mul_right, le_of_mul-le-mul_right, div-mul-le_self, lt-div-mul-add}
+use native.Mathlib.Nat.{le_trans, mul-le-mul_left, mul-le-mul_right, le_of_mul-le-mul_right}
+use native.Mathlib.Nat.{div-mul-le_self, lt-div-mul-add}
 use native.Mathlib.Omega.{arith}
 use lib.Pow.{pow-add}
 use Rattle.exact.specs.Frac.{natural, ◌over◌, ◌≼◌}
@@ -27,23 +28,29 @@ module _ (k leaf wind : ℕ) where
       0 < wind → 10 ^ (2 * k) * leaf ≤ root_up_at k leaf wind * root_up_at k leaf wind * (10 * wind)
   unfolding root_up_at
   root_up_at-reaches h =
-      least-reaches (λ r. r * r * (10 * wind)) (10 ^ (2 * k) * leaf) (10 ^ (2 * k) * leaf) (reached (10 ^ (2 * k) * leaf) wind h)
+      least-reaches (λ r. r * r * (10 * wind)) (10 ^ (2 * k) * leaf) (10 ^ (2 * k) * leaf)
+      (reached (10 ^ (2 * k) * leaf) wind h)
 
-  root_up_at-least : (r : ℕ) → 10 ^ (2 * k) * leaf ≤ r * r * (10 * wind) → root_up_at k leaf wind ≤ r
+  root_up_at-least :
+      (r : ℕ) → 10 ^ (2 * k) * leaf ≤ r * r * (10 * wind) → root_up_at k leaf wind ≤ r
   unfolding root_up_at
-  root_up_at-least r h = reaches-least (λ t. t * t * (10 * wind)) (10 ^ (2 * k) * leaf) (10 ^ (2 * k) * leaf) r h
+  root_up_at-least r h =
+      reaches-least (λ t. t * t * (10 * wind)) (10 ^ (2 * k) * leaf) (10 ^ (2 * k) * leaf) r h
 
 scale : (a b n w r : ℕ) → a * a * n ≤ r * r * w → a * b * (a * b) * n ≤ b * r * (b * r) * w
 scale a b n w r h = omega (arith, mul-le-mul_left (b * b) h)
 
 module _ (leaf wind : ℕ) (blows : 0 < wind) where
   root_up_at-next : (k j : ℕ) → root_up_at (k + j) leaf wind ≤ 10 ^ j * root_up_at k leaf wind
-  root_up_at-next k j = grind (arith, nat_tests, root_up_at-least, twice, pow-add, scale, root_up_at-reaches)
+  root_up_at-next k j =
+      grind (arith, nat_tests, root_up_at-least, twice, pow-add, scale, root_up_at-reaches)
 
-  further : (k j : ℕ) → root_up_at (k + j) leaf wind * 10 ^ k ≤ root_up_at k leaf wind * 10 ^ (k + j)
+  further :
+      (k j : ℕ) → root_up_at (k + j) leaf wind * 10 ^ k ≤ root_up_at k leaf wind * 10 ^ (k + j)
   further k j = rw (pow-add 10 k j) (omega (arith, mul-le-mul_right (10 ^ k) (root_up_at-next k j)))
 
-  pub root_up_at-anti : {k l : ℕ} → k ≤ l → root_up_at l leaf wind over 10 ^ l ≼ root_up_at k leaf wind over 10 ^ k
+  pub root_up_at-anti :
+      {k l : ℕ} → k ≤ l → root_up_at l leaf wind over 10 ^ l ≼ root_up_at k leaf wind over 10 ^ k
   root_up_at-anti {k} {l} h =
       let all : k + (l - k) ≡ l = omega arith in
       over-le (ten-pos l) (ten-pos k) (rw all at (further k (l - k)))
@@ -86,36 +93,51 @@ module _ (leaf wind : ℕ) where
   root_low-under : root_low leaf wind * root_low leaf wind * wind_read wind ≤ leaf * 10 ^ 13
   unfolding root_low
   root_low-under =
-      le_trans (mul-le-mul_right (wind_read wind) (square_root-under (leaf * 10 ^ 13 / wind_read wind)))
+      le_trans (mul-le-mul_right (wind_read wind)
+      (square_root-under (leaf * 10 ^ 13 / wind_read wind)))
       (div-mul-le_self (leaf * 10 ^ 13) (wind_read wind))
 
-  root_low-over : leaf * 10 ^ 13 ≤ (root_low leaf wind + 1) * (root_low leaf wind + 1) * wind_read wind
+  root_low-over :
+      leaf * 10 ^ 13 ≤ (root_low leaf wind + 1) * (root_low leaf wind + 1) * wind_read wind
   unfolding root_low
   root_low-over =
       let n : ℕ = leaf * 10 ^ 13 / wind_read wind in
-      le_trans (omega (arith, lt-div-mul-add {a = leaf * 10 ^ 13} (wind-blows wind))) (mul-le-mul_right (wind_read wind) (square_root-over n))
+      le_trans (omega (arith, lt-div-mul-add {a = leaf * 10 ^ 13} (wind-blows wind)))
+      (mul-le-mul_right (wind_read wind) (square_root-over n))
 
-  between : (r s t : ℕ) → r * r * wind_read wind ≤ leaf * 10 ^ 13 → t * t * leaf ≤ s * s * (10 * wind_read wind) → r * t ≤ s * 10 ^ 7
+  between :
+      (r s t : ℕ) → r * r * wind_read wind ≤ leaf * 10 ^ 13 →
+      t * t * leaf ≤ s * s * (10 * wind_read wind) → r * t ≤ s * 10 ^ 7
   between r s t h k =
       square_le
-      (le_of_mul-le-mul_right {k = 10 * wind_read wind} (omega (arith, mul-le-mul_right (10 * (t * t)) h, mul-le-mul_right (10 ^ 14) k)) (omega arith))
+      (le_of_mul-le-mul_right {k = 10 * wind_read wind}
+      (omega (arith, mul-le-mul_right (10 * (t * t)) h, mul-le-mul_right (10 ^ 14) k))
+      (omega arith))
 
-  pub root_low-le : (k : ℕ) → root_low leaf wind over 10 ^ 7 ≼ root_up_at k leaf (wind_read wind) over 10 ^ k
+  pub root_low-le :
+      (k : ℕ) → root_low leaf wind over 10 ^ 7 ≼ root_up_at k leaf (wind_read wind) over 10 ^ k
   root_low-le k =
       over-le (ten-pos 7) (ten-pos k)
       (between (root_low leaf wind) (root_up_at k leaf (wind_read wind)) (10 ^ k) root_low-under
       (rw (twice k) at (root_up_at-reaches k leaf (wind_read wind) (wind-blows wind))))
 
-  pub root_up_at-le : root_up_at 7 leaf (wind_read wind) over 10 ^ 7 ≼ (root_low leaf wind + 1) over 10 ^ 7
+  pub root_up_at-le :
+      root_up_at 7 leaf (wind_read wind) over 10 ^ 7 ≼ (root_low leaf wind + 1) over 10 ^ 7
   root_up_at-le =
       over-le (ten-pos 7) (ten-pos 7)
-      (mul-le-mul_right (10 ^ 7) (root_up_at-least 7 leaf (wind_read wind) (root_low leaf wind + 1) (omega (arith, root_low-over))))
+      (mul-le-mul_right (10 ^ 7)
+      (root_up_at-least 7 leaf (wind_read wind) (root_low leaf wind + 1)
+      (omega (arith, root_low-over))))
 
   -- a wind is read as 10 cm/s at least
   root_low-lt : (top : ℕ) → leaf * 10 ^ 12 < top * top → root_low leaf wind < top
   root_low-lt top h =
       let read : 10 ≤ wind_read wind = omega arith in
-      square-lt (omega (arith, root_low-under, mul-le-mul_left (root_low leaf wind * root_low leaf wind) read))
+      square-lt (omega (
+        arith,
+        root_low-under,
+        mul-le-mul_left (root_low leaf wind * root_low leaf wind) read,
+      ))
 
   pub root_low-200 : leaf ≤ 200 → root_low leaf wind + 1 ≤ 14142136
   root_low-200 h = omega (arith, root_low-lt 14142136 (omega arith))

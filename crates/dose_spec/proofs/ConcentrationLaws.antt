@@ -9,7 +9,9 @@ use lib.IntN.{ℤ}
 use Rattle.exact.specs.Frac.{Frac, natural, ◌over◌, ◌⊗◌, ◌≼◌, ◌≈◌}
 use Rattle.exact.specs.Rounding.{round_up, round_down, times_up, times_down}
 use Rattle.exact.proofs.FracLaws.{≼_refl, ≼_trans, ⊗-mono, over-mono}
-use Rattle.exact.proofs.RoundingLaws.{round_down-same, round_up-same, times_down-under, times_up-over, times-order, times-next, times_up-most, times_down-mono, times_up-mono}
+use Rattle.exact.proofs.RoundingLaws.{round_down-same, round_up-same, times_down-under}
+use Rattle.exact.proofs.RoundingLaws.{times_up-over, times-order, times-next, times_up-most}
+use Rattle.exact.proofs.RoundingLaws.{times_down-mono, times_up-mono}
 use Rattle.trees.specs.declared.Figures.{Figures}
 use Rattle.frames.specs.declared.records.Air.{Air}
 use Rattle.frames.specs.declared.records.Air.TheVariants.{Deficit, Pressure, Humidity}
@@ -49,9 +51,18 @@ module _ (h : Hour) where
     pressed-is : natural 18000 ⊗ concentration h ≈ pressed
     unfolding concentration
     pressed-is =
-        let gas : max 1 (831447 over 100000 ⊗ kelvin h.temperature).num ≡ 450 * (92383 * (2 * x + 4463)) = omega (arith, gas-is h.temperature) in
+        let gas : max 1 (831447 over 100000 ⊗ kelvin h.temperature).num
+        ≡ 450 * (92383 * (2 * x + 4463)) =
+        omega (arith, gas-is h.temperature) in
         let below : max 1 (92383 * (2 * x + 4463)) ≡ 92383 * (2 * x + 4463) = omega arith in
-        rw e (record { cross = omega (arith, ap (λ (m : ℕ). tenths_or 0 h.ozone * p * m) gas, ap (λ (m : ℕ). tenths_or 0 h.ozone * p * m) below) })
+        rw e
+        (record {
+          cross = omega (
+            arith,
+            ap (λ (m : ℕ). tenths_or 0 h.ozone * p * m) gas,
+            ap (λ (m : ℕ). tenths_or 0 h.ozone * p * m) below,
+          );
+        })
 
     pub pressed-down : concentration_low h ≡ round_down pressed
     unfolding concentration_low times_down
@@ -102,10 +113,19 @@ top_of (Deficit vpd) = 374040000
 top_of (Pressure vpd p) = most_concentration
 top_of (Humidity rh) = 374040000
 
-pub concentration_up-most : (h : Hour) → HourIn h → (a : Air) → h.air ≡ a → concentration_up h ≤ top_of a
-concentration_up-most h range a e = grind (arith, (ozone-facts h).plain, (ozone-facts h).humid, range.ozone, concentration_up-le h range)
+pub concentration_up-most :
+    (h : Hour) → HourIn h → (a : Air) → h.air ≡ a → concentration_up h ≤ top_of a
+concentration_up-most h range a e = grind (
+  arith,
+  (ozone-facts h).plain,
+  (ozone-facts h).humid,
+  range.ozone,
+  concentration_up-le h range,
+)
 
-pub concentration_up-top : (f : Figures) (h : Hour) → HourIn h → (a : Air) → h.air ≡ a → concentration_up h ≤ top_in (is_steep f a)
+pub concentration_up-top :
+    (f : Figures) (h : Hour) → HourIn h → (a : Air) → h.air ≡ a →
+    concentration_up h ≤ top_in (is_steep f a)
 concentration_up-top f h range a e = grind (arith, concentration_up-most h range a e)
 
 -- ---- with none, and with a higher reading of ozone
@@ -117,14 +137,19 @@ none-le h = record { cross = omega arith }
 pub concentration_low-none : (h : Hour) → concentration_low (with_ozone 0 h) ≡ 0
 unfolding concentration_up
 concentration_low-none h =
-    omega (arith, concentration-order (with_ozone 0 h), times_up-most 18000 (concentration (with_ozone 0 h)) 0 (none-le h))
+    omega (
+      arith,
+      concentration-order (with_ozone 0 h),
+      times_up-most 18000 (concentration (with_ozone 0 h)) 0 (none-le h),
+    )
 
 module _ (h : Hour) {m n : ℕ} (more : m ≤ n) where
   pub concentration-mono : concentration (with_ozone m h) ≼ concentration (with_ozone n h)
   unfolding concentration
   concentration-mono = ⊗-mono (over-mono 10 more) (≼_refl (per_ppb h.air h.temperature))
 
-  pub concentration_low-mono : concentration_low (with_ozone m h) ≤ concentration_low (with_ozone n h)
+  pub concentration_low-mono :
+      concentration_low (with_ozone m h) ≤ concentration_low (with_ozone n h)
   unfolding concentration_low
   concentration_low-mono = times_down-mono 18000 concentration-mono
 

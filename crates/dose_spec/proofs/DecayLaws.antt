@@ -3,7 +3,8 @@
 use Rattle.std.proofs.lemmas.Bool.Decides.{nat_tests}
 use mathlib.Core.Path.{◌≡◌}
 use Prim.Native.Nat.{ℕ, ◌+◌, ◌*◌, ◌/◌, ◌%◌, ◌^◌, ◌≤◌, ◌<◌}
-use native.Mathlib.Nat.{mul-le-mul_left, mul-le-mul_right, mul-le-mul, div-mul-le_self, lt-div-mul-add}
+use native.Mathlib.Nat.{mul-le-mul_left, mul-le-mul_right, mul-le-mul, div-mul-le_self}
+use native.Mathlib.Nat.{lt-div-mul-add}
 use native.Mathlib.Omega.{arith}
 use lib.Dec.{lit<, lit≤}
 use Rattle.exact.specs.Frac.{◌over◌, ◌⊗◌, ◌≼◌}
@@ -34,22 +35,29 @@ decay_entry-high n = times_down-next (10 ^ 9) (decay_at digit_terms n 10000) (li
 product_le : (a b : ℕ) → a ≤ 10 ^ 9 → b ≤ 10 ^ 9 → a * b / 10 ^ 9 ≤ 10 ^ 9
 product_le a b p q = omega (arith, mul-le-mul p q)
 
-product_high : (a b r e f : ℕ) → a ≤ 10 ^ 9 → b ≤ 10 ^ 9 → e * f ≤ 10 ^ 9 → a * b < r * 10 ^ 9 + 10 ^ 9 → (a + e) * (b + f) ≤ (r + (e + f + 2)) * 10 ^ 9
+product_high :
+    (a b r e f : ℕ) → a ≤ 10 ^ 9 → b ≤ 10 ^ 9 → e * f ≤ 10 ^ 9 → a * b < r * 10 ^ 9 + 10 ^ 9 →
+    (a + e) * (b + f) ≤ (r + (e + f + 2)) * 10 ^ 9
 product_high a b r e f p q s h = omega (arith, mul-le-mul_right f p, mul-le-mul_left e q)
 
 near_times :
-    {j k x y a b e f : ℕ} → a ≤ 10 ^ 9 → b ≤ 10 ^ 9 → e * f ≤ 10 ^ 9 → NearDecay j x a e → NearDecay k y b f →
-    NearDecay (j + k) (x + y) (a * b / 10 ^ 9) (e + f + 2)
+    {j k x y a b e f : ℕ} → a ≤ 10 ^ 9 → b ≤ 10 ^ 9 → e * f ≤ 10 ^ 9 →
+    NearDecay j x a e → NearDecay k y b f → NearDecay (j + k) (x + y) (a * b / 10 ^ 9) (e + f + 2)
 near_times {j} {k} {x} {y} {a} {b} {e} {f} p q s m l =
     record {
       low =
           λ i.
-          ≼_trans {y = a over 10 ^ 9 ⊗ b over 10 ^ 9} (omega (arith, div-mul-le_self (a * b) (10 ^ 9)))
+          ≼_trans {y = a over 10 ^ 9 ⊗ b over 10 ^ 9}
+          (omega (arith, div-mul-le_self (a * b) (10 ^ 9)))
           (≼_trans (⊗-mono (m.low i) (l.low i)) (decay_at-sum-ge 10000 (lit< tt) i x y));
       high =
           ≼_trans (decay_at-sum-le 10000 (lit< tt) j k x y)
           (≼_trans {y = (a + e) over 10 ^ 9 ⊗ (b + f) over 10 ^ 9} (⊗-mono m.high l.high)
-          (omega (arith, product_high a b (a * b / 10 ^ 9) e f p q s (lt-div-mul-add {a = a * b} {b = 10 ^ 9} (lit< tt)))));
+          (omega (
+            arith,
+            product_high a b (a * b / 10 ^ 9) e f p q s
+                (lt-div-mul-add {a = a * b} {b = 10 ^ 9} (lit< tt)),
+          )));
     }
 
 -- ---- the three digits
@@ -75,5 +83,7 @@ module _ (n : ℕ) (small : n < 650000) where
   unfolding decay_low
   decay_low-near =
       let two = near_times (decay_entry-le _) (decay_entry-le _) (lit≤ tt) ones hundreds in
-      let both-le = product_le (decay_entry (n % 100)) (decay_entry (100 * (n / 100 % 100))) (decay_entry-le _) (decay_entry-le _) in
+      let both-le =
+      product_le (decay_entry (n % 100)) (decay_entry (100 * (n / 100 % 100))) (decay_entry-le _)
+      (decay_entry-le _) in
       rw digits-is at (near_times both-le (decay_entry-le _) (lit≤ tt) two myriads)

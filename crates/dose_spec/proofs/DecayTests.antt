@@ -5,7 +5,8 @@ use mathlib.Core.Bool.{Bool, true, ◌&&◌}
 use mathlib.Core.List.{List, [], ◌∷◌}
 use mathlib.Core.Logic.{⊎_elim}
 use Prim.Native.Nat.{ℕ, zero, suc, ◌+◌, ◌*◌, ◌/◌, ◌^◌, ◌≤◌, ◌<◌}
-use native.Mathlib.Nat.{zero-add, add-suc, suc-add, le_of_suc-le-suc, not-suc-le-zero, eq-or-lt_of_le, mul-le-mul_left, one-mul}
+use native.Mathlib.Nat.{zero-add, add-suc, suc-add, le_of_suc-le-suc, not-suc-le-zero}
+use native.Mathlib.Nat.{eq-or-lt_of_le, mul-le-mul_left, one-mul}
 use native.Mathlib.Omega.{arith}
 use lib.Dec.{T, eqb, eqb→eq, lit<, lit≤}
 use lib.ListN.{get_or}
@@ -32,34 +33,47 @@ every_test place d (suc m) [] = eqb 0 (rounded (place * d)) && every_test place 
 every_test place d (suc m) (e ∷ es) = eqb e (rounded (place * d)) && every_test place (suc d) m es
 
 every-tested :
-    (place d m : ℕ) (es : List ℕ) → T (every_test place d m es) → (i : ℕ) → i < m → get_or es i 0 ≡ rounded (place * (d + i))
+    (place d m : ℕ) (es : List ℕ) → T (every_test place d m es) → (i : ℕ) → i < m →
+    get_or es i 0 ≡ rounded (place * (d + i))
 every-tested place d zero es h i l = absurd (not-suc-le-zero l)
 every-tested place d (suc m) [] h zero l = grind (arith, nat_tests, eqb→eq)
-every-tested place d (suc m) [] h (suc i) l = rw (add-suc, ← (suc-add d i)) (every-tested place (suc d) m [] (grind (arith, nat_tests)) i (le_of_suc-le-suc l))
+every-tested place d (suc m) [] h (suc i) l =
+    rw (add-suc, ← (suc-add d i))
+    (every-tested place (suc d) m [] (grind (arith, nat_tests)) i (le_of_suc-le-suc l))
 every-tested place d (suc m) (e ∷ es) h zero l = grind (arith, nat_tests, eqb→eq)
-every-tested place d (suc m) (e ∷ es) h (suc i) l = rw (add-suc, ← (suc-add d i)) (every-tested place (suc d) m es (grind (arith, nat_tests)) i (le_of_suc-le-suc l))
+every-tested place d (suc m) (e ∷ es) h (suc i) l =
+    rw (add-suc, ← (suc-add d i))
+    (every-tested place (suc d) m es (grind (arith, nat_tests)) i (le_of_suc-le-suc l))
 
 module _ (place : ℕ) (table : List ℕ) where
   abbrev pub table_test : Bool
   table_test = every_test place 0 100 table
 
   pub table-tested : T table_test → IsDecayTable place table
-  table-tested h = record { entries = λ d l. rw decay_entry-is (rw zero-add at (every-tested place 0 100 table h d l)) }
+  table-tested h = record {
+    entries = λ d l. rw decay_entry-is (rw zero-add at (every-tested place 0 100 table h d l));
+  }
 
 -- ---- each digit of a place, below m
 
 abbrev digits_test : ℕ → ℕ → Bool
 digits_test place zero = true
-digits_test place (suc m) = rest_test (place * m) 10000 (rounded (place * m)) (10 ^ 9) digit_terms && digits_test place m
+digits_test place (suc m) =
+    rest_test (place * m) 10000 (rounded (place * m)) (10 ^ 9) digit_terms && digits_test place m
 
 digits-tested :
-    (place m : ℕ) → T (digits_test place m) → (i : ℕ) → i < m → T (rest_test (place * i) 10000 (rounded (place * i)) (10 ^ 9) digit_terms)
+    (place m : ℕ) → T (digits_test place m) → (i : ℕ) → i < m →
+    T (rest_test (place * i) 10000 (rounded (place * i)) (10 ^ 9) digit_terms)
 digits-tested place zero h i l = absurd (not-suc-le-zero l)
 digits-tested place (suc m) h i l =
-    ⊎_elim (λ e. rw e (grind (arith, nat_tests))) (λ s. digits-tested place m (grind (arith, nat_tests)) i s) (eq-or-lt_of_le (le_of_suc-le-suc l))
+    ⊎_elim (λ e. rw e (grind (arith, nat_tests)))
+    (λ s. digits-tested place m (grind (arith, nat_tests)) i s)
+    (eq-or-lt_of_le (le_of_suc-le-suc l))
 
-module _ (place m : ℕ) (place-pos : 0 < place) (near : place * m ≤ 10000 * suc digit_terms) (test : T (digits_test place m)) where
-  digit-ge : (i : ℕ) → i < m → (k : ℕ) → decay_entry (place * i) over 10 ^ 9 ≼ decay_at k (place * i) 10000
+module _ (place m : ℕ) (place-pos : 0 < place) (near : place * m ≤ 10000 * suc digit_terms)
+    (test : T (digits_test place m)) where
+  digit-ge :
+      (i : ℕ) → i < m → (k : ℕ) → decay_entry (place * i) over 10 ^ 9 ≼ decay_at k (place * i) 10000
   digit-ge i l k =
       rw (decay_entry-is (place * i))
       (decay_at-ge (place * i) 10000 (rounded (place * i)) (10 ^ 9) (lit< tt) (lit< tt) digit_terms
@@ -71,10 +85,12 @@ pub ones-ge : (i : ℕ) → i < 100 → (k : ℕ) → decay_entry i over 10 ^ 9 
 unfolding common_den common_num
 ones-ge i l k = rw (one-mul) at (digit-ge 1 100 (lit< tt) (lit≤ tt) tt i l k)
 
-pub hundreds-ge : (i : ℕ) → i < 100 → (k : ℕ) → decay_entry (100 * i) over 10 ^ 9 ≼ decay_at k (100 * i) 10000
+pub hundreds-ge :
+    (i : ℕ) → i < 100 → (k : ℕ) → decay_entry (100 * i) over 10 ^ 9 ≼ decay_at k (100 * i) 10000
 unfolding common_den common_num
 hundreds-ge = digit-ge 100 100 (lit< tt) (lit≤ tt) tt
 
-pub myriads-ge : (i : ℕ) → i < 65 → (k : ℕ) → decay_entry (10000 * i) over 10 ^ 9 ≼ decay_at k (10000 * i) 10000
+pub myriads-ge :
+    (i : ℕ) → i < 65 → (k : ℕ) → decay_entry (10000 * i) over 10 ^ 9 ≼ decay_at k (10000 * i) 10000
 unfolding common_den common_num
 myriads-ge = digit-ge 10000 65 (lit< tt) (lit≤ tt) tt

@@ -22,7 +22,8 @@ use Rattle.frames.specs.declared.records.Air.{Air}
 use Rattle.frames.specs.declared.records.Air.TheVariants.{Deficit, Pressure, Humidity}
 use Rattle.dose_spec.specs.HumidityPair.{entry_k}
 use Rattle.dose_spec.proofs.FactorLaws.{factor-mono, factor-low, factor-high, factor-gap}
-use Rattle.dose_spec.specs.Deficit.{air_vpd_at, HasVpd, deficit_at, air_deficits, deficit_low, deficit_up}
+use Rattle.dose_spec.specs.Deficit.{air_vpd_at, HasVpd, deficit_at, air_deficits, deficit_low}
+use Rattle.dose_spec.specs.Deficit.{deficit_up}
 use Rattle.dose_spec.specs.Conductance.{above_of}
 use Rattle.dose_spec.proofs.BudgetLaws.{is_steep, width_in}
 
@@ -41,7 +42,8 @@ module _ (f : Figures) (s : Sound f) where
   unfolding deficit_at
   deficit_at-le k a x = (deficit-limits f s (air_vpd_at k a x)).below
 
-  pub deficit_at-mono : (a : Air) (x : ℕ) → HasVpd a x → {k l : ℕ} → k ≤ l → deficit_at k f a x ≼ deficit_at l f a x
+  pub deficit_at-mono :
+      (a : Air) (x : ℕ) → HasVpd a x → {k l : ℕ} → k ≤ l → deficit_at k f a x ≼ deficit_at l f a x
   unfolding deficit_at
   deficit_at-mono a x has j = grind (arith, ≼_refl, factor-mono f s)
 
@@ -58,7 +60,8 @@ module _ (f : Figures) (s : Sound f) where
   unfolding deficit_at deficit_low
   deficit-low a x has = grind (arith, low-is, factor-low f s)
 
-  pub deficit-high : (a : Air) (x : ℕ) → HasVpd a x → (k : ℕ) → deficit_at k f a x ≼ deficit_up f a x
+  pub deficit-high :
+      (a : Air) (x : ℕ) → HasVpd a x → (k : ℕ) → deficit_at k f a x ≼ deficit_up f a x
   unfolding deficit_at deficit_up
   deficit-high a x has k = grind (arith, high_is, factor-high f s)
 
@@ -73,20 +76,34 @@ module _ (f : Figures) (s : Sound f) where
   -- ---- a number times them
 
   pub deficit-order :
-      (a : Air) (x : ℕ) → HasVpd a x → (l u : ℕ) → l ≤ u → times_down l (deficit_low f a x) ≤ times_up u (deficit_up f a x)
+      (a : Air) (x : ℕ) → HasVpd a x → (l u : ℕ) → l ≤ u →
+      times_down l (deficit_low f a x) ≤ times_up u (deficit_up f a x)
   deficit-order a x has l u j =
-      le_trans (times-order l u (deficit_low f a x) j) (times_up-mono u (≼_trans (deficit-low a x has) (deficit-high a x has entry_k)))
+      le_trans (times-order l u (deficit_low f a x) j)
+      (times_up-mono u (≼_trans (deficit-low a x has) (deficit-high a x has entry_k)))
 
   -- the fall over 5·10⁻⁶ Pa, by the deficit's range
   steep-width :
-      (t : Bool) → ltb (f.vpd_min - f.vpd_max) 13 ≡ t → (10 ^ 9 + 1) * (100 - f.f_min) ≤ width_in t * (20000000 * (f.vpd_min - f.vpd_max))
+      (t : Bool) → ltb (f.vpd_min - f.vpd_max) 13 ≡ t →
+      (10 ^ 9 + 1) * (100 - f.f_min) ≤ width_in t * (20000000 * (f.vpd_min - f.vpd_max))
   steep-width t e = grind (arith, nat_tests, s.vpd, s.f_min)
 
   module _ (x l u c : ℕ) (j : u ≤ l + c) (few : u ≤ 10 ^ 9 + 1) where
-    pub deficit-gap : (a : Air) → times_up u (deficit_up f a x) ≤ times_down l (deficit_low f a x) + (c + width_in (is_steep f a) + 1)
+    pub deficit-gap :
+        (a : Air) →
+        times_up u (deficit_up f a x)
+        ≤ times_down l (deficit_low f a x) + (c + width_in (is_steep f a) + 1)
     unfolding deficit_low deficit_up
     deficit-gap (Deficit vpd) =
-        omega (arith, times-gap l u (lower_factor f (air_deficits (Deficit vpd) x)) c (deficit_low-le (Deficit vpd) x) j)
+        omega (
+          arith,
+          times-gap l u (lower_factor f (air_deficits (Deficit vpd) x)) c
+              (deficit_low-le (Deficit vpd) x) j,
+        )
     deficit-gap (Pressure vpd p) =
-        omega (arith, times-gap l u (lower_factor f (air_deficits (Pressure vpd p) x)) c (deficit_low-le (Pressure vpd p) x) j)
+        omega (
+          arith,
+          times-gap l u (lower_factor f (air_deficits (Pressure vpd p) x)) c
+              (deficit_low-le (Pressure vpd p) x) j,
+        )
     deficit-gap (Humidity rh) = factor-gap f s rh x l u c _ j few (steep-width _ refl)

@@ -34,14 +34,16 @@ tree-limited : (tree : ℕ) (f : Figures) → figures_of tree ≡ Some f → Lim
 tree-limited tree f e = record {
   sound = figures-sound tree f e;
   g_max =
-      figures-all (λ g. g.g_max ≤ 265) (omega arith) (omega arith) (omega arith) (omega arith) (omega arith) (omega arith) tree f e;
+      figures-all (λ g. g.g_max ≤ 265) (omega arith) (omega arith) (omega arith) (omega arith)
+      (omega arith) (omega arith) tree f e;
   y = figures-all (λ g. g.y ≡ 1) refl refl refl refl refl refl tree f e;
   gap = figures-all (λ g. gap_most g ≡ 2) refl refl refl refl refl refl tree f e;
 }
 
 -- ---- a measured tree
 
-measured-limited : (ps : Parameters) → parameter_out ps ≡ false → MeasuredLimited (measured_figures ps)
+measured-limited :
+    (ps : Parameters) → parameter_out ps ≡ false → MeasuredLimited (measured_figures ps)
 measured-limited ps e = grind (arith, nat_tests, parameters-sound, most_dose-le)
 
 -- ---- any tree that has figures
@@ -58,7 +60,8 @@ pub record TreeNamed (ps : Parameters) (tree : ℕ) (f : Figures) : Type 0 where
   pub measured : eqb tree 7 ≡ true → parameter_out ps ≡ false
   pub sound : Sound f
 
-pub tree-named : (ps : Parameters) (tree : ℕ) (f : Figures) → tree_of ps tree ≡ accepted f → TreeNamed ps tree f
+pub tree-named :
+    (ps : Parameters) (tree : ℕ) (f : Figures) → tree_of ps tree ≡ accepted f → TreeNamed ps tree f
 tree-named ps tree f e =
     let named = figures-named ps tree f e in
     grind (arith, nat_tests, named.passed, named.chosen, figures-in-sound ps tree f)
@@ -83,4 +86,11 @@ answered ps age tree first last ceiling h pair e =
     }
 
 pub enclosure : Enclosure
-enclosure = record { trees = tree-limited; measured = measured-limited; hour = hour-enclosed; ozone = ozone-grows; pair = λ stand s few h passed. pair-enclosed stand s h passed few; answer = answered }
+enclosure = record {
+  trees = tree-limited;
+  measured = measured-limited;
+  hour = hour-enclosed;
+  ozone = ozone-grows;
+  pair = λ stand s few h passed. pair-enclosed stand s h passed few;
+  answer = answered;
+}

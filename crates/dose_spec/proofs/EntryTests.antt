@@ -14,4 +14,5 @@ pub entry-rounded :
 unfolding entry_k celsius exponent common_num common_den
 entry-rounded x h =
     signed-rounded (exponent (celsius x))
-    (all_from-each (λ (n : ℕ). signed_test (exponent (celsius n))) 0 1101 tt x (omega arith) (omega arith))
+    (all_from-each (λ (n : ℕ). signed_test (exponent (celsius n))) 0 1101 tt x
+    (omega arith) (omega arith))

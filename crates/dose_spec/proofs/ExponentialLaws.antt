@@ -46,7 +46,8 @@ module _ (y : Frac) (under : y ≺ natural 4) where
       exp_at k (plus y) ≼ series_at (power_at k) (y.num * m + 1) (y.den * m)
   unfolding exp_at
   plus-le m k m-pos far =
-      growth-le y (power_at k) (power_at-under k) m m-pos (omega (arith, far, mul-le-mul_right y.den (power_at-ge k)))
+      growth-le y (power_at k) (power_at-under k) m m-pos
+      (omega (arith, far, mul-le-mul_right y.den (power_at-ge k)))
 
 pub exp_at-anti : (y : Signed) → Under 4 y → {k l : ℕ} → k ≤ l → exp_at l y ≼ exp_at k y
 unfolding exp_at

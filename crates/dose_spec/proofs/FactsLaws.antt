@@ -23,7 +23,8 @@ module _ (x : ℕ) (highest : x ≤ highest_reading) where
 
   saturation-falls : (k l : ℕ) → k ≤ l → saturation_at l x ≼ saturation_at k x
   unfolding saturation_at
-  saturation-falls k l h = ⊗-mono (≼_refl (611 over 1000)) (exp_at-anti (exponent (celsius x)) rounded.under h)
+  saturation-falls k l h =
+      ⊗-mono (≼_refl (611 over 1000)) (exp_at-anti (exponent (celsius x)) rounded.under h)
 
   saturation-facts : SaturationFacts x
   unfolding saturation_at
@@ -42,13 +43,18 @@ module _ (h : ℕ) where
   dryness-is = record { cross = omega arith }
 
   module _ (x : ℕ) (highest : x ≤ highest_reading) where
-    vpd-mono : {y z : Frac} → y ≼ z → natural 1000 ⊗ (dryness h ⊗ y) ≼ natural 1000 ⊗ (dryness h ⊗ z)
+    vpd-mono :
+        {y z : Frac} → y ≼ z → natural 1000 ⊗ (dryness h ⊗ y) ≼ natural 1000 ⊗ (dryness h ⊗ z)
     vpd-mono p = ⊗-mono (≼_refl (natural 1000)) (⊗-mono (≼_refl (dryness h)) p)
 
-    lower-le : (deficit_pair h x).lower over units_per_kpa ≼ natural 1000 ⊗ ((1000 - h) over 1000 ⊗ entry_of x over units_per_kpa)
+    lower-le :
+        (deficit_pair h x).lower over units_per_kpa
+        ≼ natural 1000 ⊗ ((1000 - h) over 1000 ⊗ entry_of x over units_per_kpa)
     lower-le = record { cross = omega arith }
 
-    upper-ge : natural 1000 ⊗ ((1000 - h) over 1000 ⊗ (entry_of x + 1) over units_per_kpa) ≼ (deficit_pair h x).upper over units_per_kpa
+    upper-ge :
+        natural 1000 ⊗ ((1000 - h) over 1000 ⊗ (entry_of x + 1) over units_per_kpa)
+        ≼ (deficit_pair h x).upper over units_per_kpa
     upper-ge = record { cross = omega arith }
 
     vpd-facts : VpdFacts h x
@@ -57,12 +63,17 @@ module _ (h : ℕ) where
         let facts = saturation-facts x highest in
         record {
           falls = λ k l j. vpd-mono (saturation-falls x highest k l j);
-          low = λ k. ≼_trans lower-le (⊗-mono (≼_refl (natural 1000)) (⊗-mono (≈-ge dryness-is) (facts.low k)));
-          high = ≼_trans (⊗-mono (≼_refl (natural 1000)) (⊗-mono (≈-le dryness-is) facts.high)) upper-ge;
+          low = λ k.
+              ≼_trans lower-le
+              (⊗-mono (≼_refl (natural 1000)) (⊗-mono (≈-ge dryness-is) (facts.low k)));
+          high =
+              ≼_trans
+              (⊗-mono (≼_refl (natural 1000)) (⊗-mono (≈-le dryness-is) facts.high)) upper-ge;
         }
 
 pub humidity-facts : HumidityFacts
-humidity-facts = record { saturation = saturation-facts; deficit = vpd-facts; cases = saturation-cases }
+humidity-facts =
+    record { saturation = saturation-facts; deficit = vpd-facts; cases = saturation-cases }
 
 -- what the function names in `using`
 pub ruleset facts = (humidity-facts)

@@ -23,11 +23,15 @@ module _ (k : ℕ) (stand : Stand) (h : Hour) where
   abbrev root : Frac
   root = root_up_at k stand.figures.leaf (wind_read h.wind) over 10 ^ k
 
-  pub flux_at-is : flux_at k stand h ≡ shared_flux stand.figures.g_max (concentration h) (share_at k stand h) root
+  pub flux_at-is :
+      flux_at k stand h
+      ≡ shared_flux stand.figures.g_max (concentration h) (share_at k stand h) root
   unfolding flux_at conductance_at resistance_at shared_flux
   flux_at-is = refl
 
-  pub dose_at-is : dose_at k stand h ≡ shared_dose stand.figures.y stand.figures.g_max (concentration h) (share_at k stand h) root
+  pub dose_at-is :
+      dose_at k stand h
+      ≡ shared_dose stand.figures.y stand.figures.g_max (concentration h) (share_at k stand h) root
   unfolding dose_at flux_at conductance_at resistance_at shared_dose shared_flux
   dose_at-is = refl
 
@@ -48,12 +52,15 @@ module _ (g : ℕ) (z x r : Frac) where
   unfolding shared_flux flux
   flux-num = omega arith
 
-  pub flux-den : (shared_flux g z x r).den ≡ 41000 * x.den * (z.den * denominator g x.num x.den r.num r.den)
+  pub flux-den :
+      (shared_flux g z x r).den ≡ 41000 * x.den * (z.den * denominator g x.num x.den r.num r.den)
   unfolding shared_flux flux denominator
   flux-den = grind (arith, nat_tests, reduce, denominator-pos)
 
   module _ (y : ℕ) where
-    pub dose-num : (shared_dose y g z x r).num ≡ 3600 * ((shared_flux g z x r).num - y * (shared_flux g z x r).den)
+    pub dose-num :
+        (shared_dose y g z x r).num
+        ≡ 3600 * ((shared_flux g z x r).num - y * (shared_flux g z x r).den)
     unfolding shared_dose dose
     dose-num = omega arith
 
@@ -65,13 +72,17 @@ module _ (g : ℕ) (z x r : Frac) where
     pub dose-none : z.num ≡ 0 → shared_dose y g z x r ≼ natural 0
     dose-none e = grind (arith, dose-num, flux-num)
 
-grows : (g p P s S a b c d : ℕ) → p * b ≤ a * P → c * S ≤ s * d → p * S * denominator g a b c d ≤ a * d * denominator g p P s S
+grows :
+    (g p P s S a b c d : ℕ) → p * b ≤ a * P → c * S ≤ s * d →
+    p * S * denominator g a b c d ≤ a * d * denominator g p P s S
 unfolding denominator
-grows g p P s S a b c d h k = grind (arith, mul-le-mul_left (S * d) h, mul-le-mul_left (a * p * g) k, mul-le-mul h k)
+grows g p P s S a b c d h k =
+    grind (arith, mul-le-mul_left (S * d) h, mul-le-mul_left (a * p * g) k, mul-le-mul h k)
 
 scale :
     (g u v m e m' e' X Y K L : ℕ) → m * e' ≤ m' * e → X * L ≤ Y * K →
-    41000 * u * (10000 * m * g * X) * (41000 * v * (e' * L)) ≤ 41000 * v * (10000 * m' * g * Y) * (41000 * u * (e * K))
+    41000 * u * (10000 * m * g * X) * (41000 * v * (e' * L))
+    ≤ 41000 * v * (10000 * m' * g * Y) * (41000 * u * (e * K))
 scale g u v m e m' e' X Y K L h k = grind (arith, mul-le-mul_left (g * u * v) (mul-le-mul h k))
 
 less : (y n d m e : ℕ) → n * e ≤ m * d → e * (n - y * d) ≤ d * (m - y * e)
@@ -85,5 +96,9 @@ module _ (g : ℕ) {z x r z' x' r' : Frac} (more : z ≼ z') (up : x ≼ x') (do
   dose-mono y = record {
     cross =
         rw (dose-num g z x r y, dose-den g z x r y, dose-num g z' x' r' y, dose-den g z' x' r' y)
-        (omega (arith, less y (shared_flux g z x r).num (shared_flux g z x r).den (shared_flux g z' x' r').num (shared_flux g z' x' r').den flux-mono.cross));
+        (omega (
+          arith,
+          less y (shared_flux g z x r).num (shared_flux g z x r).den (shared_flux g z' x' r').num
+              (shared_flux g z' x' r').den flux-mono.cross,
+        ));
   }

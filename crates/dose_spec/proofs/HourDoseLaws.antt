@@ -17,7 +17,8 @@ use Rattle.frames.specs.declared.records.Hour.{Hour}
 use Rattle.frames.specs.declared.records.RawHour.{RawHour}
 use Rattle.frames.specs.declared.records.Record.{Record}
 use Rattle.frames.specs.Answers.{accepted, refused}
-use Rattle.frames.specs.Ranges.{period_out, hour_checked, checked, ceiling_out, warmth_broken, lacks_ceiling}
+use Rattle.frames.specs.Ranges.{period_out, hour_checked, checked, ceiling_out, warmth_broken}
+use Rattle.frames.specs.Ranges.{lacks_ceiling}
 use Rattle.frames.proofs.AnswerLaws.{accepted-same, row-passed, onward-passed, on_tree-passed}
 use Rattle.frames.proofs.OzoneLaws.{ceiling-le}
 use Rattle.frames.specs.Layout.{ozone_of, soil_of, hour_of}
@@ -81,19 +82,24 @@ unfit-out : (h : Hour) → hour_checked true h ≡ accepted tt → ⊥
 unfit-out h e = grind (arith, nat_tests)
 
 -- row 10 lets it pass
-pub fit-checked : (m : Measure) (h : Hour) → hour_checked (soil_unfit m h.soil) h ≡ accepted tt → checked (Record.Hour h) ≡ accepted tt
+pub fit-checked :
+    (m : Measure) (h : Hour) → hour_checked (soil_unfit m h.soil) h ≡ accepted tt →
+    checked (Record.Hour h) ≡ accepted tt
 unfolding checked
 fit-checked m h e = grind (arith, unfit-out)
 
 -- and the other way for a soil in the tree's measure
-checked-fit : (m : Measure) (h : Hour) → other_measure m h.soil ≡ false → checked (Record.Hour h) ≡ accepted tt → hour_checked (soil_unfit m h.soil) h ≡ accepted tt
+checked-fit :
+    (m : Measure) (h : Hour) → other_measure m h.soil ≡ false →
+    checked (Record.Hour h) ≡ accepted tt → hour_checked (soil_unfit m h.soil) h ≡ accepted tt
 unfolding checked
 checked-fit m h own e = grind arith
 
 -- ---- what an hour that no row refuses has passed
 
 pub record Passed
-    (ps : Parameters) (tree : ℕ) (age : Age) (first last ceiling : ℕ) (h : Hour) (stand : Stand) : Type 0 where
+    (ps : Parameters) (tree : ℕ) (age : Age) (first last ceiling : ℕ) (h : Hour) (stand : Stand) :
+    Type 0 where
   pub named : tree_of ps tree ≡ accepted stand.figures
   pub is : stand ≡ stand_of stand.figures age first last ceiling
   pub warm : warmth_broken age.warmth ≡ false
@@ -125,7 +131,9 @@ stand-passed {ps} tree age first last ceiling h stand e =
 
 -- ---- an hour frame, read in the tree's measure, of a season whose header row 7 lets pass
 
-days-in : (header : Header) (f : Figures) → period_out header (f.f1 + f.f4) ≡ false → header.days ≤ 366 → days_out f header.first header.last ≡ false
+days-in :
+    (header : Header) (f : Figures) → period_out header (f.f1 + f.f4) ≡ false → header.days ≤ 366 →
+    days_out f header.first header.last ≡ false
 days-in header f e most = grind (arith, nat_tests)
 
 own-measure : (m : Measure) (n : ℕ) → other_measure m (soil_of m n) ≡ false

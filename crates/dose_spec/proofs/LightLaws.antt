@@ -10,7 +10,8 @@ use Rattle.exact.specs.Series.{decay_at}
 use Rattle.exact.proofs.FracLaws.{≼_trans, ≼-antisym, over-mono}
 use Rattle.exact.proofs.SeriesLaws.{decay_at-anti, decay_at-zero}
 use Rattle.trees.specs.declared.Figures.{Figures}
-use Rattle.dose_spec.specs.Light.{light_at, digit_terms, light_low_of, light_up_of, light_low, light_up}
+use Rattle.dose_spec.specs.Light.{light_at, digit_terms, light_low_of, light_up_of, light_low}
+use Rattle.dose_spec.specs.Light.{light_up}
 use Rattle.dose_spec.specs.Facts.{LightFacts}
 use Rattle.dose_spec.proofs.DecayLaws.{decay_low-near}
 

@@ -19,13 +19,15 @@ module _ (stand : Stand) (h : Hour) where
   abbrev warmth : Warmth
   warmth = stand.age.warmth
 
-  pub by-warmth-is : has_warmth warmth ≡ true → phenology_in stand h ≡ by_warmth stand.figures warmth stand.age.sum
+  pub by-warmth-is :
+      has_warmth warmth ≡ true → phenology_in stand h ≡ by_warmth stand.figures warmth stand.age.sum
   unfolding phenology_in
   by-warmth-is e = rw e
 
   pub by-day-is :
       has_warmth warmth ≡ false →
-      phenology_in stand h ≡ phenology_of stand.figures stand.first stand.last h.day (above_of h.temperature)
+      phenology_in stand h
+      ≡ phenology_of stand.figures stand.first stand.last h.day (above_of h.temperature)
   unfolding phenology_in
   by-day-is e = rw e
 

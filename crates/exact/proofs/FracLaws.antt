@@ -3,7 +3,8 @@
 use Prim.Native.Nat.{ℕ, ◌+◌, ◌-◌, ◌*◌, ◌≤◌, ◌<◌, max}
 use mathlib.Core.Path.{◌≡◌}
 use mathlib.Core.Logic.{⊎_elim}
-use native.Mathlib.Nat.{le_antisymm, mul-le-mul_left, mul-le-mul_right, mul-le-mul, mul-lt-mul_of_pos_right, le_of_mul-le-mul_left, lt_of_mul-lt-mul_right}
+use native.Mathlib.Nat.{le_antisymm, mul-le-mul_left, mul-le-mul_right, mul-le-mul}
+use native.Mathlib.Nat.{mul-lt-mul_of_pos_right, le_of_mul-le-mul_left, lt_of_mul-lt-mul_right}
 use native.Mathlib.Omega.{arith}
 use borrow.Author.Tests.{lt-ltb, le-ltb}
 use Rattle.exact.specs.declared.Fraction.{Fraction}
@@ -15,11 +16,24 @@ pub ≼_refl : (x : Frac) → x ≼ x
 
 pub ≼_trans : {x y z : Frac} → x ≼ y → y ≼ z → x ≼ z
 ≼_trans {x} {y} {z} p q =
-    record { cross = le_of_mul-le-mul_left {k = y.den} (omega (arith, mul-le-mul_right z.den p.cross, mul-le-mul_right x.den q.cross)) y.positive }
+    record {
+      cross =
+          le_of_mul-le-mul_left {k = y.den}
+          (omega (arith, mul-le-mul_right z.den p.cross, mul-le-mul_right x.den q.cross))
+          y.positive;
+    }
 
 pub ≼-≺-trans : {x y z : Frac} → x ≼ y → y ≺ z → x ≺ z
 ≼-≺-trans {x} {y} {z} p q =
-    record { cross = lt_of_mul-lt-mul_right y.den (omega (arith, mul-le-mul_right z.den p.cross, mul-lt-mul_of_pos_right q.cross x.positive)) }
+    record {
+      cross =
+          lt_of_mul-lt-mul_right y.den
+          (omega (
+            arith,
+            mul-le-mul_right z.den p.cross,
+            mul-lt-mul_of_pos_right q.cross x.positive,
+          ));
+    }
 
 pub ≼-antisym : {x y : Frac} → x ≼ y → y ≼ x → x ≈ y
 ≼-antisym h k = record { cross = le_antisymm h.cross k.cross }
@@ -31,7 +45,11 @@ pub ≈-ge : {x y : Frac} → x ≈ y → y ≼ x
 ≈-ge e = omega (arith, e.cross)
 
 pub ⊕-mono : {x x' y y' : Frac} → x ≼ x' → y ≼ y' → x ⊕ y ≼ x' ⊕ y'
-⊕-mono {x} {x'} {y} {y'} p q = omega (arith, mul-le-mul_right (y.den * y'.den) p.cross, mul-le-mul_right (x.den * x'.den) q.cross)
+⊕-mono {x} {x'} {y} {y'} p q = omega (
+  arith,
+  mul-le-mul_right (y.den * y'.den) p.cross,
+  mul-le-mul_right (x.den * x'.den) q.cross,
+)
 
 -- a sum of whole numbers against a sum of fractions
 natural-⊕ : (m n : ℕ) → natural (m + n) ≈ natural m ⊕ natural n
@@ -83,10 +101,14 @@ module _ (from to d s : ℕ) where
 pub straight-start : (from to s : ℕ) → 0 < s → straight from to 0 s ≈ from over 100
 straight-start from to s h = grind (arith, straight-along, over-same)
 
-mix-le : (from to top m d : ℕ) → from ≤ top → to ≤ top → (m * from + d * to) * 100 ≤ top * (100 * (m + d))
+mix-le :
+    (from to top m d : ℕ) → from ≤ top → to ≤ top →
+    (m * from + d * to) * 100 ≤ top * (100 * (m + d))
 mix-le from to top m d p q = omega (arith, mul-le-mul_left m p, mul-le-mul_left d q)
 
-mix-ge : (from to low m d : ℕ) → low ≤ from → low ≤ to → low * (100 * (m + d)) ≤ (m * from + d * to) * 100
+mix-ge :
+    (from to low m d : ℕ) → low ≤ from → low ≤ to →
+    low * (100 * (m + d)) ≤ (m * from + d * to) * 100
 mix-ge from to low m d p q = omega (arith, mul-le-mul_left m p, mul-le-mul_left d q)
 
 module _ (from to d s : ℕ) where
@@ -94,12 +116,15 @@ module _ (from to d s : ℕ) where
   straight-le top p q = grind (arith, straight-end, le-or-lt, straight-along, over-le, mix-le)
 
   pub straight-ge : (low : ℕ) → low ≤ from → low ≤ to → low over 100 ≼ straight from to d s
-  straight-ge low p q = ⊎_elim (λ h. rw (straight-end from to d s h) (omega arith)) along (le-or-lt s d)
+  straight-ge low p q =
+      ⊎_elim (λ h. rw (straight-end from to d s h) (omega arith)) along (le-or-lt s d)
     where
       along : d < s → low over 100 ≼ straight from to d s
       along h =
           let all : s - d + d ≡ s = omega arith in
-          rw (straight-along from to d s h) (over-le {c = 100} (omega arith) (omega arith) (rw all at (mix-ge from to low (s - d) d p q)))
+          rw (straight-along from to d s h)
+          (over-le {c = 100} (omega arith) (omega arith)
+          (rw all at (mix-ge from to low (s - d) d p q)))
 
 -- k more of the s steps are k more of the lower end
 fall : (from to d k m : ℕ) → to ≤ from → m * from + (d + k) * to ≤ (m + k) * from + d * to
@@ -111,7 +136,8 @@ module _ (from to d d' s : ℕ) (lower : to ≤ from) (before : d ≤ d') where
       let here : d + (d' - d) ≡ d' = omega arith in
       let ahead : s - d' + (d' - d) ≡ s - d = omega arith in
       let step = rw (here, ahead) at (fall from to d (d' - d) (s - d') lower) in
-      rw (straight-along from to d' s h, straight-along from to d s (omega arith)) (over-le (omega arith) (omega arith) (mul-le-mul_right (100 * s) step))
+      rw (straight-along from to d' s h, straight-along from to d s (omega arith))
+      (over-le (omega arith) (omega arith) (mul-le-mul_right (100 * s) step))
 
   pub straight-anti : straight from to d' s ≼ straight from to d s
   straight-anti = grind (arith, straight-end, straight-ge, along-anti, le-or-lt)

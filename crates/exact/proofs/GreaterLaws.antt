@@ -30,7 +30,9 @@ module _ (x y : Frac) where
 
   pub greater-right : y ≼ greater x y
   greater-right =
-      above-right x y lower (λ (t : T (not lower)). record { cross = le_of_lt (nleb→lt (x.num * y.den) (y.num * x.den) t) })
+      above-right x y lower
+      (λ (t : T (not lower)).
+      record { cross = le_of_lt (nleb→lt (x.num * y.den) (y.num * x.den) t) })
 
   pub greater-least : {z : Frac} → x ≼ z → y ≼ z → greater x y ≼ z
   greater-least h k = cond-le lower k h

@@ -21,7 +21,8 @@ module _ (test : ℕ → Bool) where
   least_first : (n t : ℕ) → t ≤ n → T (test t) → least test n ≤ t
   unfolding least
   least_first zero t h p = zero-le
-  least_first (suc n) t h p = grind (arith, nat_tests, eq-or-lt_of_le, (least-passes n t), (least-le n), (least_first n t))
+  least_first (suc n) t h p =
+      grind (arith, nat_tests, eq-or-lt_of_le, (least-passes n t), (least-le n), (least_first n t))
 
   pub least_under : (n t : ℕ) → T (test t) → least test n ≤ t
   least_under n t p = grind (arith, least_first, least-le)

@@ -4,7 +4,8 @@ use mathlib.Core.Path.{◌≡◌, ◌∙◌}
 use native.Mathlib.Numerals.{unary_clauses}
 use native.Mathlib.Omega.{arith}
 use lib.Pow.{pow-add}
-use native.Mathlib.Nat.{not-suc-le-zero, le-mul_of_pos_right, mul-suc, mul-zero, pow-suc, pow-succ', pow-lt-pow_left, one-le-pow}
+use native.Mathlib.Nat.{not-suc-le-zero, le-mul_of_pos_right, mul-suc, mul-zero, pow-suc, pow-succ'}
+use native.Mathlib.Nat.{pow-lt-pow_left, one-le-pow}
 
 pub pow-mul : (a j q : ℕ) → a ^ (j * q) ≡ (a ^ j) ^ q
 pow-mul a j zero = simp unary_clauses

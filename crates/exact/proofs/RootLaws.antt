@@ -31,4 +31,10 @@ module _ (f : ℕ → ℕ) (r : ℕ) where
   pub greatest-over : ((t : ℕ) → t ≤ f t) → r < f (greatest (λ t. leb (f t) r) r + 1)
   greatest-over up =
       let g : ℕ = greatest (λ t. leb (f t) r) r in
-      grind (arith, nat_tests, greatest-above (λ t. leb (f t) r) r (g + 1), up (g + 1), greatest-le (λ t. leb (f t) r) r)
+      grind (
+        arith,
+        nat_tests,
+        greatest-above (λ t. leb (f t) r) r (g + 1),
+        up (g + 1),
+        greatest-le (λ t. leb (f t) r) r,
+      )

@@ -45,10 +45,12 @@ module _ (x : Frac) where
 -- ---- a greater fraction
 
 round_down-mono : {x y : Frac} → x ≼ y → round_down x ≤ round_down y
-round_down-mono {x} {y} h = (round_down-floor y).greatest (round_down x) (≼_trans (round_down-floor x).not_above h)
+round_down-mono {x} {y} h =
+    (round_down-floor y).greatest (round_down x) (≼_trans (round_down-floor x).not_above h)
 
 round_up-mono : {x y : Frac} → x ≼ y → round_up x ≤ round_up y
-round_up-mono {x} {y} h = (round_up-ceiling x).least (round_up y) (≼_trans h (round_up-ceiling y).not_below)
+round_up-mono {x} {y} h =
+    (round_up-ceiling x).least (round_up y) (≼_trans h (round_up-ceiling y).not_below)
 
 module _ {x y : Frac} (same : x ≈ y) where
   pub round_down-same : round_down x ≡ round_down y
@@ -69,18 +71,26 @@ module _ (x y : Frac) where
   round-gap c h =
       let less : round_up y < round_down x + (c + 2) =
       lt_of_mul-lt-mul_right (x.den * y.den)
-      (omega (arith, h.cross, mul-le-mul_right x.den (round_up-lt y), mul-le-mul_right y.den (round_down-gt x), mul-pos x.positive y.positive)) in
+      (omega (
+        arith,
+        h.cross,
+        mul-le-mul_right x.den (round_up-lt y),
+        mul-le-mul_right y.den (round_down-gt x),
+        mul-pos x.positive y.positive,
+      )) in
       omega arith
 
 -- the same fraction: one more where a rest is left
 module _ (x : Frac) where
   pub round_whole : round_down x * x.den ≡ x.num → round_up x ≡ round_down x
   round_whole e =
-      le_antisymm ((round_up-ceiling x).least (round_down x) (record { cross = omega (arith, e) })) (round-order x x (≼_refl x))
+      le_antisymm ((round_up-ceiling x).least (round_down x) (record { cross = omega (arith, e) }))
+      (round-order x x (≼_refl x))
 
   pub round-rest : round_down x * x.den < x.num → round_up x ≡ round_down x + 1
   round-rest rest =
-      let less : round_down x < round_up x = lt_of_mul-lt-mul_right x.den (omega (arith, rest, round_up-ge x)) in
+      let less : round_down x < round_up x =
+      lt_of_mul-lt-mul_right x.den (omega (arith, rest, round_up-ge x)) in
       le_antisymm (round-gap x x 0 (record { cross = omega arith })) (omega (arith, less))
 
 -- two numbers over one divisor
@@ -88,8 +98,11 @@ module _ (l u d : ℕ) where
   pub over-order : l ≤ u → round_down (l over d) ≤ round_up (u over d)
   over-order h = round-order (l over d) (u over d) (record { cross = mul-le-mul_right (max 1 d) h })
 
-  pub over-gap : (c : ℕ) → u ≤ l + c * max 1 d → round_up (u over d) ≤ round_down (l over d) + (c + 1)
-  over-gap c h = round-gap (l over d) (u over d) c (record { cross = omega (arith, mul-le-mul_right (max 1 d) h) })
+  pub over-gap :
+      (c : ℕ) → u ≤ l + c * max 1 d → round_up (u over d) ≤ round_down (l over d) + (c + 1)
+  over-gap c h =
+      round-gap (l over d) (u over d) c
+      (record { cross = omega (arith, mul-le-mul_right (max 1 d) h) })
 
 -- ---- a number of a scale times a fraction
 
@@ -105,27 +118,42 @@ module _ (n : ℕ) (x : Frac) where
 module _ (n m : ℕ) (x : Frac) {y z : Frac} where
   pub times_down_lem : n over m ≼ y → x ≼ z → times_down n x over m ≼ y ⊗ z
   unfolding times_down
-  times_down_lem h k = ≼_trans {y = n over m ⊗ x} (record { cross = omega (arith, mul-le-mul_right (max 1 m) (round_down-le (natural n ⊗ x))) }) (⊗-mono h k)
+  times_down_lem h k =
+      ≼_trans {y = n over m ⊗ x}
+      (record { cross = omega (arith, mul-le-mul_right (max 1 m) (round_down-le (natural n ⊗ x))) })
+      (⊗-mono h k)
 
   pub times-up : y ≼ n over m → z ≼ x → y ⊗ z ≼ times_up n x over m
   unfolding times_up
-  times-up h k = ≼_trans {y = n over m ⊗ x} (⊗-mono h k) (record { cross = omega (arith, mul-le-mul_right (max 1 m) (round_up-ge (natural n ⊗ x))) })
+  times-up h k =
+      ≼_trans {y = n over m ⊗ x} (⊗-mono h k)
+      (record { cross = omega (arith, mul-le-mul_right (max 1 m) (round_up-ge (natural n ⊗ x))) })
 
 module _ (l u : ℕ) (x : Frac) where
   pub times-order : l ≤ u → times_down l x ≤ times_up u x
   unfolding times_down times_up
-  times-order h = round-order (natural l ⊗ x) (natural u ⊗ x) (record { cross = omega (arith, mul-le-mul_right (x.num * x.den) h) })
+  times-order h =
+      round-order (natural l ⊗ x) (natural u ⊗ x)
+      (record { cross = omega (arith, mul-le-mul_right (x.num * x.den) h) })
 
   pub times-gap : (c : ℕ) → x ≼ natural 1 → u ≤ l + c → times_up u x ≤ times_down l x + (c + 1)
   unfolding times_down times_up
   times-gap c below h =
       round-gap (natural l ⊗ x) (natural u ⊗ x) c
-      (record { cross = omega (arith, mul-le-mul_right (x.num * x.den) h, mul-le-mul_left (c * x.den) below.cross) })
+      (record {
+        cross = omega (
+          arith,
+          mul-le-mul_right (x.num * x.den) h,
+          mul-le-mul_left (c * x.den) below.cross,
+        );
+      })
 
 module _ (n : ℕ) {x : Frac} (below : x ≼ natural 1) where
   pub times_up-le : times_up n x ≤ n
   unfolding times_up
-  times_up-le = (round_up-ceiling (natural n ⊗ x)).least n (record { cross = omega (arith, mul-le-mul_left n below.cross) })
+  times_up-le =
+      (round_up-ceiling (natural n ⊗ x)).least n
+      (record { cross = omega (arith, mul-le-mul_left n below.cross) })
 
   pub times_down-le : times_down n x ≤ n
   times_down-le = le_trans (times-order n n x (le_refl n)) times_up-le
@@ -154,7 +182,9 @@ module _ (m : ℕ) (x : Frac) where
 
   pub times_up-most : (n : ℕ) → x ≼ natural n → times_up m x ≤ m * n
   unfolding times_up
-  times_up-most n h = (round_up-ceiling (natural m ⊗ x)).least (m * n) (record { cross = omega (arith, mul-le-mul_left m h.cross) })
+  times_up-most n h =
+      (round_up-ceiling (natural m ⊗ x)).least (m * n)
+      (record { cross = omega (arith, mul-le-mul_left m h.cross) })
 
 module _ (m : ℕ) {x y : Frac} (h : x ≼ y) where
   pub times_down-mono : times_down m x ≤ times_down m y
@@ -171,9 +201,21 @@ module _ (a b s t r e : ℕ) (scales : max 1 s * max 1 t ≡ max 1 e * max 1 r) 
   pub product-down : round_down ((a * b) over e) over r ≼ a over s ⊗ b over t
   product-down =
       let q = round_down ((a * b) over e) in
-      record { cross = omega (arith, ap (λ (c : ℕ). q * c) scales, mul-le-mul_right (max 1 r) (round_down-le ((a * b) over e))) }
+      record {
+        cross = omega (
+          arith,
+          ap (λ (c : ℕ). q * c) scales,
+          mul-le-mul_right (max 1 r) (round_down-le ((a * b) over e)),
+        );
+      }
 
   pub product-up : a over s ⊗ b over t ≼ round_up ((a * b) over e) over r
   product-up =
       let q = round_up ((a * b) over e) in
-      record { cross = omega (arith, ap (λ (c : ℕ). q * c) scales, mul-le-mul_right (max 1 r) (round_up-ge ((a * b) over e))) }
+      record {
+        cross = omega (
+          arith,
+          ap (λ (c : ℕ). q * c) scales,
+          mul-le-mul_right (max 1 r) (round_up-ge ((a * b) over e)),
+        );
+      }

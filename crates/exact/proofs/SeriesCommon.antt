@@ -32,7 +32,8 @@ module _ (d : ℕ) (d-pos : 0 < d) where
   abbrev pub common : ℕ → ℕ → Frac
   common k n = record { num = common_num k n d; den = common_den k d; positive = common_den-pos k }
 
-  cross-is : (k n : ℕ) → (series_at k n d).num * common_den k d ≡ common_num k n d * (series_at k n d).den
+  cross-is :
+      (k n : ℕ) → (series_at k n d).num * common_den k d ≡ common_num k n d * (series_at k n d).den
   unfolding series_at common_num common_den
   cross-is zero n = refl
   cross-is (suc k) n =
@@ -45,4 +46,5 @@ module _ (d : ℕ) (d-pos : 0 < d) where
   pub series-pos : (k n : ℕ) → 0 < (series_at k n d).num
   unfolding series_at
   series-pos zero n = omega arith
-  series-pos (suc k) n = rw (over-is (suc k)) (omega (arith, mul-pos (series-pos k n) (common_den-pos (suc k))))
+  series-pos (suc k) n =
+      rw (over-is (suc k)) (omega (arith, mul-pos (series-pos k n) (common_den-pos (suc k))))

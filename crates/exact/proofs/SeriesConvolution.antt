@@ -25,7 +25,8 @@ sum_left f zero = refl
 sum_left f (suc n) = omega (arith, sum_left f n)
 
 pub sum_mono : (f : ℕ → ℕ) (k n : ℕ) → k ≤ n → sum f k ≤ sum f n
-sum_mono f k n h = le_ind (λ m. sum f k ≤ sum f m) (le_refl _) (λ m _ p. omega (arith, p, sum-suc f m)) n h
+sum_mono f k n h =
+    le_ind (λ m. sum f k ≤ sum f m) (le_refl _) (λ m _ p. omega (arith, p, sum-suc f m)) n h
 
 -- ---- the sum over a triangle
 
@@ -47,7 +48,11 @@ module _ (h : ℕ → ℕ) (grows : (k n : ℕ) → k ≤ n → h k ≤ h n) whe
   conv-le f zero = omega arith
   conv-le f (suc n) =
       rw (sum_left f n)
-      (omega (arith, conv-le (λ i. f (suc i)) n, mul-le-mul_left (sum (λ i. f (suc i)) n) (grows n (suc n) (omega arith))))
+      (omega (
+        arith,
+        conv-le (λ i. f (suc i)) n,
+        mul-le-mul_left (sum (λ i. f (suc i)) n) (grows n (suc n) (omega arith)),
+      ))
 
   pub conv-ge : (f : ℕ → ℕ) (j k n : ℕ) → j + k ≤ n → sum f j * h k ≤ conv f h n
   unfolding sum conv
@@ -56,7 +61,11 @@ module _ (h : ℕ → ℕ) (grows : (k n : ℕ) → k ≤ n → h k ≤ h n) whe
   conv-ge f (suc j) k zero le = omega arith
   conv-ge f (suc j) k (suc n) le =
       rw (sum_left f j)
-      (omega (arith, mul-le-mul_left (f 0) (grows k (suc n) (omega arith)), conv-ge (λ i. f (suc i)) j k n (omega arith)))
+      (omega (
+        arith,
+        mul-le-mul_left (f 0) (grows k (suc n) (omega arith)),
+        conv-ge (λ i. f (suc i)) j k n (omega arith),
+      ))
 
 -- ---- sequences in which each term is the one before it times x / (d * (i + 1)); the induction
 -- counts the first one's terms from a
@@ -72,5 +81,6 @@ conv-step d x y (suc n) a f g hf hg =
       arith,
       ap (λ t. t * g (suc n)) (hf 0 (omega arith)),
       ap (λ t. t * f 0) (hg (suc n) (omega arith)),
-      conv-step d x y n (suc a) (λ i. f (suc i)) g (λ i h. omega (arith, hf (suc i) (omega arith))) (λ j h. hg j (omega arith)),
+      conv-step d x y n (suc a) (λ i. f (suc i)) g (λ i h. omega (arith, hf (suc i) (omega arith)))
+          (λ j h. hg j (omega arith)),
     )

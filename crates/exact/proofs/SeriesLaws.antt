@@ -13,8 +13,10 @@ use Rattle.exact.proofs.SeriesCommon.{common_den, common, series-common, series-
 use Rattle.exact.proofs.SeriesSums.{common-sum-le, common-sum-ge, common-mono}
 
 module _ (d : ℕ) (d-pos : 0 < d) where
-  by-common : (k j n m : ℕ) → common d d-pos k n ≼ common d d-pos j m → series_at k n d ≼ series_at j m d
-  by-common k j n m h = ≼_trans (≈-le (series-common d d-pos k n)) (≼_trans h (≈-ge (series-common d d-pos j m)))
+  by-common :
+      (k j n m : ℕ) → common d d-pos k n ≼ common d d-pos j m → series_at k n d ≼ series_at j m d
+  by-common k j n m h =
+      ≼_trans (≈-le (series-common d d-pos k n)) (≼_trans h (≈-ge (series-common d d-pos j m)))
 
   series-mono : {j k : ℕ} (n : ℕ) → j ≤ k → series_at j n d ≼ series_at k n d
   series-mono {j} {k} n h = by-common j k n n (record { cross = common-mono n d j k h })
@@ -26,7 +28,8 @@ module _ (d : ℕ) (d-pos : 0 < d) where
       (omega (arith, mul-le-mul_left (common_den k d) (common-sum-le d d-pos x y k)))
       (⊗-mono (≈-ge (series-common d d-pos k x)) (≈-ge (series-common d d-pos k y))))
 
-  pub series-sum-ge : (j k x y : ℕ) → series_at j x d ⊗ series_at k y d ≼ series_at (j + k) (x + y) d
+  pub series-sum-ge :
+      (j k x y : ℕ) → series_at j x d ⊗ series_at k y d ≼ series_at (j + k) (x + y) d
   series-sum-ge j k x y =
       ≼_trans (⊗-mono (≈-le (series-common d d-pos j x)) (≈-le (series-common d d-pos k y)))
       (≼_trans {y = common d d-pos (j + k) (x + y)}
@@ -37,7 +40,9 @@ module _ (d : ℕ) (d-pos : 0 < d) where
   pub series-zero : (k : ℕ) → (series_at k 0 d).num ≡ (series_at k 0 d).den
   unfolding series_at
   series-zero zero = refl
-  series-zero (suc k) = rw (zero-pow (suc k) (zero-lt-suc k)) (omega (arith, ap (λ n. n * max 1 (d ^ suc k * factorial (suc k))) (series-zero k)))
+  series-zero (suc k) =
+      rw (zero-pow (suc k) (zero-lt-suc k))
+      (omega (arith, ap (λ n. n * max 1 (d ^ suc k * factorial (suc k))) (series-zero k)))
 
   -- ---- exp(-z) at k
 
@@ -58,11 +63,13 @@ module _ (d : ℕ) (d-pos : 0 < d) where
   decay_at-sum-ge k x y =
       let p = series-pos d d-pos k x in
       let q = series-pos d d-pos k y in
-      ≼_trans (≈-ge (inverse-⊗ (series_at k x d) (series_at k y d) p q)) (inverse-anti (series-pos d d-pos k (x + y)) (series-sum-le k x y))
+      ≼_trans (≈-ge (inverse-⊗ (series_at k x d) (series_at k y d) p q))
+      (inverse-anti (series-pos d d-pos k (x + y)) (series-sum-le k x y))
 
   pub decay_at-sum-le : (j k x y : ℕ) → decay_at (j + k) (x + y) d ≼ decay_at j x d ⊗ decay_at k y d
   unfolding decay_at
   decay_at-sum-le j k x y =
       let p = series-pos d d-pos j x in
       let q = series-pos d d-pos k y in
-      ≼_trans (inverse-anti (mul-pos p q) (series-sum-ge j k x y)) (≈-le (inverse-⊗ (series_at j x d) (series_at k y d) p q))
+      ≼_trans (inverse-anti (mul-pos p q) (series-sum-ge j k x y))
+      (≈-le (inverse-⊗ (series_at j x d) (series_at k y d) p q))

@@ -2,14 +2,16 @@
 -- number; and near the product with a fraction that is a little smaller.
 use Prim.Native.Nat.{ℕ, ◌+◌, ◌*◌, ◌/◌, ◌%◌, ◌≤◌, ◌<◌}
 use mathlib.Core.Path.{◌≡◌, ap}
-use native.Mathlib.Nat.{div-eq_of_lt-le, div-add-mod', add-mul-div_right, lt-div-mul-add, mul-le-mul_right, mul-le-mul_left}
+use native.Mathlib.Nat.{div-eq_of_lt-le, div-add-mod', add-mul-div_right, lt-div-mul-add}
+use native.Mathlib.Nat.{mul-le-mul_right, mul-le-mul_left}
 use native.Mathlib.Omega.{arith}
 use Rattle.exact.specs.Frac.{Frac, natural, ◌over◌, ◌⊕◌, ◌⊗◌, ◌≼◌, ◌≺◌}
 use Rattle.exact.specs.Rounding.{times_down, times_up}
 use Rattle.exact.proofs.FracLaws.{≼_refl, ≼_trans, ⊕-high, ⊗-mono}
 use Rattle.exact.proofs.RoundingLaws.{times_down-is, round_up-ceiling}
 
-pub times_down-at : (m s : ℕ) (x : Frac) → 0 < m → s over m ≼ x → x ≺ (s + 1) over m → times_down m x ≡ s
+pub times_down-at :
+    (m s : ℕ) (x : Frac) → 0 < m → s over m ≼ x → x ≺ (s + 1) over m → times_down m x ≡ s
 times_down-at m s x m-pos low high = grind (arith, times_down-is, div-eq_of_lt-le)
 
 -- ---- in two digits of base b: the higher one's quotient, then what it leaves with the lower one
@@ -22,8 +24,14 @@ module _ (n num den b more : ℕ) (den_pos : 0 < den) where
   digits_sum =
       omega (arith, ap (λ t. t * num) (div-add-mod' n b), ap (λ t. t * b) (div-add-mod' high den))
 
-  pub digits-is : high / den * b + (high % den * b + n % b * num + more) / den ≡ (n * num + more) / den
-  digits-is = rw digits_sum (omega (arith, add-mul-div_right (high % den * b + n % b * num + more) (high / den * b) den_pos))
+  pub digits-is :
+      high / den * b + (high % den * b + n % b * num + more) / den ≡ (n * num + more) / den
+  digits-is =
+      rw digits_sum
+      (omega (
+        arith,
+        add-mul-div_right (high % den * b + n % b * num + more) (high / den * b) den_pos,
+      ))
 
 -- ---- the gap, where the fractions are w apart
 
@@ -38,10 +46,12 @@ module _ (l u c : ℕ) (x : Frac) (h : u ≤ l + c) (below : x ≼ natural 1) wh
       }
 
   pub times-near :
-      (e : ℕ) (y w : Frac) → y ≼ x ⊕ w → natural u ⊗ w ≼ natural e → times_up u y ≤ times_down l x + (c + e + 1)
+      (e : ℕ) (y w : Frac) → y ≼ x ⊕ w → natural u ⊗ w ≼ natural e →
+      times_up u y ≤ times_down l x + (c + e + 1)
   unfolding times_up
   times-near e y w near small =
       let sum : times_down l x + 1 + c + e ≡ times_down l x + (c + e + 1) = omega arith in
       (round_up-ceiling (natural u ⊗ y)).least (times_down l x + (c + e + 1))
       (≼_trans (⊗-mono (≼_refl (natural u)) near)
-      (≼_trans {y = natural u ⊗ x ⊕ natural u ⊗ w} (record { cross = omega arith }) (rw sum at (⊕-high product_le small))))
+      (≼_trans {y = natural u ⊗ x ⊕ natural u ⊗ w} (record { cross = omega arith })
+      (rw sum at (⊕-high product_le small))))

@@ -4,7 +4,9 @@ use Rattle.std.specs.Prelude.{Option, Some, None, Result, Ok, Err, FitsSigned, u
 use Rattle.std.specs.Int.{FitsUnsignedBits, w16}
 use Rattle.std.specs.Result.{OkIff, MatchResult, result_unwrap_or}
 use Rattle.frames.specs.Temperature.{complement_of}
-use Rattle.std.proofs.Common.{◌≡◌, ℕ, ◌-◌, ◌<◌, ◌≤◌, min, Bool, true, false, cond, ltb, ℤ, pos, negsuc, sym, refl, ap, ◌∙◌, arith, ltb-false, ltb-true, le-ltb, lt-ltb, w32, to_z, of_z, subst}
+use Rattle.std.proofs.Common.{◌≡◌, ℕ, ◌-◌, ◌<◌, ◌≤◌, min, Bool, true, false, cond, ltb, ℤ, pos}
+use Rattle.std.proofs.Common.{negsuc, sym, refl, ap, ◌∙◌, arith, ltb-false, ltb-true, le-ltb}
+use Rattle.std.proofs.Common.{lt-ltb, w32, to_z, of_z, subst}
 use Rattle.std.proofs.Math.Facts.{to_z-of_z}
 use lib.Ieee.{Float}
 use Rattle.frames.specs.declared.records.RawHour.{RawHour}
@@ -19,10 +21,14 @@ use Rattle.floats.specs.steps.Floats.{cut}
 -- ---- one field
 
 -- a number below a limit, else another: the same of the number cut past the limit
-cut-held : {A : Type 0} (limit most n : ℕ) → limit ≤ most → (f : ℕ → A) (other : A) → cond (ltb (min n most) limit) (f (min n most)) other ≡ cond (ltb n limit) (f n) other
+cut-held :
+    {A : Type 0} (limit most n : ℕ) → limit ≤ most → (f : ℕ → A) (other : A) →
+    cond (ltb (min n most) limit) (f (min n most)) other ≡ cond (ltb n limit) (f n) other
 cut-held {A} limit most n h f other = go (ltb n limit) refl
   where
-    go : (b : Bool) → ltb n limit ≡ b → cond (ltb (min n most) limit) (f (min n most)) other ≡ cond (ltb n limit) (f n) other
+    go :
+        (b : Bool) → ltb n limit ≡ b →
+        cond (ltb (min n most) limit) (f (min n most)) other ≡ cond (ltb n limit) (f n) other
     go true e = let same : min n most ≡ n = omega (arith, ltb-true n limit e) in rw same refl
     go false e = rw (e, le-ltb (min n most) limit (omega (arith, ltb-false n limit e))) refl
 
@@ -69,7 +75,9 @@ test-false n limit h = go (ltb n limit) refl
     go false e = refl
 
 -- the library's conversion into two bytes, 65534 where they do not hold z
-pub natural-held : {E : Type 0} (z : ℤ) (r : Result ℕ E) → OkIff r (FitsUnsignedBits 16 z) (unsigned_abs z) → result_unwrap_or r 65534 ≡ natural_bytes z
+pub natural-held :
+    {E : Type 0} (z : ℤ) (r : Result ℕ E) → OkIff r (FitsUnsignedBits 16 z) (unsigned_abs z) →
+    result_unwrap_or r 65534 ≡ natural_bytes z
 unfolding natural_bytes
 natural-held (pos n) (Ok x) h = rw (h.1, lt-ltb n 65536 (omega (arith, h.0))) refl
 natural-held (pos n) (Err e) h = rw (test-false n 65536 h) refl
@@ -77,13 +85,19 @@ natural-held (negsuc n) (Ok x) h = absurd h.0
 natural-held (negsuc n) (Err e) h = refl
 
 -- the library's conversion into a temperature, then its two bytes, 32767 where they do not hold z
-pub complement-held : {E : Type 0} (z : ℤ) (r : Result ℤ E) (m : ℕ) (Gives : ℤ → Type 0) → ((t : ℤ) → Gives t → m ≡ complement_of t) → OkIff r (FitsSigned w16 z) z
+pub complement-held :
+    {E : Type 0} (z : ℤ) (r : Result ℤ E) (m : ℕ) (Gives : ℤ → Type 0) →
+    ((t : ℤ) → Gives t → m ≡ complement_of t) → OkIff r (FitsSigned w16 z) z
     → MatchResult r Gives (λ _. m ≡ 32767) → m ≡ complement_bytes z
 unfolding complement_bytes complement_of
-complement-held (pos n) (Ok t) m G g h e = rw (lt-ltb n 32768 (omega (arith, h.0.sfits))) (g t e ∙ ap complement_of h.1)
-complement-held (negsuc n) (Ok t) m G g h e = rw (lt-ltb n 32768 (omega (arith, h.0.sfits))) (g t e ∙ ap complement_of h.1)
-complement-held (pos n) (Err x) m G g h e = rw (test-false n 32768 (λ l. h (record { sfits = l }))) e
-complement-held (negsuc n) (Err x) m G g h e = rw (test-false n 32768 (λ l. h (record { sfits = l }))) e
+complement-held (pos n) (Ok t) m G g h e =
+    rw (lt-ltb n 32768 (omega (arith, h.0.sfits))) (g t e ∙ ap complement_of h.1)
+complement-held (negsuc n) (Ok t) m G g h e =
+    rw (lt-ltb n 32768 (omega (arith, h.0.sfits))) (g t e ∙ ap complement_of h.1)
+complement-held (pos n) (Err x) m G g h e =
+    rw (test-false n 32768 (λ l. h (record { sfits = l }))) e
+complement-held (negsuc n) (Err x) m G g h e =
+    rw (test-false n 32768 (λ l. h (record { sfits = l }))) e
 
 -- ---- the cut number in 32 bits with a sign
 
@@ -95,8 +109,10 @@ IsNumber (Some z) = Unit
 IsNumber None = ⊥
 
 cut-fits : (w : Wholeness) (z : ℤ) → Some z ≡ cut w → FitsSigned w32 z
-cut-fits (whole (pos n)) z e = subst (λ (y : ℤ). FitsSigned w32 y) (sym (some-same e)) (record { sfits = omega arith })
-cut-fits (whole (negsuc n)) z e = subst (λ (y : ℤ). FitsSigned w32 y) (sym (some-same e)) (record { sfits = omega arith })
+cut-fits (whole (pos n)) z e =
+    subst (λ (y : ℤ). FitsSigned w32 y) (sym (some-same e)) (record { sfits = omega arith })
+cut-fits (whole (negsuc n)) z e =
+    subst (λ (y : ℤ). FitsSigned w32 y) (sym (some-same e)) (record { sfits = omega arith })
 cut-fits broken z e = absurd (subst IsNumber e tt)
 
 pub bits-back : (x : Float) (z : ℤ) → Some z ≡ cut (whole_of x) → to_z w32 (of_z w32 z) ≡ z
@@ -105,17 +121,49 @@ bits-back x z e = to_z-of_z {w = w32} {z = z} (cut-fits (whole_of x) z e)
 -- ---- all seven
 
 module _ (day hour : ℕ) where
-  abbrev pub framed : Outcome ℕ → Outcome ℕ → Outcome ℕ → Outcome ℕ → Outcome ℕ → Outcome ℕ → Outcome ℕ → Outcome RawHour
+  abbrev pub framed :
+      Outcome ℕ → Outcome ℕ → Outcome ℕ → Outcome ℕ → Outcome ℕ → Outcome ℕ →
+      Outcome ℕ → Outcome RawHour
   framed o p g t v w s =
-      onward o (λ ozone. onward p (λ ppfd. onward g (λ radiation. onward t (λ temperature. onward v (λ vpd. onward w (λ wind. onward s (λ soil.
-      accepted (record { day = day; hour = hour; ozone = ozone; ppfd = ppfd; radiation = radiation; temperature = temperature; air = Air.Deficit vpd; wind = wind; soil = soil }))))))))
+      onward o
+      (λ ozone.
+      onward p
+      (λ ppfd.
+      onward g
+      (λ radiation. onward t (λ temperature. onward v (λ vpd. onward w (λ wind. onward s (λ soil.
+      accepted (record {
+        day = day;
+        hour = hour;
+        ozone = ozone;
+        ppfd = ppfd;
+        radiation = radiation;
+        temperature = temperature;
+        air = Air.Deficit vpd;
+        wind = wind;
+        soil = soil;
+      }))))))))
 
   together : (o p g t v w s : Wholeness)
       → onward
-      (in_field 1 o (λ ozone. in_field 2 p (λ ppfd. in_field 3 g (λ radiation. in_field 4 t (λ temperature. in_field 5 v (λ vpd. in_field 6 w (λ wind. in_field 7 s (λ soil.
-      accepted (record { ozone = ozone; ppfd = ppfd; radiation = radiation; temperature = temperature; vpd = vpd; wind = wind; soil = soil })))))))))
+      (in_field 1 o
+      (λ ozone.
+      in_field 2 p
+      (λ ppfd.
+      in_field 3 g
+      (λ radiation.
+      in_field 4 t (λ temperature. in_field 5 v (λ vpd. in_field 6 w (λ wind. in_field 7 s (λ soil.
+      accepted (record {
+        ozone = ozone;
+        ppfd = ppfd;
+        radiation = radiation;
+        temperature = temperature;
+        vpd = vpd;
+        wind = wind;
+        soil = soil;
+      })))))))))
       (λ n. accepted (raw_of day hour n))
-      ≡ framed (natural_at 1 o) (natural_at 2 p) (natural_at 3 g) (complement_at 4 t) (natural_at 5 v) (natural_at 6 w) (natural_at 7 s)
+      ≡ framed (natural_at 1 o) (natural_at 2 p) (natural_at 3 g) (complement_at 4 t)
+      (natural_at 5 v) (natural_at 6 w) (natural_at 7 s)
   unfolding raw_of
   together broken p g t v w s = refl
   together (whole o) broken g t v w s = refl
@@ -127,14 +175,21 @@ module _ (day hour : ℕ) where
   together (whole o) (whole p) (whole g) (whole t) (whole v) (whole w) (whole s) = refl
 
   frame-answer : (r : FloatReadings)
-      → framed (natural_at 1 (whole_of r.ozone)) (natural_at 2 (whole_of r.ppfd)) (natural_at 3 (whole_of r.radiation)) (complement_at 4 (whole_of r.temperature)) (natural_at 5 (whole_of r.vpd)) (natural_at 6 (whole_of r.wind)) (natural_at 7 (whole_of r.soil))
+      → framed (natural_at 1 (whole_of r.ozone)) (natural_at 2 (whole_of r.ppfd))
+      (natural_at 3 (whole_of r.radiation)) (complement_at 4 (whole_of r.temperature))
+      (natural_at 5 (whole_of r.vpd)) (natural_at 6 (whole_of r.wind))
+      (natural_at 7 (whole_of r.soil))
       ≡ onward (wholes_of r) (λ w. accepted (raw_of day hour w))
   unfolding wholes_of
-  frame-answer r = sym (together (whole_of r.ozone) (whole_of r.ppfd) (whole_of r.radiation) (whole_of r.temperature) (whole_of r.vpd) (whole_of r.wind) (whole_of r.soil))
+  frame-answer r =
+      sym (together (whole_of r.ozone) (whole_of r.ppfd) (whole_of r.radiation)
+      (whole_of r.temperature) (whole_of r.vpd) (whole_of r.wind) (whole_of r.soil))
 
   -- by the seven answers
   pub frame-by : (r : FloatReadings) {o p g t v w s : Outcome ℕ}
-      → o ≡ natural_at 1 (whole_of r.ozone) → p ≡ natural_at 2 (whole_of r.ppfd) → g ≡ natural_at 3 (whole_of r.radiation) → t ≡ complement_at 4 (whole_of r.temperature)
-      → v ≡ natural_at 5 (whole_of r.vpd) → w ≡ natural_at 6 (whole_of r.wind) → s ≡ natural_at 7 (whole_of r.soil)
+      → o ≡ natural_at 1 (whole_of r.ozone) → p ≡ natural_at 2 (whole_of r.ppfd) →
+      g ≡ natural_at 3 (whole_of r.radiation) → t ≡ complement_at 4 (whole_of r.temperature)
+      → v ≡ natural_at 5 (whole_of r.vpd) → w ≡ natural_at 6 (whole_of r.wind) →
+      s ≡ natural_at 7 (whole_of r.soil)
       → framed o p g t v w s ≡ onward (wholes_of r) (λ w. accepted (raw_of day hour w))
   frame-by r e1 e2 e3 e4 e5 e6 e7 = rw (e1, e2, e3, e4, e5, e6, e7) (frame-answer r)

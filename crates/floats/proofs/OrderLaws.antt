@@ -1,5 +1,6 @@
 -- A finite float held against 0 and against 2 ^ 24, by the tests that the program makes.
-use Rattle.std.proofs.Common.{◌≡◌, ℕ, ◌*◌, ◌^◌, ◌<◌, ◌≤◌, Bool, true, false, not, ◌&&◌, ◌||◌, T, eqb, ltb, ℤ, pos, sym, ◌∙◌, subst, arith, eqb→eq, ltb→lt, nltb→le}
+use Rattle.std.proofs.Common.{◌≡◌, ℕ, ◌*◌, ◌^◌, ◌<◌, ◌≤◌, Bool, true, false, not, ◌&&◌, ◌||◌, T}
+use Rattle.std.proofs.Common.{eqb, ltb, ℤ, pos, sym, ◌∙◌, subst, arith, eqb→eq, ltb→lt, nltb→le}
 use lib.Arith.{lt_of_le-ne}
 use lib.Ieee.{fin, up, down, le}
 use lib.Ieee.Fits.{down_pos, and_l, and_r, eq→eqb}
@@ -38,17 +39,22 @@ both_zero a b t =
 no_zero : (d : ℕ) → 0 < d → 1 * 2 ^ 24 * d ≡ 0 → ⊥
 no_zero d h e = omega arith
 
-pub large-ge : (s : Bool) (m : ℕ) (e : ℤ) → T (le (fin false 1 (pos 24)) (fin s m e)) → 16777216 * down e ≤ m * up e
+pub large-ge :
+    (s : Bool) (m : ℕ) (e : ℤ) → T (le (fin false 1 (pos 24)) (fin s m e)) →
+    16777216 * down e ≤ m * up e
 unfolding le
 large-ge false m e t = omega (arith, or-le (1 * 2 ^ 24 * down e) (m * up e * 1) t)
-large-ge true m e t = absurd (no_zero (down e) (down_pos e) (both_zero (1 * 2 ^ 24 * down e) (m * up e * 1) t).0)
+large-ge true m e t =
+    absurd (no_zero (down e) (down_pos e) (both_zero (1 * 2 ^ 24 * down e) (m * up e * 1) t).0)
 
 -- what is left below 2 ^ 24: a number below it, and 0 where the sign is negative
 pub minus-size-zero : (m : ℕ) (e : ℤ) → T (le (fin false 0 (pos 0)) (fin true m e)) → m * up e ≡ 0
 unfolding le
 minus-size-zero m e t = omega (arith, (both_zero (0 * 1 * down e) (m * up e * 1) t).1)
 
-pub small-lt : (s : Bool) (m : ℕ) (e : ℤ) → T (le (fin false 0 (pos 0)) (fin s m e)) → T (not (le (fin false 1 (pos 24)) (fin s m e))) → m * up e < 16777216 * down e
+pub small-lt :
+    (s : Bool) (m : ℕ) (e : ℤ) → T (le (fin false 0 (pos 0)) (fin s m e)) →
+    T (not (le (fin false 1 (pos 24)) (fin s m e))) → m * up e < 16777216 * down e
 unfolding le
 small-lt false m e z t = omega (arith, nor-lt (1 * 2 ^ 24 * down e) (m * up e * 1) t)
 small-lt true m e z t = omega (arith, minus-size-zero m e z, down_pos e)

@@ -1,6 +1,8 @@
 -- `FloatPromise` holds.
 use Rattle.floats.specs.Promise.{FloatPromise}
-use Rattle.floats.proofs.WholeLaws.{whole-taken, whole-broken, whole_unique, positive-whole, negative-whole, minus-zero, normal-value, subnormal-value, no_value}
+use Rattle.floats.proofs.WholeLaws.{whole-taken, whole-broken, whole_unique, positive-whole}
+use Rattle.floats.proofs.WholeLaws.{negative-whole, minus-zero, normal-value, subnormal-value}
+use Rattle.floats.proofs.WholeLaws.{no_value}
 use Rattle.floats.proofs.RangeLaws.{ranges-same, hour-said}
 use Rattle.floats.proofs.FeedLaws.{feed-broken, feed-untimely, feed-whole, wholes-are, line-fed}
 

@@ -35,13 +35,17 @@ unfolding complement_bytes signed_of temperature_out
 temperature-out (pos n) = grind (arith, nat_tests)
 temperature-out (negsuc n) = grind (arith, nat_tests)
 
-soil-out : (m : Measure) (z : ℤ) → soil_out (soil_of m (natural_bytes z)) ≡ number_out (soil_most m) z
+soil-out :
+    (m : Measure) (z : ℤ) → soil_out (soil_of m (natural_bytes z)) ≡ number_out (soil_most m) z
 soil-out Measure.Suction z = number-out 10000 z (omega arith)
 soil-out Measure.Water z = number-out 1000 z (omega arith)
 
-pub ranges-same : (day hour : ℕ) (w : Wholes) (m : Measure) → checked (Record.Hour (hour_of (raw_of day hour w) m)) ≡ ranges_of m w
+pub ranges-same :
+    (day hour : ℕ) (w : Wholes) (m : Measure) →
+    checked (Record.Hour (hour_of (raw_of day hour w) m)) ≡ ranges_of m w
 unfolding checked hour_of raw_of
-ranges-same day hour w m = grind (arith, nat_tests, ozone-out, number-out, temperature-out, soil-out)
+ranges-same day hour w m =
+    grind (arith, nat_tests, ozone-out, number-out, temperature-out, soil-out)
 
 -- ---- numbers in range
 
@@ -56,22 +60,28 @@ bytes-complement (negsuc n) e = grind (arith, nat_tests)
 
 -- ---- an hour of given numbers in range
 
-number-back : (high : ℕ) (z : ℤ) → high < 65534 → number_out high z ≡ false → pos (natural_bytes z) ≡ z
+number-back :
+    (high : ℕ) (z : ℤ) → high < 65534 → number_out high z ≡ false → pos (natural_bytes z) ≡ z
 number-back high (pos n) h e = grind (arith, nat_tests, natural-is)
 number-back high (negsuc n) h e = absurd (true≢false e)
 
-ozone-back : (z : ℤ) → ozone_number_out z ≡ false → pos (ozone_number (ozone_of (natural_bytes z))) ≡ z
+ozone-back :
+    (z : ℤ) → ozone_number_out z ≡ false → pos (ozone_number (ozone_of (natural_bytes z))) ≡ z
 ozone-back (pos n) e = grind (arith, nat_tests, ozone-number, natural-is)
 ozone-back (negsuc n) e = absurd (true≢false e)
 
 temperature-back : (z : ℤ) → temperature_out z ≡ false → signed_of (complement_bytes z) ≡ z
 temperature-back z e = ap signed_of (bytes-complement z e) ∙ signed-complement z e
 
-soil-back : (m : Measure) (z : ℤ) → number_out (soil_most m) z ≡ false → pos (soil_number (soil_of m (natural_bytes z))) ≡ z
+soil-back :
+    (m : Measure) (z : ℤ) → number_out (soil_most m) z ≡ false →
+    pos (soil_number (soil_of m (natural_bytes z))) ≡ z
 soil-back Measure.Suction z e = number-back 10000 z (omega arith) e
 soil-back Measure.Water z e = number-back 1000 z (omega arith) e
 
-pub hour-said : (day hour : ℕ) (w : Wholes) (m : Measure) → ranges_of m w ≡ accepted tt → (h : Hour) × SaidBy day hour w h
+pub hour-said :
+    (day hour : ℕ) (w : Wholes) (m : Measure) → ranges_of m w ≡ accepted tt →
+    (h : Hour) × SaidBy day hour w h
 unfolding hour_of raw_of
 hour-said day hour w m e =
     let o = row-passed (ozone_number_out w.ozone) _ _ tt e in

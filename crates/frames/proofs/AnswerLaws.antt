@@ -32,16 +32,21 @@ pub accepted-same : {A : Type 0} {a b : A} → accepted a ≡ accepted b → a �
 accepted-same e = cc
 
 -- `row` and `field`, by their test
-pub row-passed : {A : Type 0} (t : Bool) (w : ℕ × ℕ) (next : Outcome A) (a : A) → cond t (refused w) next ≡ accepted a → (t ≡ false) × (next ≡ accepted a)
+pub row-passed :
+    {A : Type 0} (t : Bool) (w : ℕ × ℕ) (next : Outcome A) (a : A) →
+    cond t (refused w) next ≡ accepted a → (t ≡ false) × (next ≡ accepted a)
 row-passed true w next a e = refused-not-accepted e
 row-passed false w next a e = (refl, e)
 
-pub onward-passed : {A B : Type 0} (o : Outcome A) (next : A → Outcome B) (b : B) → onward o next ≡ accepted b
+pub onward-passed :
+    {A B : Type 0} (o : Outcome A) (next : A → Outcome B) (b : B) → onward o next ≡ accepted b
     → (a : A) × (o ≡ accepted a) × (next a ≡ accepted b)
 onward-passed (accepted a) next b e = (a, refl, e)
 onward-passed (refused w) next b e = refused-not-accepted e
 
-pub on_tree-passed : {A : Type 0} (choice : Option Figures) (next : Figures → Outcome A) (a : A) → on_tree choice next ≡ accepted a
+pub on_tree-passed :
+    {A : Type 0} (choice : Option Figures) (next : Figures → Outcome A) (a : A) →
+    on_tree choice next ≡ accepted a
     → (f : Figures) × (choice ≡ Some f) × (next f ≡ accepted a)
 on_tree-passed (Some f) next a e = (f, refl, e)
 on_tree-passed None next a e = refused-not-accepted e

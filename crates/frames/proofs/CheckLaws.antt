@@ -13,7 +13,8 @@ use Rattle.frames.specs.declared.records.Header.{Header}
 use Rattle.frames.specs.declared.records.Record.{Record}
 
 pub level_in :
-    (h : Header) {f : Figures} → figures_in no_parameters h.tree ≡ Some f → is_outside 365 366 h.days ≡ false → period_out h (ramp_days f) ≡ false
+    (h : Header) {f : Figures} → figures_in no_parameters h.tree ≡ Some f →
+    is_outside 365 366 h.days ≡ false → period_out h (ramp_days f) ≡ false
     → is_outside 1 10000 h.level ≡ false → accepted tt ≡ checked (Record.Header h)
 unfolding checked
 level_in h tree year period level = rw (tree, year, period, level)

@@ -24,7 +24,11 @@ pub data DigitCase (c : ℕ) : Type 0 where
 pub digit-cases : (c : ℕ) → DigitCase c
 digit-cases c =
     ⊎_elim
-    (λ p. ⊎_elim (λ q. decimal p q) (λ q. ⊎_elim (λ r. ⊎_elim (λ s. letter r s) over (le-or-lt c 70)) (λ r. between q r) (le-or-lt 65 c)) (le-or-lt c 57))
+    (λ p.
+    ⊎_elim (λ q. decimal p q)
+    (λ q.
+    ⊎_elim (λ r. ⊎_elim (λ s. letter r s) over (le-or-lt c 70)) (λ r. between q r) (le-or-lt 65 c))
+    (le-or-lt c 57))
     under
     (le-or-lt 48 c)
 
@@ -62,7 +66,8 @@ pub value-lt : (c : ℕ) → value_of c < 16
 value-lt c = rw (value-is c (digit-cases c)) at (case-lt c (digit-cases c))
 
 -- a digit's value by its bits: the low four, and 9 more from 64 on
-case-bits : (c : ℕ) (at : DigitCase c) → is_digit_in c at ≡ true → c % 16 + 9 * (c / 64) ≡ value_in c at
+case-bits :
+    (c : ℕ) (at : DigitCase c) → is_digit_in c at ≡ true → c % 16 + 9 * (c / 64) ≡ value_in c at
 case-bits c (decimal p q) e = omega arith
 case-bits c (letter p q) e = omega arith
 case-bits c (under p) e = absurd (true≢false (sym e))
@@ -70,7 +75,8 @@ case-bits c (between p q) e = absurd (true≢false (sym e))
 case-bits c (over p) e = absurd (true≢false (sym e))
 
 value-bits : (c : ℕ) → is_digit c ≡ true → c % 16 + 9 * (c / 64) ≡ value_of c
-value-bits c e = case-bits c (digit-cases c) (digit-is c (digit-cases c) ∙ e) ∙ value-is c (digit-cases c)
+value-bits c e =
+    case-bits c (digit-cases c) (digit-is c (digit-cases c) ∙ e) ∙ value-is c (digit-cases c)
 
 pub bits-lt : (c : ℕ) → bits_of c < 16
 unfolding bits_of
@@ -83,12 +89,14 @@ bits-value c e = omega (arith, value-bits c e, value-lt c)
 -- ---- a line of digits, from a place on
 
 pub all-step : (all : Bool) (s : List ℕ) (i : ℕ) → i < length s
-    → (all && all_digits (drop i s)) ≡ ((all && is_digit (get_or s i 0)) && all_digits (drop (i + 1) s))
+    → (all && all_digits (drop i s))
+    ≡ ((all && is_digit (get_or s i 0)) && all_digits (drop (i + 1) s))
 unfolding all_digits
 all-step true s i h = rw (add-one, drop-cons s i 0)
 all-step false s i h = refl
 
-pub digit_at : (l : List ℕ) (i : ℕ) → all_digits l ≡ true → i < length l → is_digit (get_or l i 0) ≡ true
+pub digit_at :
+    (l : List ℕ) (i : ℕ) → all_digits l ≡ true → i < length l → is_digit (get_or l i 0) ≡ true
 unfolding all_digits
 digit_at [] i e h = absurd (omega arith)
 digit_at (c ∷ l) zero e h = (and_both (is_digit c) (all_digits l) e).0

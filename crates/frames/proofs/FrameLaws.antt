@@ -35,29 +35,37 @@ module _ (l : List ℕ) where
       unfolding parsed_of
       kind-out own = rw (sized, digits, own)
 
-      pub kind-in : eqb (length_of (byte_at 0 l)) (length l) ≡ true → accepted (frame_at l) ≡ parsed_of l
+      pub kind-in :
+          eqb (length_of (byte_at 0 l)) (length l) ≡ true → accepted (frame_at l) ≡ parsed_of l
       unfolding parsed_of
       kind-in own = rw (sized, digits, own)
 
 -- ---- a line of some kind
 
-pub frame_is : (l : List ℕ) {kind : ℕ} → byte_at 0 l ≡ kind → frame_at l ≡ frame_of kind (fields_at kind l)
+pub frame_is :
+    (l : List ℕ) {kind : ℕ} → byte_at 0 l ≡ kind → frame_at l ≡ frame_of kind (fields_at kind l)
 unfolding frame_at
 frame_is l e = rw e
 
 -- an hour's numbers are those of kind 02 and, past them, its own
-pub hour-same : (l : List ℕ) {kind : ℕ} → IsHour kind → (air : Air) → raw_hour_of air (fields_at 2 l) ≡ raw_hour_of air (fields_at kind l)
+pub hour-same :
+    (l : List ℕ) {kind : ℕ} → IsHour kind → (air : Air) →
+    raw_hour_of air (fields_at 2 l) ≡ raw_hour_of air (fields_at kind l)
 hour-same l (with_deficit e) air = rw e
 hour-same l (with_pressure e) air = rw e
 hour-same l (with_humidity e) air = rw e
 
-hour-of-kind : (ns : List ℕ) {kind : ℕ} → IsHour kind → frame_of kind ns ≡ Raw.Hour (raw_hour_of (air_of kind ns) ns)
+hour-of-kind :
+    (ns : List ℕ) {kind : ℕ} → IsHour kind →
+    frame_of kind ns ≡ Raw.Hour (raw_hour_of (air_of kind ns) ns)
 unfolding frame_of
 hour-of-kind ns (with_deficit e) = rw e
 hour-of-kind ns (with_pressure e) = rw e
 hour-of-kind ns (with_humidity e) = rw e
 
-pub hour-framed : (l : List ℕ) {kind : ℕ} → IsHour kind → byte_at 0 l ≡ kind → frame_at l ≡ Raw.Hour (raw_hour_of (air_of kind (fields_at kind l)) (fields_at kind l))
+pub hour-framed :
+    (l : List ℕ) {kind : ℕ} → IsHour kind → byte_at 0 l ≡ kind →
+    frame_at l ≡ Raw.Hour (raw_hour_of (air_of kind (fields_at kind l)) (fields_at kind l))
 hour-framed l {kind} is k = frame_is l k ∙ hour-of-kind (fields_at kind l) is
 
 module _ (l : List ℕ) (sized : Sized l) where

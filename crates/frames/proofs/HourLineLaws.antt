@@ -25,24 +25,32 @@ module _ (kind : ℕ) {o : Outcome Raw} where
 
 -- ---- the hour of an answer
 
-given-of : (t : Bool) (raw given : RawHour) → Some raw ≡ cond t (Some given) None → (t ≡ true) × (given ≡ raw)
+given-of :
+    (t : Bool) (raw given : RawHour) → Some raw ≡ cond t (Some given) None →
+    (t ≡ true) × (given ≡ raw)
 given-of true raw given e = (refl, cc)
 given-of false raw given e = let z : ◌≡◌ {A = ℕ} 0 1 = cc in absurd (omega arith)
 
 abbrev Given : ℕ → Outcome Raw → RawHour → Type 0
 Given kind o raw = (o ≡ accepted (Raw.Hour raw)) × (air_kind raw.air ≡ kind)
 
-given : (kind : ℕ) (o : Outcome Raw) (raw : RawHour) → Some raw ≡ hour_read_of kind o → Given kind o raw
+given :
+    (kind : ℕ) (o : Outcome Raw) (raw : RawHour) → Some raw ≡ hour_read_of kind o → Given kind o raw
 unfolding hour_read_of
 given kind (accepted (Raw.Hour h)) raw e =
-    let g = given-of (eqb (air_kind h.air) kind) raw h e in
-    (ap (λ (x : RawHour). accepted (Raw.Hour x)) g.1, rw g.1 at (eqb-true (air_kind h.air) kind g.0))
+    let g = given-of (eqb (air_kind h.air) kind) raw h e in (
+      ap (λ (x : RawHour). accepted (Raw.Hour x)) g.1,
+      rw g.1 at (eqb-true (air_kind h.air) kind g.0),
+    )
 given kind (accepted (Raw.Header h)) raw e = let z : ◌≡◌ {A = ℕ} 0 1 = cc in absurd (omega arith)
 given kind (accepted (Raw.End h)) raw e = let z : ◌≡◌ {A = ℕ} 0 1 = cc in absurd (omega arith)
 given kind (accepted (Raw.Ceiling h)) raw e = let z : ◌≡◌ {A = ℕ} 0 1 = cc in absurd (omega arith)
-given kind (accepted (Raw.Parameters h)) raw e = let z : ◌≡◌ {A = ℕ} 0 1 = cc in absurd (omega arith)
+given kind (accepted (Raw.Parameters h)) raw e =
+    let z : ◌≡◌ {A = ℕ} 0 1 = cc in absurd (omega arith)
 given kind (accepted (Raw.Warmth h)) raw e = let z : ◌≡◌ {A = ℕ} 0 1 = cc in absurd (omega arith)
 given kind (refused w) raw e = let z : ◌≡◌ {A = ℕ} 0 1 = cc in absurd (omega arith)
 
-pub read-hour : (kind : ℕ) (l : List ℕ) (raw : RawHour) → Some raw ≡ hour_read_of kind (parsed_of l) → (parsed_of l ≡ accepted (Raw.Hour raw)) × (air_kind raw.air ≡ kind)
+pub read-hour :
+    (kind : ℕ) (l : List ℕ) (raw : RawHour) → Some raw ≡ hour_read_of kind (parsed_of l) →
+    (parsed_of l ≡ accepted (Raw.Hour raw)) × (air_kind raw.air ≡ kind)
 read-hour kind l raw e = given kind (parsed_of l) raw e

@@ -8,7 +8,8 @@ use native.Mathlib.Omega.{arith}
 use borrow.Author.Tests.{eqb-true}
 use lib.Dec.{eqb}
 use lib.ListN.{length, get_or, get_or-eq_default}
-use Rattle.frames.specs.Kinds.{Width, one, kinds, widths_of, size_of, digits_in, lengths, longest, among, is_length, length_of}
+use Rattle.frames.specs.Kinds.{Width, one, kinds, widths_of, size_of, digits_in, lengths, longest}
+use Rattle.frames.specs.Kinds.{among, is_length, length_of}
 use Rattle.frames.specs.steps.Frames.{IsHour, with_deficit, with_pressure, with_humidity}
 use Rattle.exact.proofs.OrderLaws.{le-or-lt}
 use Rattle.frames.proofs.AnswerLaws.{and_both, or-either}
@@ -18,12 +19,15 @@ abbrev pub all_pass : (ℕ → Bool) → List ℕ → Bool
 all_pass test [] = true
 all_pass test (m ∷ ms) = test m && all_pass test ms
 
-pub among-passes : (test : ℕ → Bool) (l : List ℕ) (n : ℕ) → all_pass test l ≡ true → among l n ≡ true → test n ≡ true
+pub among-passes :
+    (test : ℕ → Bool) (l : List ℕ) (n : ℕ) → all_pass test l ≡ true →
+    among l n ≡ true → test n ≡ true
 unfolding among
 among-passes test [] n all e = absurd (false≢true e)
 among-passes test (m ∷ ms) n all e =
     let p = and_both (test m) (all_pass test ms) all in
-    ⊎_elim (λ same. subst (λ k. test k ≡ true) (eqb-true m n same) p.0) (λ rest. among-passes test ms n p.1 rest) (or-either (eqb m n) (among ms n) e)
+    ⊎_elim (λ same. subst (λ k. test k ≡ true) (eqb-true m n same) p.0)
+    (λ rest. among-passes test ms n p.1 rest) (or-either (eqb m n) (among ms n) e)
 
 -- ---- the lengths of lines
 
@@ -31,14 +35,17 @@ among-le : (ms : List ℕ) (n : ℕ) → among ms n ≡ true → n ≤ foldr max
 unfolding among
 among-le [] n e = absurd (false≢true e)
 among-le (m ∷ ms) n e =
-    ⊎_elim (λ p. omega (arith, eqb-true m n p)) (λ q. omega (arith, among-le ms n q)) (or-either (eqb m n) (among ms n) e)
+    ⊎_elim (λ p. omega (arith, eqb-true m n p)) (λ q. omega (arith, among-le ms n q))
+    (or-either (eqb m n) (among ms n) e)
 
 -- each has the digits of its kind
-among-ge : (table : List (List Width)) (n : ℕ) → among (map digits_in table) n ≡ true → size_of one ≤ n
+among-ge :
+    (table : List (List Width)) (n : ℕ) → among (map digits_in table) n ≡ true → size_of one ≤ n
 unfolding among
 among-ge [] n e = absurd (false≢true e)
 among-ge (ws ∷ table) n e =
-    ⊎_elim (λ p. omega (arith, eqb-true (digits_in ws) n p)) (λ q. among-ge table n q) (or-either (eqb (digits_in ws) n) (among (map digits_in table) n) e)
+    ⊎_elim (λ p. omega (arith, eqb-true (digits_in ws) n p)) (λ q. among-ge table n q)
+    (or-either (eqb (digits_in ws) n) (among (map digits_in table) n) e)
 
 pub length-le : (n : ℕ) → is_length n ≡ true → n ≤ longest
 length-le n e = among-le lengths n e
@@ -65,11 +72,15 @@ kind-none (suc b) h = sym (get_or-eq_default lengths 0 {n = b} (omega (arith, h 
 pub kind-within : (b : ℕ) → 0 < length_of b → (1 ≤ b) × (b ≤ length kinds)
 kind-within b h =
     ⊎_elim
-    (λ p. ⊎_elim (λ q. (p, q)) (λ q. absurd (omega (arith, kind-none b (λ r. q)))) (le-or-lt b (length kinds)))
+    (λ p.
+    ⊎_elim (λ q. (p, q)) (λ q. absurd (omega (arith, kind-none b (λ r. q))))
+    (le-or-lt b (length kinds)))
     (λ p. absurd (omega (arith, kind-none b (λ r. absurd (omega arith)))))
     (le-or-lt 1 b)
 
-length_at : (table : List (List Width)) (i : ℕ) → i < length table → get_or (map digits_in table) i 0 ≡ digits_in (get_or table i [])
+length_at :
+    (table : List (List Width)) (i : ℕ) → i < length table →
+    get_or (map digits_in table) i 0 ≡ digits_in (get_or table i [])
 length_at [] i h = absurd (omega arith)
 length_at (ws ∷ table) zero h = refl
 length_at (ws ∷ table) (suc i) h = length_at table i (omega arith)
@@ -100,7 +111,9 @@ kind-cases (suc (suc (suc (suc (suc (suc (suc zero))))))) h = parameters refl
 kind-cases (suc (suc (suc (suc (suc (suc (suc (suc zero)))))))) h = warmth refl
 kind-cases (suc (suc (suc (suc (suc (suc (suc (suc (suc b))))))))) h = absurd (omega arith)
 
-pub hour-left : (b : ℕ) → KindCase b → (b ≡ 1 → ⊥) → (b ≡ 3 → ⊥) → (b ≡ 6 → ⊥) → (b ≡ 7 → ⊥) → (b ≡ 8 → ⊥) → IsHour b
+pub hour-left :
+    (b : ℕ) → KindCase b → (b ≡ 1 → ⊥) → (b ≡ 3 → ⊥) → (b ≡ 6 → ⊥) → (b ≡ 7 → ⊥) →
+    (b ≡ 8 → ⊥) → IsHour b
 hour-left b (header e) p q r s t = absurd (p e)
 hour-left b (hour is) p q r s t = is
 hour-left b (end e) p q r s t = absurd (q e)

@@ -32,7 +32,9 @@ missing-is m None e = refl
 -- row 17
 pub ceiling-le : (ceiling : ℕ) → ceiling_out ceiling ≡ false → ceiling ≤ 5000
 ceiling-le zero e = omega arith
-ceiling-le (suc c) e = ltb-false 5000 (suc c) (or-neither (ltb (suc c) 1) _ (rw (ne_eqb (suc c) 0 (omega arith)) at e)).1
+ceiling-le (suc c) e =
+    ltb-false 5000 (suc c)
+    (or-neither (ltb (suc c) 1) _ (rw (ne_eqb (suc c) 0 (omega arith)) at e)).1
 
 -- ---- the hour with a number up to the one read
 
@@ -45,16 +47,24 @@ pub read_is : (m : ℕ) (h : Hour) → is_missing h.ozone ≡ false → read_as 
 read_is m h given = own_read m h h.ozone refl given
 
 -- row 10
-pub ozone-passed : (n : ℕ) (h : Hour) → n ≤ 5000 → checked (Record.Hour h) ≡ accepted tt → checked (Record.Hour (with_ozone n h)) ≡ accepted tt
+pub ozone-passed :
+    (n : ℕ) (h : Hour) → n ≤ 5000 → checked (Record.Hour h) ≡ accepted tt →
+    checked (Record.Hour (with_ozone n h)) ≡ accepted tt
 unfolding checked
-ozone-passed n h small passed = rw (le-ltb 5000 n small) (row-passed (ozone_out h.ozone) _ _ tt passed).1
+ozone-passed n h small passed =
+    rw (le-ltb 5000 n small) (row-passed (ozone_out h.ozone) _ _ tt passed).1
 
 -- the hour's own ozone is in range
-own-le : (m : ℕ) (h : Hour) → m ≤ 5000 → checked (Record.Hour h) ≡ accepted tt → tenths_or m h.ozone ≤ 5000
+own-le :
+    (m : ℕ) (h : Hour) → m ≤ 5000 → checked (Record.Hour h) ≡ accepted tt →
+    tenths_or m h.ozone ≤ 5000
 unfolding checked
-own-le m h small passed = tenths_or-le h.ozone (row-passed (ozone_out h.ozone) _ _ tt passed).0 small
+own-le m h small passed =
+    tenths_or-le h.ozone (row-passed (ozone_out h.ozone) _ _ tt passed).0 small
 
-pub read-passed : (m : ℕ) (h : Hour) → m ≤ 5000 → checked (Record.Hour h) ≡ accepted tt → checked (Record.Hour (read_as m h)) ≡ accepted tt
+pub read-passed :
+    (m : ℕ) (h : Hour) → m ≤ 5000 → checked (Record.Hour h) ≡ accepted tt →
+    checked (Record.Hour (read_as m h)) ≡ accepted tt
 read-passed m h small passed = ozone-passed (tenths_or m h.ozone) h (own-le m h small passed) passed
 
 -- ---- a filling
@@ -67,12 +77,23 @@ pub record Within (ceiling : ℕ) (h f : Hour) : Type 0 where
 
 pub filling-within : (ceiling : ℕ) (h f : Hour) → Fills ceiling h f → Within ceiling h f
 filling-within ceiling h f (Fills.given e) =
-    record { ozone = tenths_or 0 h.ozone; is = sym (read_is 0 h e); above = le_refl _; below = tenths_or-mono h.ozone (omega arith) }
+    record {
+      ozone = tenths_or 0 h.ozone;
+      is = sym (read_is 0 h e);
+      above = le_refl _;
+      below = tenths_or-mono h.ozone (omega arith);
+    }
 filling-within ceiling h f (Fills.filled e n le) =
-    record { ozone = n; is = refl; above = omega (arith, missing-is 0 h.ozone e); below = omega (arith, missing-is ceiling h.ozone e) }
+    record {
+      ozone = n;
+      is = refl;
+      above = omega (arith, missing-is 0 h.ozone e);
+      below = omega (arith, missing-is ceiling h.ozone e);
+    }
 
 pub filling-passed :
-    (ceiling : ℕ) (h f : Hour) → ceiling ≤ 5000 → Fills ceiling h f → checked (Record.Hour h) ≡ accepted tt → checked (Record.Hour f) ≡ accepted tt
+    (ceiling : ℕ) (h f : Hour) → ceiling ≤ 5000 → Fills ceiling h f →
+    checked (Record.Hour h) ≡ accepted tt → checked (Record.Hour f) ≡ accepted tt
 filling-passed ceiling h f small fills passed =
     let w = filling-within ceiling h f fills in
     rw w.is (ozone-passed w.ozone h (le_trans w.below (own-le ceiling h small passed)) passed)

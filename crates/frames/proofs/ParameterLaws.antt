@@ -33,7 +33,9 @@ use Rattle.frames.proofs.AnswerLaws.{or-neither, row-passed}
 or-neither-iff : (a b : Bool) → ((a || b) ≡ false) ↔ ((a ≡ false) × (b ≡ false))
 or-neither-iff a b = (or-neither a b, λ both. rw both.0 both.1)
 
-powers-found : (r : Option Ratio) (t_min t_opt t_max : ℕ) → is_none r ≡ false → PowersFacts t_min t_opt t_max r → ArePowers t_min t_opt t_max (p_in r) (q_in r)
+powers-found :
+    (r : Option Ratio) (t_min t_opt t_max : ℕ) → is_none r ≡ false →
+    PowersFacts t_min t_opt t_max r → ArePowers t_min t_opt t_max (p_in r) (q_in r)
 powers-found (Some r) t_min t_opt t_max e facts = facts
 powers-found None t_min t_opt t_max e facts = absurd (true≢false e)
 
@@ -42,14 +44,16 @@ module _ (ps : Parameters) (passed : parameter_out ps ≡ false) where
   unfolding parameter_out measured_figures
   parameters-sound =
       let each = simp or-neither-iff at passed in
-      let powers = powers-found (powers_in ps) _ _ _ each.0.0.0.0.0.0.0.0.1.1 (powers-facts _ _ _) in
+      let powers =
+      powers-found (powers_in ps) _ _ _ each.0.0.0.0.0.0.0.0.1.1 (powers-facts _ _ _) in
       omega (arith, ltb-false, leb-false, powers, each)
 
   pub parameters-fed : is_fed ps ≡ true
   unfolding measured_figures
   parameters-fed = rw (ne_eqb ps.g_max 0 (omega (arith, parameters-sound.g_max)))
 
-pub parameters-passed : (ps : Parameters) → checked (Record.Parameters ps) ≡ accepted tt → parameter_out ps ≡ false
+pub parameters-passed :
+    (ps : Parameters) → checked (Record.Parameters ps) ≡ accepted tt → parameter_out ps ≡ false
 unfolding checked
 parameters-passed ps e = (row-passed (parameter_out ps) _ _ tt e).0
 
@@ -63,7 +67,8 @@ worked-not-tabled : {A : Type 0} {s : Source} (curve : Curve) → s ≡ Worked �
 worked-not-tabled curve e f = let z : ◌≡◌ {A = ℕ} 0 1 = cc in absurd (omega arith)
 
 measured-tabled : (ps : Parameters) → HasTable (measured_figures ps)
-measured-tabled ps = record { pair = λ curve named x. worked-not-tabled curve (measured-worked ps) named }
+measured-tabled ps =
+    record { pair = λ curve named x. worked-not-tabled curve (measured-worked ps) named }
 
 -- ---- by the tree's number
 
@@ -76,9 +81,14 @@ module _ (ps : Parameters) (t : ℕ) where
   unfolding figures_in
   figures-in-other e = rw e
 
-module _ (P : Figures → Type 0) (ps : Parameters) (t : ℕ) (f : Figures) (chosen : figures_in ps t ≡ Some f) where
-  by-test : (b : Bool) → eqb t 7 ≡ b → (b ≡ true → P (measured_figures ps)) → (figures_of t ≡ Some f → P f) → P f
-  by-test true e measured tabled = let same : measured_figures ps ≡ f = cc (figures-in-measured ps t e) in subst P same (measured refl)
+module _ (P : Figures → Type 0) (ps : Parameters) (t : ℕ) (f : Figures)
+    (chosen : figures_in ps t ≡ Some f) where
+  by-test :
+      (b : Bool) → eqb t 7 ≡ b → (b ≡ true → P (measured_figures ps)) →
+      (figures_of t ≡ Some f → P f) → P f
+  by-test true e measured tabled =
+      let same : measured_figures ps ≡ f = cc (figures-in-measured ps t e) in
+      subst P same (measured refl)
   by-test false e measured tabled = tabled (sym (figures-in-other ps t e) ∙ chosen)
 
   -- what holds of the measured tree and of the six holds of any tree that is chosen
@@ -87,7 +97,9 @@ module _ (P : Figures → Type 0) (ps : Parameters) (t : ℕ) (f : Figures) (cho
 
 module _ (ps : Parameters) (t : ℕ) (f : Figures) (chosen : figures_in ps t ≡ Some f) where
   pub figures-in-tabled : HasTable f
-  figures-in-tabled = figures-in-all HasTable ps t f chosen (λ _. measured-tabled ps) (figures-tabled t f)
+  figures-in-tabled =
+      figures-in-all HasTable ps t f chosen (λ _. measured-tabled ps) (figures-tabled t f)
 
   pub figures-in-sound : (eqb t 7 ≡ true → parameter_out ps ≡ false) → Sound f
-  figures-in-sound passed = figures-in-all Sound ps t f chosen (λ e. parameters-sound ps (passed e)) (figures-sound t f)
+  figures-in-sound passed =
+      figures-in-all Sound ps t f chosen (λ e. parameters-sound ps (passed e)) (figures-sound t f)

@@ -20,7 +20,8 @@ use Rattle.frames.specs.Temperature.{temperature_out}
 use Rattle.frames.specs.Layout.{vapour_number, soil_number}
 use Rattle.frames.specs.Ozone.{tenths_or}
 use Rattle.frames.specs.Numbers.{is_outside}
-use Rattle.frames.specs.Ranges.{ozone_out, vapour_out, soil_out, pressure_out, period_out, warmth_out, checked}
+use Rattle.frames.specs.Ranges.{ozone_out, vapour_out, soil_out, pressure_out, period_out}
+use Rattle.frames.specs.Ranges.{warmth_out, checked}
 use Rattle.frames.specs.Period.{period_hours}
 use Rattle.frames.specs.declared.records.Header.{Header}
 use Rattle.frames.specs.declared.records.Ceiling.{Ceiling}
@@ -118,7 +119,8 @@ tree-inside : (ps : Parameters) (t : ℕ) (f : Figures) → figures_in ps t ≡ 
 unfolding figures_in figures_of
 tree-inside ps zero f e = unknown-not-tree e
 tree-inside ps (suc t) f e =
-    ⊎_elim (λ h. record { above = omega arith; below = h }) (λ h. unknown-not-tree (sym (none-past ps (suc t) h) ∙ e)) (le-or-lt (suc t) 7)
+    ⊎_elim (λ h. record { above = omega arith; below = h })
+    (λ h. unknown-not-tree (sym (none-past ps (suc t) h) ∙ e)) (le-or-lt (suc t) 7)
 
 header-passed : (h : Header) → checked (Record.Header h) ≡ accepted tt → HeaderIn h
 unfolding checked
@@ -133,7 +135,8 @@ header-passed h e =
     record {
       tree = tree-inside no_parameters h.tree tree.0 tree.1;
       days = inside_is 365 366 h.days days.0;
-      first = record { above = ltb-false h.first 1 first.0; below = ltb-false h.last h.first first.1 };
+      first =
+          record { above = ltb-false h.first 1 first.0; below = ltb-false h.last h.first first.1 };
       last = ltb-false h.days h.last last.1;
       level = inside_is 1 10000 h.level level.0;
     }

@@ -38,7 +38,10 @@ parsed-passed l frame e =
     let kind = row-passed (not (eqb (length_of (byte_at 0 l)) (length l))) _ _ frame digits.1 in
     record {
       digits = not-false (all_digits l) digits.0;
-      sized = record { some = not-false (is_length (length l)) sized.0; own = eqb-true (length_of (byte_at 0 l)) (length l) (not-false _ kind.0) };
+      sized = record {
+        some = not-false (is_length (length l)) sized.0;
+        own = eqb-true (length_of (byte_at 0 l)) (length l) (not-false _ kind.0);
+      };
       same = sym (accepted-same kind.1);
     }
 
@@ -59,7 +62,9 @@ pub record HourRead (tree : ℕ) (raw : RawHour) (r : Record) : Type 0 where
   pub named : figures_in no_parameters tree ≡ Some figures
   pub is : SoundRead (Record.Hour (hour_of raw figures.measure)) r
 
-pub hour-read : (tree : ℕ) (raw : RawHour) (r : Record) → record_of tree (Raw.Hour raw) ≡ accepted r → HourRead tree raw r
+pub hour-read :
+    (tree : ℕ) (raw : RawHour) (r : Record) →
+    record_of tree (Raw.Hour raw) ≡ accepted r → HourRead tree raw r
 unfolding record_of
 hour-read tree raw r e =
     let p = on_tree-passed (figures_in no_parameters tree) _ r e in

@@ -29,7 +29,8 @@ natural-at (pos n) f e = (n, refl, f.sfits)
 natural-at (negsuc k) f e = absurd (true≢false e)
 
 module _ (t : ℤ) (f : SFits w16 t) where
-  pub negative : lt_z (to_z w16 (of_z w16 t)) (pos 0) ≡ true → (k : ℕ) × (t ≡ negsuc k) × (k < 32768)
+  pub negative :
+      lt_z (to_z w16 (of_z w16 t)) (pos 0) ≡ true → (k : ℕ) × (t ≡ negsuc k) × (k < 32768)
   negative e = negative-at t f (rw (plain t f) at e)
 
   pub natural : lt_z (to_z w16 (of_z w16 t)) (pos 0) ≡ false → (n : ℕ) × (t ≡ pos n) × (n < 32768)

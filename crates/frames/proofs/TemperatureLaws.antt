@@ -24,7 +24,9 @@ signed_high n h = simp (le-ltb n 32768 h)
 
 -- the machine's two's complement is the frames'
 pub signed-is : (n : ℕ) → to_z w16 n ≡ signed_of n
-signed-is n = ⊎_elim (λ p. rw (signed_high n p) (rw (le-ltb n 32768 p) (ap negsuc (omega arith)))) (λ p. rw (signed_low n p) (to_z_pos w16 n p)) (le-or-lt 32768 n)
+signed-is n =
+    ⊎_elim (λ p. rw (signed_high n p) (rw (le-ltb n 32768 p) (ap negsuc (omega arith))))
+    (λ p. rw (signed_low n p) (to_z_pos w16 n p)) (le-or-lt 32768 n)
 
 pub complement-is : (t : ℤ) → of_z w16 t ≡ complement_of t
 unfolding complement_of
@@ -33,7 +35,8 @@ complement-is (negsuc n) = omega arith
 
 pub complement-signed : (n : ℕ) → n < 65536 → complement_of (signed_of n) ≡ n
 unfolding complement_of
-complement-signed n h = ⊎_elim (λ p. rw (signed_high n p) (omega arith)) (λ p. rw (signed_low n p)) (le-or-lt 32768 n)
+complement-signed n h =
+    ⊎_elim (λ p. rw (signed_high n p) (omega arith)) (λ p. rw (signed_low n p)) (le-or-lt 32768 n)
 
 pub signed-complement : (t : ℤ) → temperature_out t ≡ false → signed_of (complement_of t) ≡ t
 unfolding complement_of temperature_out

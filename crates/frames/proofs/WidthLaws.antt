@@ -19,7 +19,9 @@ use Rattle.frames.proofs.WrittenOzoneLaws.{ozone-lt}
 abbrev pub FitsLine : Record → Type 0
 FitsLine r = FitsWidths (one ∷ widths_of (kind_of r)) (kind_of r ∷ numbers_of r)
 
-hour-fits : (h : Hour) → HourIn h → InWidth (Record.Hour h) → (a : Air) → h.air ≡ a → FitsLine (Record.Hour h)
+hour-fits :
+    (h : Hour) → HourIn h → InWidth (Record.Hour h) → (a : Air) → h.air ≡ a →
+    FitsLine (Record.Hour h)
 hour-fits h i w (Deficit n) e =
     let t = complement-lt h.temperature i.temperature in
     let o = ozone-lt h.ozone i.ozone in

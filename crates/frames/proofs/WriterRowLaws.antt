@@ -16,11 +16,21 @@ use Rattle.frames.specs.RoundTrip.{writer_rows}
 
 write-ranged : Ranged writer_rows
 unfolding among
-write-ranged = record { tree = refl; year = refl; period = refl; level = refl; ceiling = refl; parameter = refl; warmth = refl }
+write-ranged = record {
+  tree = refl;
+  year = refl;
+  period = refl;
+  level = refl;
+  ceiling = refl;
+  parameter = refl;
+  warmth = refl;
+}
 
 text-only : (r : Record) → Only writer_rows (text_of r)
 unfolding text_of
-text-only r = onward-only (checked r) (λ _. accepted (frame_line r)) (checked-only write-ranged r) (λ _. accepted-only _)
+text-only r =
+    onward-only (checked r) (λ _. accepted (frame_line r)) (checked-only write-ranged r)
+    (λ _. accepted-only _)
 
 put_only : (text : List ℕ) (room : ℕ) → Only writer_rows (put_of text room)
 unfolding among
@@ -28,4 +38,5 @@ put_only text room = row-only (ltb room (length text)) _ _ _ refl (accepted-only
 
 pub write-only : (r : Record) (room : ℕ) → Only writer_rows (write_of r room)
 unfolding write_of
-write-only r room = onward-only (text_of r) (λ t. put_of t room) (text-only r) (λ t. put_only t room)
+write-only r room =
+    onward-only (text_of r) (λ t. put_of t room) (text-only r) (λ t. put_only t room)

@@ -9,7 +9,8 @@ use borrow.Author.Tests.{lt-ltb, le-ltb}
 use lib.ListN.{get_or}
 use Rattle.frames.specs.Digits.{is_digit, value_of, byte_at, number_at, digit_of}
 use Rattle.exact.proofs.OrderLaws.{le-or-lt}
-use Rattle.frames.proofs.DigitLaws.{DigitCase, decimal, letter, under, between, over, digit-cases, value_in, is_digit_in, value-is, digit-is, value-lt}
+use Rattle.frames.proofs.DigitLaws.{DigitCase, decimal, letter, under, between, over, digit-cases}
+use Rattle.frames.proofs.DigitLaws.{value_in, is_digit_in, value-is, digit-is, value-lt}
 
 pub byte-lt : (at : ℕ) (l : List ℕ) → byte_at at l < 256
 unfolding byte_at
@@ -31,13 +32,16 @@ digit-high d h = simp (le-ltb d 10 h)
 
 pub value-digit : (d : ℕ) → d < 16 → value_of (digit_of d) ≡ d
 value-digit d h =
-    ⊎_elim (λ p. rw (← digit-high d p) (omega (arith, value-is (d + 55) (letter (omega arith) (omega arith)))))
-    (λ p. rw (← digit_low d p) (omega (arith, value-is (d + 48) (decimal (omega arith) (omega arith)))))
+    ⊎_elim (λ p.
+    rw (← digit-high d p) (omega (arith, value-is (d + 55) (letter (omega arith) (omega arith)))))
+    (λ p.
+    rw (← digit_low d p) (omega (arith, value-is (d + 48) (decimal (omega arith) (omega arith)))))
     (le-or-lt 10 d)
 
 pub digit-valid : (d : ℕ) → d < 16 → is_digit (digit_of d) ≡ true
 digit-valid d h =
-    ⊎_elim (λ p. rw (← digit-high d p) (sym (digit-is (d + 55) (letter (omega arith) (omega arith)))))
+    ⊎_elim (λ p.
+    rw (← digit-high d p) (sym (digit-is (d + 55) (letter (omega arith) (omega arith)))))
     (λ p. rw (← digit_low d p) (sym (digit-is (d + 48) (decimal (omega arith) (omega arith)))))
     (le-or-lt 10 d)
 
@@ -49,4 +53,6 @@ digit-case c (between p q) e = absurd (true≢false (sym e))
 digit-case c (over p) e = absurd (true≢false (sym e))
 
 pub digit_value : (c : ℕ) → is_digit c ≡ true → digit_of (value_of c) ≡ c
-digit_value c e = rw (← value-is c (digit-cases c)) (digit-case c (digit-cases c) (digit-is c (digit-cases c) ∙ e))
+digit_value c e =
+    rw (← value-is c (digit-cases c))
+    (digit-case c (digit-cases c) (digit-is c (digit-cases c) ∙ e))

@@ -26,7 +26,8 @@ use Rattle.part.specs.Calls.{Stores, LeavesBytes, PrintsBytes}
 
 -- ---- storing
 
-module _ (a : Account) (before after : List ℕ) (w : Result ℕ Refusal) (p : Prints (accepted (account_bytes a)) before w after) (back : TakenUp a) where
+module _ (a : Account) (before after : List ℕ) (w : Result ℕ Refusal)
+    (p : Prints (accepted (account_bytes a)) before w after) (back : TakenUp a) where
   abbrev short : Bool
   short = ltb (length before) (length (account_bytes a))
 
@@ -43,7 +44,11 @@ module _ (a : Account) (before after : List ℕ) (w : Result ℕ Refusal) (p : P
   short-code e = ap code_of p.answers ∙ rw e
 
   own-stored : (code : ℕ) → code ≡ code_of (outcome_of w) → Stores a before code after
-  own-stored code is = record { answers = is ∙ ap code_of p.answers; leaves = p.leaves; holds = λ none. grind (arith, put-held, short-code) }
+  own-stored code is = record {
+    answers = is ∙ ap code_of p.answers;
+    leaves = p.leaves;
+    holds = λ none. grind (arith, put-held, short-code);
+  }
 
 -- an account, given as one that it equals
 pub stores : (a given : Account) (before after : List ℕ) (w : Result ℕ Refusal) → given ≡ a
@@ -54,15 +59,24 @@ stores a given before after w e p back =
 
 -- ---- the account that an answer gives, over the bytes of the one before
 
-row-leaves : (before : List ℕ) (o : Outcome Account) (r : ℕ × ℕ) (code : ℕ) → o ≡ refused r → code ≡ code_of_row r → LeavesBytes before o code before
-row-leaves before o r code q is = record { answers = grind arith; leaves = grind arith; holds = λ a e. grind arith }
+row-leaves :
+    (before : List ℕ) (o : Outcome Account) (r : ℕ × ℕ) (code : ℕ) → o ≡ refused r →
+    code ≡ code_of_row r → LeavesBytes before o code before
+row-leaves before o r code q is =
+    record { answers = grind arith; leaves = grind arith; holds = λ a e. grind arith }
 
 module _ (before : List ℕ) (given : Result Account Refusal) where
-  pub refused-leaves : (why : Refusal) (code : ℕ) → given ≡ Err why → code ≡ code_of_row (row_of why) → LeavesBytes before (outcome_of given) code before
-  refused-leaves why code e is = row-leaves before (outcome_of given) (row_of why) code (ap outcome_of e) is
+  pub refused-leaves :
+      (why : Refusal) (code : ℕ) → given ≡ Err why → code ≡ code_of_row (row_of why) →
+      LeavesBytes before (outcome_of given) code before
+  refused-leaves why code e is =
+      row-leaves before (outcome_of given) (row_of why) code (ap outcome_of e) is
 
-  pub accepted-leaves : total_width widths ≤ length before → (next : Account) (after : List ℕ) (w : Result ℕ Refusal) (code : ℕ) → given ≡ Ok next
-      → Prints (accepted (account_bytes next)) before w after → TakenUp next → code ≡ code_of (outcome_of w) → LeavesBytes before (outcome_of given) code after
+  pub accepted-leaves :
+      total_width widths ≤ length before →
+      (next : Account) (after : List ℕ) (w : Result ℕ Refusal) (code : ℕ) → given ≡ Ok next
+      → Prints (accepted (account_bytes next)) before w after → TakenUp next →
+      code ≡ code_of (outcome_of w) → LeavesBytes before (outcome_of given) code after
   accepted-leaves room next after w code e p back is =
       let size = account-length next in
       let long = le-ltb (length before) (length (account_bytes next)) (omega (arith, size, room)) in
@@ -75,22 +89,37 @@ module _ (before : List ℕ) (given : Result Account Refusal) where
 -- ---- a step on the account that the bytes hold
 
 -- what the step gives, or the refusal of bytes that hold none
-pub onward-given : {A : Type 0} (before : List ℕ) (step : Account → Outcome A) (given : Result A Refusal) (Gives : Account → Type 0) → ((a : Account) → Gives a → outcome_of given ≡ step a)
-    → (held : Result Account Refusal) → outcome_of held ≡ take_up_of before → MatchResult held Gives (λ e. given ≡ Err e) → outcome_of given ≡ onward (take_up_of before) step
-onward-given before step given Gives gives (Ok a) taken m = gives a m ∙ ap (λ (o : Outcome Account). onward o step) taken
-onward-given before step given Gives gives (Err why) taken m = ap outcome_of m ∙ ap (λ (o : Outcome Account). onward o step) taken
+pub onward-given :
+    {A : Type 0} (before : List ℕ) (step : Account → Outcome A) (given : Result A Refusal)
+    (Gives : Account → Type 0) → ((a : Account) → Gives a → outcome_of given ≡ step a)
+    → (held : Result Account Refusal) → outcome_of held ≡ take_up_of before →
+    MatchResult held Gives (λ e. given ≡ Err e) → outcome_of given ≡ onward (take_up_of before) step
+onward-given before step given Gives gives (Ok a) taken m =
+    gives a m ∙ ap (λ (o : Outcome Account). onward o step) taken
+onward-given before step given Gives gives (Err why) taken m =
+    ap outcome_of m ∙ ap (λ (o : Outcome Account). onward o step) taken
 
 -- there is room for the account that it gives
-pub given-room : (before : List ℕ) (step : Account → Outcome Account) (given : Result Account Refusal) → outcome_of given ≡ onward (take_up_of before) step → ForOk given (λ _. total_width widths ≤ length before)
+pub given-room :
+    (before : List ℕ) (step : Account → Outcome Account) (given : Result Account Refusal) →
+    outcome_of given ≡ onward (take_up_of before) step →
+    ForOk given (λ _. total_width widths ≤ length before)
 given-room before step given q a e =
     let first = onward-passed (take_up_of before) step a (sym q ∙ ap outcome_of e) in
     taken-room before first.0 first.1
 
 -- ---- a text that a first step gives or refuses
 
-module _ {A : Type 0} (o : Outcome A) (text : A → Outcome (List ℕ)) (before after : List ℕ) (w : Result ℕ Refusal) (answer : Printed) (is : answer ≡ printed_of (outcome_of w)) where
-  pub prints-refused : (why : Refusal) → o ≡ refused (row_of why) → w ≡ Err why → after ≡ before → PrintsBytes (onward o text) before answer after
-  prints-refused why q v left = record { written = w; prints = record { answers = ap outcome_of v ∙ rw q; leaves = left ∙ rw q }; answers = is }
+module _ {A : Type 0} (o : Outcome A) (text : A → Outcome (List ℕ)) (before after : List ℕ)
+    (w : Result ℕ Refusal) (answer : Printed) (is : answer ≡ printed_of (outcome_of w)) where
+  pub prints-refused :
+      (why : Refusal) → o ≡ refused (row_of why) → w ≡ Err why → after ≡ before →
+      PrintsBytes (onward o text) before answer after
+  prints-refused why q v left = record {
+    written = w;
+    prints = record { answers = ap outcome_of v ∙ rw q; leaves = left ∙ rw q };
+    answers = is;
+  }
 
 pub prints-accepted : {A : Type 0} (o : Outcome A) (text : A → Outcome (List ℕ))
     (before after : List ℕ) (answer : Printed) (a : A) → o ≡ accepted a

@@ -13,18 +13,28 @@ use Rattle.part.proofs.trials.pod1_take.Reads as take-reads
 
 -- what a call of `pod1_trial` promises, and one of `pod1_take`
 abbrev Made : (account line before : List ℕ) → Tried → List ℕ → Type 0
-Made account line before made after = trial-reads.Post ([], ([], ([], tt))) (lent account, (lent line, (lent-mut before, tt))) made (lent account, (lent line, (lent-mut after, tt)))
+Made account line before made after =
+    trial-reads.Post ([], ([], ([], tt))) (lent account, (lent line, (lent-mut before, tt))) made
+    (lent account, (lent line, (lent-mut after, tt)))
 
 abbrev Taken : (account trial : List ℕ) → ℕ → List ℕ → Type 0
-Taken account trial answer after = take-reads.Post ([], ([], tt)) (lent-mut account, (lent trial, tt)) answer (lent-mut after, (lent trial, tt))
+Taken account trial answer after =
+    take-reads.Post ([], ([], tt)) (lent-mut account, (lent trial, tt)) answer
+    (lent-mut after, (lent trial, tt))
 
-made-taken : (tried line before trial : List ℕ) (made : Tried) → Made tried line before made trial → made.code ≡ 0
-    → (account : List ℕ) → take_up_of account ≡ take_up_of tried → (answer : ℕ) (after : List ℕ) → Taken account trial answer after → TakenAsFed account line made answer after
-made-taken tried line before trial made k z account same answer after t = trial-bytes-promise.taken tried line before trial made k z account same answer after t.0
+made-taken :
+    (tried line before trial : List ℕ) (made : Tried) →
+    Made tried line before made trial → made.code ≡ 0
+    → (account : List ℕ) → take_up_of account ≡ take_up_of tried → (answer : ℕ) (after : List ℕ) →
+    Taken account trial answer after → TakenAsFed account line made answer after
+made-taken tried line before trial made k z account same answer after t =
+    trial-bytes-promise.taken tried line before trial made k z account same answer after t.0
 
 pub trials-cited : TrialBytesPromise
 trials-cited = record {
-  taken = λ tried line before trial made k z account same answer after t. made-taken tried line before trial made k z account same answer after (t, trial-bytes-promise);
+  taken = λ tried line before trial made k z account same answer after t.
+      made-taken tried line before trial made k z account same answer after
+      (t, trial-bytes-promise);
   other = trial-bytes-promise.other;
   none = trial-bytes-promise.none;
   carries = trial-bytes-promise.carries;

@@ -70,13 +70,15 @@ each-at R i zero m l k xs ys e f each h = absurd (omega arith)
 each-at R i (suc n) zero l k xs ys e f each h =
     let a = first-in n l xs e in
     each-none
-    (subst (λ (zs : List Account). Each R zs []) (sym a.is) (subst (Each R xs) (sym (none_in k ys f)) each))
+    (subst (λ (zs : List Account). Each R zs []) (sym a.is)
+    (subst (Each R xs) (sym (none_in k ys f)) each))
 each-at R zero (suc n) (suc m) l k xs ys e f each h =
     let a = first-in n l xs e in
     let b = first-in m k ys f in
     let heads =
     each-head
-    (subst (λ (zs : List Account). Each R zs (b.account ∷ b.rest)) (sym a.is) (subst (Each R xs) (sym b.is) each))
+    (subst (λ (zs : List Account). Each R zs (b.account ∷ b.rest)) (sym a.is)
+    (subst (Each R xs) (sym b.is) each))
     in
     record { before = a.account; after = b.account; held = a.held; holds = b.held; both = heads.0 }
 each-at R (suc i) (suc n) (suc m) l k xs ys e f each h =
@@ -84,13 +86,15 @@ each-at R (suc i) (suc n) (suc m) l k xs ys e f each h =
     let b = first-in m k ys f in
     let heads =
     each-head
-    (subst (λ (zs : List Account). Each R zs (b.account ∷ b.rest)) (sym a.is) (subst (Each R xs) (sym b.is) each))
+    (subst (λ (zs : List Account). Each R zs (b.account ∷ b.rest)) (sym a.is)
+    (subst (Each R xs) (sym b.is) each))
     in
     let rest =
     each-at R i n m (drop account_width l) (drop account_width k) a.rest b.rest a.behind
     b.behind heads.1 (omega arith) in
     subst (λ (d : List ℕ). Both R d (drop (account_width * suc i) k)) (place-on i l)
-    (subst (λ (d : List ℕ). Both R (drop (account_width * i) (drop account_width l)) d) (place-on i k) rest)
+    (subst (λ (d : List ℕ). Both R (drop (account_width * i) (drop account_width l)) d)
+    (place-on i k) rest)
 
 -- ---- a line fed to all
 
@@ -114,7 +118,10 @@ module _ (lent line after : List ℕ) (reply : Result Unit Refusal)
       let list = onward-passed (list_in lent) _ ys size.1 in
       let each =
       accepted-fed list.0 ys line
-      (record { answers = ap reply_of (sym list.2); leaves = ap (left_together list.0) (sym list.2) })
+      (record {
+        answers = ap reply_of (sym list.2);
+        leaves = ap (left_together list.0) (sym list.2);
+      })
       in
       let here =
       each-at (λ x y. feed_of x line ≡ accepted y) i (count_in lent) (count_in after) lent after

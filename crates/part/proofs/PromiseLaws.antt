@@ -32,15 +32,20 @@ record Told-on (done : List Event) (ts : List Told) (left : List ℕ) : Type 0 w
   begun : SeasonSoFar events
   holds : take_up_of left ≡ accepted (account_now events)
 
-calls-told : SeasonPromise → (done : List Event) → SeasonSoFar done → (b left : List ℕ) (ts : List Told)
+calls-told :
+    SeasonPromise → (done : List Event) → SeasonSoFar done → (b left : List ℕ) (ts : List Told)
     → take_up_of b ≡ accepted (account_now done) → Calls b ts left → Told-on done ts left
 calls-told p done n b left ts held Calls.stop =
     record { events = done; told = Tellings.stop; begun = n; holds = held }
 calls-told p done n b left ts held (Calls.call {after = after} {t = t} {ts = rest} k calls) =
     let one = call-step p done n b after t held k in
     let all = calls-told p (done ++ one.more) one.next after left rest one.held calls in
-    record
-    { events = all.events; told = Tellings.call one.telling all.told; begun = all.begun; holds = all.holds }
+    record {
+      events = all.events;
+      told = Tellings.call one.telling all.told;
+      begun = all.begun;
+      holds = all.holds;
+    }
 
 module _ (p : SeasonPromise) (filling : FillingPromise) (room begun : List ℕ)
     (stores : Stores fresh_account room 0 begun) where
@@ -49,8 +54,13 @@ module _ (p : SeasonPromise) (filling : FillingPromise) (room begun : List ℕ)
       let all =
       calls-told p [] nothing-yet (front begun) left ts
       (front-held begun fresh_account (stores.holds refl)) calls in
-      record
-      { events = all.events; told = all.told; kept = run-kept p all.events all.begun; alone = filling.alone all.events all.begun.run; holds = all.holds }
+      record {
+        events = all.events;
+        told = all.told;
+        kept = run-kept p all.events all.begun;
+        alone = filling.alone all.events all.begun.run;
+        holds = all.holds;
+      }
 
   -- ---- a trial that no line made
 

@@ -84,7 +84,15 @@ wholes-back r w e =
     let g = field-passed 6 r.wind _ w f.2 in
     let h = field-passed 7 r.soil _ w g.2 in
     subst (AreWhole r) (accepted-same h.2)
-    (record { ozone = a.1; ppfd = b.1; radiation = c.1; temperature = d.1; vpd = f.1; wind = g.1; soil = h.1 })
+    (record {
+      ozone = a.1;
+      ppfd = b.1;
+      radiation = c.1;
+      temperature = d.1;
+      vpd = f.1;
+      wind = g.1;
+      soil = h.1;
+    })
 
 -- ---- the frame that the account takes
 

@@ -86,8 +86,10 @@ module _ (b : Book) (p : Proper b) (l : List ℕ) where
       record {
         reply-to = Err (row.refusal, account_of b);
         feeds-it =
-            record
-            { answers = rw (feed_of-is b p l, e) (ap refused row.is); leaves = rw (feed_of-is b p l, e) refl };
+            record {
+              answers = rw (feed_of-is b p l, e) (ap refused row.is);
+              leaves = rw (feed_of-is b p l, e) refl;
+            };
       }
 
 accepted-feeds : (a b : Account) (l : List ℕ) → feed_of a l ≡ accepted b → Feeds a l (Ok b)
@@ -209,7 +211,9 @@ module _ (p : SeasonPromise) (done : List Event) (n : SeasonSoFar done) where
       more = taken (Ok (totals_of now)) ∷ [];
       telling = telling;
       next = taken-after done n;
-      held = held ∙ ap accepted (sym (end-append fresh_account done (taken (Ok (totals_of now)) ∷ [])));
+      held =
+          held
+          ∙ ap accepted (sym (end-append fresh_account done (taken (Ok (totals_of now)) ∷ [])));
     }
 
   module _ (lent : List ℕ) (first : take_up_of (front lent) ≡ accepted now) where
@@ -290,7 +294,8 @@ module _ (p : SeasonPromise) (done : List Event) (n : SeasonSoFar done) where
               tells =
                   ap (λ (t : Tried). t.answer) (k.answers ∙ ap tried_of is)
                   ∙ ap code_of (sym r.feeds-it.answers);
-              reads = ap (λ (t : Tried). t.reading) (k.answers ∙ ap tried_of is) ∙ ap readout_of read;
+              reads =
+                  ap (λ (t : Tried). t.reading) (k.answers ∙ ap tried_of is) ∙ ap readout_of read;
               leaves = k.leaves ∙ ap (trial_after buffer) is;
               holds = k.holds (contents_by now l) is;
             }
@@ -299,7 +304,9 @@ module _ (p : SeasonPromise) (done : List Event) (n : SeasonSoFar done) where
             → Step done (trial_told l buffer answer trial) (front lent)
         trial-by true e =
             stays (trial_told l buffer answer trial) (front lent)
-            (Telling.trial_short (ltb-true (length buffer) trial_width e) (k.answers ∙ ap tried_of (tried-short e)) (k.leaves ∙ ap (trial_after buffer) (tried-short e)))
+            (Telling.trial_short (ltb-true (length buffer) trial_width e)
+            (k.answers ∙ ap tried_of (tried-short e))
+            (k.leaves ∙ ap (trial_after buffer) (tried-short e)))
             first
         trial-by false e =
             stays (trial_told l buffer answer trial) (front lent) (Telling.trial (made e)) first
@@ -372,7 +379,8 @@ module _ (p : SeasonPromise) (done : List Event) (n : SeasonSoFar done) where
         → Step done (print_told buffer answer text) (front lent)
     print-step buffer text answer k =
         by-reading (print_told buffer answer text) (front lent)
-        (Telling.print (subst (λ (o : Outcome (List ℕ)). PrintsBytes o buffer answer text) line-is k))
+        (Telling.print (subst
+        (λ (o : Outcome (List ℕ)). PrintsBytes o buffer answer text) line-is k))
         first
 
   -- ---- a line to several
@@ -384,7 +392,8 @@ module _ (p : SeasonPromise) (done : List Event) (n : SeasonSoFar done) where
           → Step done (list_told lent l code) (at_place i after)
       listed-by (accepted ys) e =
           let b = place-taken lent l after k.reply k.feeds i now first ys e in
-          by_line (list_told lent l code) (at_place i after) l (Ok b.0) (accepted-feeds now b.0 l b.1)
+          by_line (list_told lent l code) (at_place i after) l (Ok b.0)
+          (accepted-feeds now b.0 l b.1)
           (Telling.list (k.answers ∙ ap code_of e)) b.2
       listed-by (refused w) e =
           stays (list_told lent l code) (at_place i after)
@@ -393,11 +402,13 @@ module _ (p : SeasonPromise) (done : List Event) (n : SeasonSoFar done) where
 
 -- ---- any call
 
-pub call-step : SeasonPromise → (done : List Event) → SeasonSoFar done → (b after : List ℕ) (t : Told)
+pub call-step :
+    SeasonPromise → (done : List Event) → SeasonSoFar done → (b after : List ℕ) (t : Told)
     → take_up_of b ≡ accepted (account_now done) → CallTold b t after → Step done t after
 call-step p done n b after t first (CallTold.feeds lent end {line} {code} k) =
     line-step p done n lent first line end code k
-call-step p done n b after t first (CallTold.feeds_floats lent end {day} {hour} {readings} {code} k) =
+call-step p done n b after t first
+    (CallTold.feeds_floats lent end {day} {hour} {readings} {code} k) =
     floats-by p done n lent first day hour readings end code k _ refl
 call-step p done n b after t first (CallTold.tries lent {line} {buffer} {trial} {answer} k) =
     trial-by p done n lent first line buffer trial answer k _ refl

@@ -50,7 +50,8 @@ use Rattle.stand.specs.Alike.{any_unlike}
 use Rattle.stand.specs.Feeding.{any_impossible, feed_all_of}
 use Rattle.stored.specs.InBytes.{accounts_bytes, accounts_in, count_in, list_in}
 use Rattle.stored.specs.Feeding.{fed_listed_of, listed_after, FeedsListed}
-use Rattle.stored.specs.TrialLayout.{Contents, answer_carried, trial_width, trial_bytes, contents_in}
+use Rattle.stored.specs.TrialLayout.{Contents, answer_carried, trial_width, trial_bytes}
+use Rattle.stored.specs.TrialLayout.{contents_in}
 use Rattle.stored.proofs.ContentsLaws.{contents-same}
 use Rattle.stored.proofs.TrialRoundTripLaws.{contents-back}
 use Rattle.trial.proofs.TrialLaws.{take-fed}
@@ -77,27 +78,40 @@ dark_account n = record {
 
 begun-by : feed_of fresh_account (frame_line (Record.Header dark_header)) ≡ accepted
     (opened dark_header)
-unfolding feed_of answer_of turn_of due_of parsed_of record_of sound_of checked frame_at frame_of frame_line hour_of signed_of complement_of temperature_out is_digit value_of all_digits byte_at number_at digit_of among length_of figures_in figures_of impossible entered
+unfolding feed_of answer_of turn_of due_of parsed_of record_of sound_of checked frame_at frame_of
+    frame_line hour_of signed_of complement_of temperature_out is_digit value_of all_digits byte_at
+    number_at digit_of among length_of figures_in figures_of impossible entered
 begun-by = refl
 
 second-header : feed_of (opened dark_header) (frame_line (Record.Header dark_header)) ≡ refused
     (4, 0)
-unfolding feed_of answer_of turn_of due_of parsed_of record_of sound_of checked frame_at frame_of frame_line hour_of signed_of complement_of temperature_out is_digit value_of all_digits byte_at number_at digit_of among length_of figures_in figures_of impossible entered
+unfolding feed_of answer_of turn_of due_of parsed_of record_of sound_of checked frame_at frame_of
+    frame_line hour_of signed_of complement_of temperature_out is_digit value_of all_digits byte_at
+    number_at digit_of among length_of figures_in figures_of impossible entered
 second-header = refl
 
 first-hour : feed_of (opened dark_header) (frame_line (Record.Hour (dark_hour 0))) ≡ accepted
     (dark_account 1)
-unfolding feed_of answer_of turn_of due_of parsed_of record_of sound_of checked frame_at frame_of frame_line hour_of signed_of complement_of temperature_out is_digit value_of all_digits byte_at number_at digit_of among length_of figures_in figures_of impossible entered stand_in tree_of hour_sums
+unfolding feed_of answer_of turn_of due_of parsed_of record_of sound_of checked frame_at frame_of
+    frame_line hour_of signed_of complement_of temperature_out is_digit value_of all_digits byte_at
+    number_at digit_of among length_of figures_in figures_of impossible entered stand_in tree_of
+    hour_sums
 first-hour = refl
 
 second-hour : feed_of (dark_account 1) (frame_line (Record.Hour (dark_hour 1))) ≡ accepted
     (dark_account 2)
-unfolding feed_of answer_of turn_of due_of parsed_of record_of sound_of checked frame_at frame_of frame_line hour_of signed_of complement_of temperature_out is_digit value_of all_digits byte_at number_at digit_of among length_of figures_in figures_of impossible entered stand_in tree_of hour_sums
+unfolding feed_of answer_of turn_of due_of parsed_of record_of sound_of checked frame_at frame_of
+    frame_line hour_of signed_of complement_of temperature_out is_digit value_of all_digits byte_at
+    number_at digit_of among length_of figures_in figures_of impossible entered stand_in tree_of
+    hour_sums
 second-hour = refl
 
 third-hour : feed_of (dark_account 2) (frame_line (Record.Hour (dark_hour 2))) ≡ accepted
     (dark_account 3)
-unfolding feed_of answer_of turn_of due_of parsed_of record_of sound_of checked frame_at frame_of frame_line hour_of signed_of complement_of temperature_out is_digit value_of all_digits byte_at number_at digit_of among length_of figures_in figures_of impossible entered stand_in tree_of hour_sums
+unfolding feed_of answer_of turn_of due_of parsed_of record_of sound_of checked frame_at frame_of
+    frame_line hour_of signed_of complement_of temperature_out is_digit value_of all_digits byte_at
+    number_at digit_of among length_of figures_in figures_of impossible entered stand_in tree_of
+    hour_sums
 third-hour = refl
 
 second-possible : impossible (dark_account 2) ≡ false
@@ -182,7 +196,8 @@ module _ (a : Account) (up : TakenUp a) where
         → CallTold (account_bytes a) (floats_told day hour r 0) (account_bytes b)
     floats-call day hour r e =
         call-in a b [] (drop account_width lent) (floats_told day hour r 0)
-        (CallTold.feeds_floats lent left (leaves-next (floats_fed_in lent day hour r) (floats-are day hour r e)))
+        (CallTold.feeds_floats lent left
+        (leaves-next (floats_fed_in lent day hour r) (floats-are day hour r e)))
 
     -- a trial of a line that the account takes
 
@@ -236,7 +251,8 @@ module _ (a : Account) (up : TakenUp a) where
       take-call : CallTold (account_bytes a) (take_told trial 0) (account_bytes b)
       take-call =
           call-in a b [] (drop account_width lent) (take_told trial 0)
-          (CallTold.takes lent left (leaves-next (taken_in lent trial) taken) (λ z. record { tried = a; line = l; holds = held ∙ ap accepted (sym same) }))
+          (CallTold.takes lent left (leaves-next (taken_in lent trial) taken)
+          (λ z. record { tried = a; line = l; holds = held ∙ ap accepted (sym same) }))
 
   -- a line that it refuses leaves it
 
@@ -278,7 +294,8 @@ module _ (a : Account) (up : TakenUp a) where
 
   print-call : (text paper : List ℕ) → format_of a ≡ accepted text → length text ≤ length paper
       → CallTold (account_bytes a)
-      (print_told paper (record { code = 0; length = length text }) (text ++ drop (length text) paper))
+      (print_told paper (record { code = 0; length = length text })
+      (text ++ drop (length text) paper))
       (account_bytes a)
   print-call text paper e room =
       let long = le-ltb (length paper) (length text) room in
@@ -287,7 +304,12 @@ module _ (a : Account) (up : TakenUp a) where
       (text ++ drop (length text) paper) in
       call-in a a [] [] told
       (CallTold.prints lent
-      (record { written = Ok (length text); prints = record { answers = rw (line-in, e, long) refl; leaves = rw (line-in, e, long) refl }; answers = refl }))
+      (record {
+        written = Ok (length text);
+        prints =
+            record { answers = rw (line-in, e, long) refl; leaves = rw (line-in, e, long) refl };
+        answers = refl;
+      }))
 
 -- ---- a line to a list of one
 
@@ -355,7 +377,8 @@ unfolding read_of impossible checked figures_in figures_of verdict_of
 dark_after = refl
 
 dark_line : format_of (dark_account 3) ≡ accepted dark_text
-unfolding format_of read_of impossible checked figures_in figures_of verdict_of totals_line decimal digits_before
+unfolding format_of read_of impossible checked figures_in figures_of verdict_of totals_line decimal
+    digits_before
 dark_line = refl
 
 module _ (room : List ℕ) (long : account_width ≤ length room) where
@@ -367,8 +390,11 @@ module _ (room : List ℕ) (long : account_width ≤ length room) where
       let size = account-length fresh_account in
       let test : ltb (length room) (length (account_bytes fresh_account)) ≡ false =
       le-ltb (length room) (length (account_bytes fresh_account)) (omega arith) in
-      record
-      { answers = rw test refl; leaves = rw (test, size) refl; holds = λ none. fresh-up.back (drop account_width room) }
+      record {
+        answers = rw test refl;
+        leaves = rw (test, size) refl;
+        holds = λ none. fresh-up.back (drop account_width room);
+      }
 
   shown-run : (buffer paper : List ℕ) → trial_width ≤ length buffer → 18 ≤ length paper
       → ShownRun room buffer paper

@@ -19,7 +19,8 @@ module _ (f : Figures) (x : ℕ) where
   answered : {r : Option Bounds} → r ≡ factor_of f x → Answers r
   answered e = (e, record { pair = λ s. e ∙ sound-factor f s x })
 
-  pub factor-pair : {b : Bool} {r : Bounds} → b ≡ fit f → b ≡ true → r ≡ temperature_pair f x → Answers (Some r)
+  pub factor-pair :
+      {b : Bool} {r : Bounds} → b ≡ fit f → b ≡ true → r ≡ temperature_pair f x → Answers (Some r)
   unfolding factor_of
   factor-pair b-is h e = answered (rw (sym b-is ∙ h) (ap Some e))
 

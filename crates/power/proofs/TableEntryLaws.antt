@@ -29,32 +29,41 @@ small-tested (t ∷ ts) h (suc i) = grind (arith, nat_tests, (small-tested ts))
 
 -- f_min is a percentage, and neither the first entry nor the last is under it
 abbrev ends_test : ℕ → List ℕ → Bool
-ends_test f_min ts = leb f_min 100 && (leb (f_min * 10000000) (get_or ts 0 0) && leb (f_min * 10000000) (get_or ts (length ts - 1) 0))
+ends_test f_min ts =
+    leb f_min 100
+    && (leb (f_min * 10000000) (get_or ts 0 0)
+    && leb (f_min * 10000000) (get_or ts (length ts - 1) 0))
 
 abbrev read_test : ℕ → List ℕ → Bool
 read_test f_min ts = ends_test f_min ts && small_test ts
 
-readable : {f_min from x : ℕ} {ts : List ℕ} → T (read_test f_min ts) → from ≤ x → x < from + length ts → Readable f_min ts from x
+readable :
+    {f_min from x : ℕ} {ts : List ℕ} → T (read_test f_min ts) → from ≤ x → x < from + length ts →
+    Readable f_min ts from x
 readable {ts = ts} h first last = grind (arith, nat_tests, small-tested ts)
 
 -- the part lies between Tmin and Tmax, and its entries are the tree's
 abbrev pub part_test : Figures → ℕ → List ℕ → Bool
 unfolding tried allowed
-part_test f from ts = ltb (10 * f.t_min) from && (leb (from + length ts) (10 * f.t_max) && table_test f from ts)
+part_test f from ts =
+    ltb (10 * f.t_min) from && (leb (from + length ts) (10 * f.t_max) && table_test f from ts)
 
 read-pair :
-    {f : Figures} → Sound f → {from x : ℕ} {ts : List ℕ} {r : Bounds} → ReadAs f.f_min ts from x r → T (part_test f from ts) → r ≡ temperature_pair f x
+    {f : Figures} → Sound f → {from x : ℕ} {ts : List ℕ} {r : Bounds} → ReadAs f.f_min ts from x r →
+    T (part_test f from ts) → r ≡ temperature_pair f x
 unfolding tried allowed
 read-pair {f} sound {from} {x} {ts} h tested =
     let low : 10 * f.t_min < from = grind (arith, nat_tests) in
     let high : from + length ts ≤ 10 * f.t_max = grind (arith, nat_tests) in
     let table : T (table_test f from ts) = grind (arith, nat_tests) in
     let asked = h.asked in
-    pair_read sound (table-tested f from ts table) (omega arith) (omega arith) asked.first asked.last (h.lower, h.upper)
+    pair_read sound (table-tested f from ts table) (omega arith)
+    (omega arith) asked.first asked.last (h.lower, h.upper)
 
 -- a tree's table, by three computed tests
 pub table_is :
-    {f : Figures} → Sound f → {first : ℕ} {ts : List ℕ} → 0 < length ts → T (trimmed_test f first (first + length ts - 1)) → T (read_test f.f_min ts) →
+    {f : Figures} → Sound f → {first : ℕ} {ts : List ℕ} → 0 < length ts →
+    T (trimmed_test f first (first + length ts - 1)) → T (read_test f.f_min ts) →
     T (part_test f first ts) → IsTable f first ts
 unfolding part_test
 table_is {f} sound {first} {ts} filled cut reads tested = record {

@@ -13,7 +13,9 @@ use Rattle.text_spec.proofs.DecimalLaws.{decimal-last, decimal_step}
 pub decimal_before : (n : ℕ) → n < 2 ^ 64 → (rest : List ℕ) → decimal n rest ≡ fmt.decimal n ++ rest
 decimal_before = decimal_by_steps (λ m ds. (rest : List ℕ) → decimal m rest ≡ ds ++ rest)
     (λ m l rest. decimal-last m rest l)
-    (λ m ds l h rest. decimal_step m rest l ∙ h ((48 + m % 10) ∷ rest) ∙ sym (append_assoc ds ((48 + m % 10) ∷ []) rest))
+    (λ m ds l h rest.
+    decimal_step m rest l ∙ h ((48 + m % 10) ∷ rest)
+    ∙ sym (append_assoc ds ((48 + m % 10) ∷ []) rest))
 
 pub at_most_twenty : (n : ℕ) → n < 2 ^ 64 → length (fmt.decimal n) ≤ 20
 at_most_twenty n h = length-decimal-le 20 n (omega arith) (omega arith) (omega arith)

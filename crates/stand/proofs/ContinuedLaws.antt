@@ -12,19 +12,24 @@ use Rattle.account_spec.specs.declared.Account.{Account}
 use Rattle.account_spec.specs.Account.{fresh_account}
 use Rattle.account_spec.specs.Rules.{feed_of, left_of, left_by, Feeds}
 use Rattle.account_spec.specs.Reading.{Reads}
-use Rattle.account_spec.specs.Runs.{Event, fed, taken, Run, stop, feeds, reads, line, calls_of, replies_of, account_after, TakesAll}
+use Rattle.account_spec.specs.Runs.{Event, fed, taken, Run, stop, feeds, reads, line, calls_of}
+use Rattle.account_spec.specs.Runs.{replies_of, account_after, TakesAll}
 use Rattle.account_spec.specs.Promise.{acceptances}
 use Rattle.account_spec.proofs.SeasonLaws.{season-kept}
 use Rattle.stand.specs.Promise.{Begun, RunKept, Continued}
 
 -- ---- one run after another
 
-pub run-append : (a : Account) (es fs : List Event) → Run a es → Run (account_after a es) fs → Run a (es ++ fs)
+pub run-append :
+    (a : Account) (es fs : List Event) → Run a es → Run (account_after a es) fs → Run a (es ++ fs)
 run-append a es fs stop next = next
-run-append a es fs (feeds {r = r} {es = rest} k run) next = feeds k (run-append (left_by r) rest fs run next)
+run-append a es fs (feeds {r = r} {es = rest} k run) next =
+    feeds k (run-append (left_by r) rest fs run next)
 run-append a es fs (reads {es = rest} k run) next = reads k (run-append a rest fs run next)
 
-pub end-append : (a : Account) (es fs : List Event) → account_after a (es ++ fs) ≡ account_after (account_after a es) fs
+pub end-append :
+    (a : Account) (es fs : List Event) →
+    account_after a (es ++ fs) ≡ account_after (account_after a es) fs
 end-append a [] fs = refl
 end-append a (fed l r ∷ es) fs = end-append (left_by r) es fs
 end-append a (taken r ∷ es) fs = end-append a es fs
@@ -42,7 +47,8 @@ record LinesRun (a : Account) (ls : List (List ℕ)) (b : Account) : Type 0 wher
   ends : account_after a events ≡ b
 
 lines-run : (a b : Account) (ls : List (List ℕ)) → TakesAll a ls b → LinesRun a ls b
-lines-run a b ls TakesAll.none = record { events = []; calls = refl; replies = refl; run = stop; ends = refl }
+lines-run a b ls TakesAll.none =
+    record { events = []; calls = refl; replies = refl; run = stop; ends = refl }
 lines-run a b ls (TakesAll.line {b = next} {l = l} {ls = more} e alone) =
     let rest = lines-run next b more alone in
     record {
@@ -58,7 +64,8 @@ lines-run a b ls (TakesAll.line {b = next} {l = l} {ls = more} e alone) =
 run-kept : (es : List Event) → Run fresh_account es → RunKept es
 run-kept es run = record { run = run; kept = season-kept es run }
 
-module _ (a : Account) (own : Begun a) (ls : List (List ℕ)) (b : Account) (more : LinesRun a ls b) where
+module _ (a : Account) (own : Begun a) (ls : List (List ℕ)) (b : Account)
+    (more : LinesRun a ls b) where
   abbrev all : List Event
   all = own.events ++ more.events
 
@@ -81,5 +88,7 @@ module _ (a : Account) (own : Begun a) (ls : List (List ℕ)) (b : Account) (mor
     read = λ r k. run-kept (all ++ taken r ∷ []) (read r k);
   }
 
-pub alone-continued : (a : Account) (own : Begun a) (ls : List (List ℕ)) (b : Account) → TakesAll a ls b → Continued a own ls b
+pub alone-continued :
+    (a : Account) (own : Begun a) (ls : List (List ℕ)) (b : Account) → TakesAll a ls b →
+    Continued a own ls b
 alone-continued a own ls b alone = continued a own ls b (lines-run a b ls alone)

@@ -14,5 +14,6 @@ list-promise = record {
   line = line-together;
   alone = run_alone;
   shared = run-shared;
-  season = λ xs ys es run a b k own. alone-continued a own (accepted_in es) b (at-alone xs ys es run a b k);
+  season = λ xs ys es run a b k own.
+      alone-continued a own (accepted_in es) b (at-alone xs ys es run a b k);
 }

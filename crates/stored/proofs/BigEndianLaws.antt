@@ -21,7 +21,8 @@ grown i n b h k = rw (add-one, pow-suc) (omega arith)
 
 byte_at-suc : (k n : ℕ) → byte_at (suc k) n ≡ byte_at k (n / 256)
 byte_at-suc zero n = omega arith
-byte_at-suc (suc k) n = rw (pow-suc 256 (suc k), mul_comm (256 ^ suc k) 256, div-div-eq-div-mul) refl
+byte_at-suc (suc k) n =
+    rw (pow-suc 256 (suc k), mul_comm (256 ^ suc k) 256, div-div-eq-div-mul) refl
 
 bytes-snoc : (w n : ℕ) → bytes_high_first (suc w) n ≡ bytes_high_first w (n / 256) ++ n % 256 ∷ []
 bytes-snoc zero n = refl
@@ -54,9 +55,13 @@ eight-is l = omega arith
 none-before : (k : ℕ) (l : List ℕ) → ((i : ℕ) → i < k → get_or l i 0 ≡ 0) → big_endian_at k 0 l ≡ 0
 unfolding big_endian_at
 none-before zero l h = refl
-none-before (suc k) l h = omega (arith, none-before k l (λ i j. h i (omega (arith, j))), h (0 + k) (omega arith))
+none-before (suc k) l h =
+    omega (arith, none-before k l (λ i j. h i (omega (arith, j))), h (0 + k) (omega arith))
 
-from-end : (k w at : ℕ) (l b : List ℕ) → big_endian_at k 0 l ≡ 0 → ((i : ℕ) → i < w → get_or l (k + i) 0 ≡ get_or b (at + i) 0) → big_endian_at (k + w) 0 l ≡ big_endian_at w at b
+from-end :
+    (k w at : ℕ) (l b : List ℕ) → big_endian_at k 0 l ≡ 0 →
+    ((i : ℕ) → i < w → get_or l (k + i) 0 ≡ get_or b (at + i) 0) →
+    big_endian_at (k + w) 0 l ≡ big_endian_at w at b
 unfolding big_endian_at
 from-end k zero at l b z h = rw add-zero z
 from-end k (suc w) at l b z h =
@@ -85,25 +90,35 @@ module _ (k w at : ℕ) (b post : List ℕ) (few : k ≤ 8) (room : at + w ≤ l
   part-length = length-take-le w (drop at b) (rw length-drop (omega (arith, room)))
 
   before : (i : ℕ) → i < k → get_or (take k eight_zeros ++ (take w (drop at b) ++ post)) i 0 ≡ 0
-  before i h = get_or-append (take k eight_zeros) _ 0 i (omega (arith, h, front-length)) ∙ get_or-take k eight_zeros i 0 h ∙ nought-at 8 i
+  before i h =
+      get_or-append (take k eight_zeros) _ 0 i (omega (arith, h, front-length))
+      ∙ get_or-take k eight_zeros i 0 h ∙ nought-at 8 i
 
-  after : (i : ℕ) → i < w → get_or (take k eight_zeros ++ (take w (drop at b) ++ post)) (k + i) 0 ≡ get_or b (at + i) 0
+  after :
+      (i : ℕ) → i < w →
+      get_or (take k eight_zeros ++ (take w (drop at b) ++ post)) (k + i) 0 ≡ get_or b (at + i) 0
   after i h =
       let less : k + i - k ≡ i = omega arith in
-      get_or-append_right (take k eight_zeros) (take w (drop at b) ++ post) k (k + i) 0 front-length (omega arith)
+      get_or-append_right (take k eight_zeros) (take w (drop at b) ++ post) k
+      (k + i) 0 front-length (omega arith)
       ∙ ap (λ (n : ℕ). get_or (take w (drop at b) ++ post) n 0) less
       ∙ get_or-append (take w (drop at b)) post 0 i (omega (arith, h, part-length))
       ∙ get_or-take w (drop at b) i 0 h
       ∙ get_or-drop at b i 0
 
-  placed : big_endian_at (k + w) 0 (take k eight_zeros ++ (take w (drop at b) ++ post)) ≡ big_endian_at w at b
+  placed :
+      big_endian_at (k + w) 0 (take k eight_zeros ++ (take w (drop at b) ++ post))
+      ≡ big_endian_at w at b
   placed = from-end k w at _ b (none-before k _ before) after
 
 pub read-from-end : (w at : ℕ) (b post : List ℕ) → w ≤ 8 → at + w ≤ length b
-    → from_be_bytes w64 (take (8 - w) eight_zeros ++ (take (at + w - at) (drop at b) ++ post)) ≡ big_endian_at w at b
+    → from_be_bytes w64 (take (8 - w) eight_zeros ++ (take (at + w - at) (drop at b) ++ post))
+    ≡ big_endian_at w at b
 read-from-end w at b post h room =
     let all : 8 ≡ 8 - w + w = omega (arith, h) in
     let width : at + w - at ≡ w = omega arith in
     let l = take (8 - w) eight_zeros ++ (take w (drop at b) ++ post) in
-    ap (λ (n : ℕ). from_be_bytes w64 (take (8 - w) eight_zeros ++ (take n (drop at b) ++ post))) width
-    ∙ eight-is l ∙ ap (λ (n : ℕ). big_endian_at n 0 l) all ∙ placed (8 - w) w at b post (omega (arith, h)) room
+    ap
+    (λ (n : ℕ). from_be_bytes w64 (take (8 - w) eight_zeros ++ (take n (drop at b) ++ post))) width
+    ∙ eight-is l ∙ ap (λ (n : ℕ). big_endian_at n 0 l) all
+    ∙ placed (8 - w) w at b post (omega (arith, h)) room

@@ -16,7 +16,8 @@ use Rattle.stored.specs.CodePromise.{CodePromise}
 -- ---- a row and a field
 
 module _ (row field : ℕ) (e : is_row row field ≡ true) where
-  abbrev bounds : (leb 1 row && leb row 26 ≡ true) × (eqb field 0 || eqb row 10 || eqb row 26 ≡ true)
+  abbrev bounds :
+      (leb 1 row && leb row 26 ≡ true) × (eqb field 0 || eqb row 10 || eqb row 26 ≡ true)
   bounds = and_both (leb 1 row && leb row 26) (eqb field 0 || eqb row 10 || eqb row 26) e
 
   row-pos : 1 ≤ row
@@ -33,7 +34,9 @@ refusal-row r = refl
 -- ---- a code's answer
 
 module _ {A : Type 0} (a : A) where
-  code_at : (code : ℕ) (t : Bool) → eqb code 0 ≡ t → code_of (cond t (accepted a) (refused (code % 256, code / 256))) ≡ code
+  code_at :
+      (code : ℕ) (t : Bool) → eqb code 0 ≡ t →
+      code_of (cond t (accepted a) (refused (code % 256, code / 256))) ≡ code
   code_at code true e = sym (eqb-true code 0 e)
   code_at code false e = omega arith
 
@@ -51,13 +54,18 @@ row_read : (row field : ℕ) → is_row row field ≡ true → Read row field (r
 row_read row field e =
     let pos = row-pos row field e in
     let le = row-le row field e in
-    record { other = ne_eqb (row + 256 * field) 0 (λ z. omega arith); low = omega arith; high = omega arith }
+    record {
+      other = ne_eqb (row + 256 * field) 0 (λ z. omega arith);
+      low = omega arith;
+      high = omega arith;
+    }
 
 module _ (r : Refusal) where
   abbrev read : Read (row_of r).0 (row_of r).1 (code_of_row (row_of r))
   read = row_read (row_of r).0 (row_of r).1 (refusal-row r)
 
-  pub code-answer : {A : Type 0} (a : A) → named_answer (code_of_row (row_of r)) a ≡ refused (row_of r)
+  pub code-answer :
+      {A : Type 0} (a : A) → named_answer (code_of_row (row_of r)) a ≡ refused (row_of r)
   unfolding named_answer
   code-answer a = simp (read.other, read.low, read.high)
 
@@ -72,7 +80,9 @@ unfolding coded_of is_code named_answer
 coded-accepted code e = rw e
 
 module _ (code : ℕ) (other : code ≡ 0 → ⊥) where
-  pub coded-refused : is_row (code % 256) (code / 256) ≡ true → Some (refused (code % 256, code / 256)) ≡ coded_of code
+  pub coded-refused :
+      is_row (code % 256) (code / 256) ≡ true →
+      Some (refused (code % 256, code / 256)) ≡ coded_of code
   unfolding coded_of is_code named_answer
   coded-refused e = simp (ne_eqb code 0 other, e)
 
@@ -85,15 +95,21 @@ module _ (code : ℕ) (other : code ≡ 0 → ⊥) where
 some_same : {A : Type 0} {a b : A} → Some a ≡ Some b → a ≡ b
 some_same e = cc
 
-coded-same : (code : ℕ) (o : Outcome Unit) (t : Bool) → cond t (Some (named_answer code tt)) None ≡ Some o → code_of o ≡ code
+coded-same :
+    (code : ℕ) (o : Outcome Unit) (t : Bool) →
+    cond t (Some (named_answer code tt)) None ≡ Some o → code_of o ≡ code
 coded-same code o true e = ap code_of (sym (some_same e)) ∙ answer-code tt code
 coded-same code o false e = let z : ◌≡◌ {A = ℕ} 0 1 = cc in absurd (omega arith)
 
-coded-some : (code : ℕ) (o : Outcome Unit) (t : Bool) → cond t (Some (named_answer code tt)) None ≡ Some o → t ≡ true
+coded-some :
+    (code : ℕ) (o : Outcome Unit) (t : Bool) →
+    cond t (Some (named_answer code tt)) None ≡ Some o → t ≡ true
 coded-some code o true e = refl
 coded-some code o false e = let z : ◌≡◌ {A = ℕ} 0 1 = cc in absurd (omega arith)
 
-coded-unknown : (code : ℕ) (t : Bool) → ◌≡◌ {A = Option (Outcome Unit)} (cond t (Some (named_answer code tt)) None) None → t ≡ false
+coded-unknown :
+    (code : ℕ) (t : Bool) →
+    ◌≡◌ {A = Option (Outcome Unit)} (cond t (Some (named_answer code tt)) None) None → t ≡ false
 coded-unknown code true e = let z : ◌≡◌ {A = ℕ} 0 1 = cc in absurd (omega arith)
 coded-unknown code false e = refl
 

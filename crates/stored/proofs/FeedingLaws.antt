@@ -27,16 +27,24 @@ reply-refused : {A : Type 0} (o : Outcome A) (w : ℕ × ℕ) → reply o ≡ re
 reply-refused (accepted a) w e = refused-not-accepted (sym e)
 reply-refused (refused v) w e = let same : v ≡ w = cc in ap refused same
 
-reply-accepted : (xs : List Account) (o : Outcome (List Account)) → reply o ≡ accepted tt → o ≡ accepted (left_together xs o)
+reply-accepted :
+    (xs : List Account) (o : Outcome (List Account)) → reply o ≡ accepted tt →
+    o ≡ accepted (left_together xs o)
 reply-accepted xs (accepted ys) e = refl
 reply-accepted xs (refused w) e = refused-not-accepted e
 
-each-length : {A B : Type 0} {R : A → B → Type 0} {xs : List A} {ys : List B} → Each R xs ys → length ys ≡ length xs
+each-length :
+    {A B : Type 0} {R : A → B → Type 0} {xs : List A} {ys : List B} → Each R xs ys →
+    length ys ≡ length xs
 each-length Each.none = refl
 each-length (Each.more r rs) = ap suc (each-length rs)
 
-fed-length : (xs ys : List Account) (line : List ℕ) → feed_all_of xs line ≡ accepted ys → length ys ≡ length xs
-fed-length xs ys line e = each-length (accepted-fed xs ys line (record { answers = ap reply (sym e); leaves = ap (left_together xs) (sym e) }))
+fed-length :
+    (xs ys : List Account) (line : List ℕ) → feed_all_of xs line ≡ accepted ys →
+    length ys ≡ length xs
+fed-length xs ys line e =
+    each-length (accepted-fed xs ys line
+    (record { answers = ap reply (sym e); leaves = ap (left_together xs) (sym e) }))
 
 module _ (before line : List ℕ) where
   abbrev count : ℕ
@@ -44,43 +52,66 @@ module _ (before line : List ℕ) where
 
   -- ---- refused before the list is fed
 
-  refused-by : (why : Refusal) → fed_listed_of before line ≡ refused (row_of why) → FeedsListed before line (Err why) before
-  refused-by why q = record { answers = ap reply (sym q); leaves = ap (listed_after before) (sym q); holds = λ ys e. refused-not-accepted (sym q ∙ e) }
+  refused-by :
+      (why : Refusal) → fed_listed_of before line ≡ refused (row_of why) →
+      FeedsListed before line (Err why) before
+  refused-by why q = record {
+    answers = ap reply (sym q);
+    leaves = ap (listed_after before) (sym q);
+    holds = λ ys e. refused-not-accepted (sym q ∙ e);
+  }
 
   pub listed-size : size_out count ≡ true → FeedsListed before line (Err Refusal.ListSize) before
   unfolding fed_listed_of
   listed-size out = refused-by Refusal.ListSize (rw out)
 
   module _ (fits : size_out count ≡ false) where
-    pub listed-none : (why : Refusal) → refused (row_of why) ≡ list_in before → FeedsListed before line (Err why) before
+    pub listed-none :
+        (why : Refusal) → refused (row_of why) ≡ list_in before →
+        FeedsListed before line (Err why) before
     unfolding fed_listed_of
     listed-none why none = refused-by why (rw (fits, sym none))
 
     -- ---- the list fed
 
-    module _ (xs ys : List Account) (held : accepted xs ≡ list_in before) (answer : Result Unit Refusal) (fed : FeedsAll xs line answer ys) where
+    module _ (xs ys : List Account) (held : accepted xs ≡ list_in before)
+        (answer : Result Unit Refusal) (fed : FeedsAll xs line answer ys) where
       fed-is : fed_listed_of before line ≡ feed_all_of xs line
       unfolding fed_listed_of
       fed-is = rw (fits, sym held)
 
-      pub listed-refused : (why : Refusal) → answer ≡ Err why → FeedsListed before line (Err why) before
-      listed-refused why e = refused-by why (fed-is ∙ reply-refused (feed_all_of xs line) (row_of why) (sym fed.answers ∙ ap outcome_of e))
+      pub listed-refused :
+          (why : Refusal) → answer ≡ Err why → FeedsListed before line (Err why) before
+      listed-refused why e =
+          refused-by why
+          (fed-is
+          ∙ reply-refused (feed_all_of xs line) (row_of why) (sym fed.answers ∙ ap outcome_of e))
 
       module _ (after : List ℕ) (e : answer ≡ (Ok tt)) (stores : StoresAll ys before after) where
         fed-left : feed_all_of xs line ≡ accepted ys
-        fed-left = reply-accepted xs (feed_all_of xs line) (sym fed.answers ∙ ap outcome_of e) ∙ ap accepted (sym fed.leaves)
+        fed-left =
+            reply-accepted xs (feed_all_of xs line) (sym fed.answers ∙ ap outcome_of e)
+            ∙ ap accepted (sym fed.leaves)
 
         left-length : length ys ≡ count
         left-length = fed-length xs ys line fed-left ∙ taken-length count before xs (sym held)
 
         after_is : after ≡ accounts_bytes ys ++ drop (total_width widths * count) before
-        after_is = stores.leaves ∙ ap (λ (n : ℕ). accounts_bytes ys ++ drop (total_width widths * n) before) left-length
+        after_is =
+            stores.leaves
+            ∙ ap (λ (n : ℕ). accounts_bytes ys ++ drop (total_width widths * n) before) left-length
 
         count_same : count_in after ≡ length ys
         count_same =
             let rest = drop (total_width widths * count) before in
-            let size : length after ≡ length (accounts_bytes ys) + length rest = ap length after_is ∙ length-append (accounts_bytes ys) rest in
-            omega (arith, left-length, accounts-length ys, length-drop (total_width widths * count) before)
+            let size : length after ≡ length (accounts_bytes ys) + length rest =
+            ap length after_is ∙ length-append (accounts_bytes ys) rest in
+            omega (
+              arith,
+              left-length,
+              accounts-length ys,
+              length-drop (total_width widths * count) before,
+            )
 
         after-held : list_in after ≡ accepted ys
         after-held =
@@ -91,4 +122,8 @@ module _ (before line : List ℕ) where
         pub listed-accepted : FeedsListed before line (Ok tt) after
         listed-accepted =
             let q : fed_listed_of before line ≡ accepted ys = fed-is ∙ fed-left in
-            record { answers = ap reply (sym q); leaves = after_is ∙ ap (listed_after before) (sym q); holds = λ zs f. after-held ∙ sym q ∙ f }
+            record {
+              answers = ap reply (sym q);
+              leaves = after_is ∙ ap (listed_after before) (sym q);
+              holds = λ zs f. after-held ∙ sym q ∙ f;
+            }

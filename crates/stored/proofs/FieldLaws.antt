@@ -54,27 +54,37 @@ kind-byte (Some Pressure) = refl
 kind-byte (Some Humidity) = refl
 
 module _ (n : ℕ) where
-  kind-of : (m : ℕ) → kind_number (hour_kind_of m) ≡ m → eqb n m ≡ true → kind_number (hour_kind_of n) ≡ n
+  kind-of :
+      (m : ℕ) → kind_number (hour_kind_of m) ≡ m → eqb n m ≡ true → kind_number (hour_kind_of n) ≡ n
   kind-of m e t = rw (eqb-true n m t) e
 
   pub kind-number : is_kind n ≡ true → kind_number (hour_kind_of n) ≡ n
   unfolding hour_kind_of
   kind-number e =
       ⊎_elim
-      (λ e₃. ⊎_elim (λ e₂. ⊎_elim (kind-of 0 refl) (kind-of 2 refl) (or-either (eqb n 0) (eqb n 2) e₂)) (kind-of 4 refl) (or-either (eqb n 0 || eqb n 2) (eqb n 4) e₃))
+      (λ e₃.
+      ⊎_elim (λ e₂. ⊎_elim (kind-of 0 refl) (kind-of 2 refl) (or-either (eqb n 0) (eqb n 2) e₂))
+      (kind-of 4 refl) (or-either (eqb n 0 || eqb n 2) (eqb n 4) e₃))
       (kind-of 5 refl)
       (or-either (eqb n 0 || eqb n 2 || eqb n 4) (eqb n 5) e)
 
 -- ---- what a byte says: a phase, or a kind with 0 for none
 
-pub phase-read : (n : ℕ) → outcome_of (ok_or (numbered_phase n) Refusal.Account) ≡ row 13 (ltb 2 n) (accepted (phase_of n))
+pub phase-read :
+    (n : ℕ) →
+    outcome_of (ok_or (numbered_phase n) Refusal.Account) ≡ row 13 (ltb 2 n) (accepted (phase_of n))
 unfolding phase_of
 phase-read zero = refl
 phase-read (suc zero) = refl
 phase-read (suc (suc zero)) = refl
 phase-read (suc (suc (suc n))) =
     let m = suc (suc (suc n)) in
-    simp (lt-ltb 2 m (omega arith), ne_eqb m 0 (omega arith), ne_eqb m 1 (omega arith), ne_eqb m 2 (omega arith))
+    simp (
+      lt-ltb 2 m (omega arith),
+      ne_eqb m 0 (omega arith),
+      ne_eqb m 1 (omega arith),
+      ne_eqb m 2 (omega arith),
+    )
 
 abbrev some_of : Result HourKind Refusal → Outcome (Option HourKind)
 some_of (Ok k) = accepted (Some k)
@@ -84,8 +94,11 @@ abbrev kind_read : ℕ → Outcome (Option HourKind)
 kind_read n = row 13 (not (is_kind n)) (accepted (hour_kind_of n))
 
 kind-tests :
-    (a b c : Bool) → some_of (ok_or (cond a (Some Deficit) (cond b (Some Pressure) (cond c (Some Humidity) None))) Refusal.Account)
-    ≡ row 13 (not (a || b || c)) (accepted (cond a (Some Deficit) (cond b (Some Pressure) (Some Humidity))))
+    (a b c : Bool) →
+    some_of (ok_or
+    (cond a (Some Deficit) (cond b (Some Pressure) (cond c (Some Humidity) None))) Refusal.Account)
+    ≡ row 13 (not (a || b || c))
+    (accepted (cond a (Some Deficit) (cond b (Some Pressure) (Some Humidity))))
 kind-tests true b c = refl
 kind-tests false true c = refl
 kind-tests false false true = refl
@@ -95,7 +108,8 @@ pub kind-none : (n : ℕ) → n ≡ 0 → accepted None ≡ kind_read n
 unfolding hour_kind_of
 kind-none n e = rw e refl
 
-module _ (n : ℕ) (some : n ≡ 0 → ⊥) (r : Result HourKind Refusal) (is : r ≡ ok_or (numbered_kind n) Refusal.Account) where
+module _ (n : ℕ) (some : n ≡ 0 → ⊥) (r : Result HourKind Refusal)
+    (is : r ≡ ok_or (numbered_kind n) Refusal.Account) where
   kind-by : some_of r ≡ kind_read n
   unfolding hour_kind_of
   kind-by = rw (is, ne_eqb n 0 some) (kind-tests (eqb n 2) (eqb n 4) (eqb n 5))

@@ -21,7 +21,8 @@ use Rattle.account_spec.specs.Account.{numbered_phase}
 use Rattle.stored.specs.Packing.{total_width}
 use Rattle.stored.proofs.FieldLaws.{phase-read}
 use Rattle.stored.proofs.PackingLaws.{unpacked-front}
-use Rattle.stored.specs.Layout.{version, widths, account_width, phase_of, hour_kind_of, is_kind, account_from, account_in, holds_none, take_up_of}
+use Rattle.stored.specs.Layout.{version, widths, account_width, phase_of, hour_kind_of, is_kind}
+use Rattle.stored.specs.Layout.{account_from, account_in, holds_none, take_up_of}
 
 two-rows : {A : Type 0} (s t : Bool) (x : Outcome A) → row 13 (s || t) x ≡ row 13 s (row 13 t x)
 two-rows true t x = refl
@@ -46,7 +47,8 @@ module _ (l : List ℕ) (e : holds_none l ≡ false) where
   unfolding holds_none
   held-kind = grind (arith, nat_tests)
 
-pub taken-room : (l : List ℕ) (a : Account) → take_up_of l ≡ accepted a → total_width widths ≤ length l
+pub taken-room :
+    (l : List ℕ) (a : Account) → take_up_of l ≡ accepted a → total_width widths ≤ length l
 unfolding take_up_of
 taken-room l a e = held-room l (grind arith)
 
@@ -66,16 +68,24 @@ taken_none l e = simp e
 
 -- ---- test by test
 
-refused-elsewhere : {A B : Type 0} (t : Bool) (w : ℕ × ℕ) (x : A) (y : Outcome B) → refused w ≡ row 13 t (accepted x) → refused w ≡ row 13 t y
+refused-elsewhere :
+    {A B : Type 0} (t : Bool) (w : ℕ × ℕ) (x : A) (y : Outcome B) →
+    refused w ≡ row 13 t (accepted x) → refused w ≡ row 13 t y
 refused-elsewhere true w x y e = let same : w ≡ (13, 0) = cc in ap refused same
 refused-elsewhere false w x y e = refused-not-accepted e
 
 module _ (l : List ℕ) (room : account_width ≤ length l) (current : get_or l 0 0 ≡ version) where
-  by-tests : take_up_of l ≡ row 13 (ltb 2 (get_or l 1 0)) (row 13 (not (is_kind (get_or l 2 0))) (accepted (account_in l)))
+  by-tests :
+      take_up_of l
+      ≡ row 13 (ltb 2 (get_or l 1 0))
+      (row 13 (not (is_kind (get_or l 2 0))) (accepted (account_in l)))
   unfolding take_up_of holds_none
-  by-tests = simp (le-ltb (length l) account_width room, eq-eqb (get_or l 0 0) version current) (two-rows (ltb 2 (get_or l 1 0)) _ _)
+  by-tests =
+      simp (le-ltb (length l) account_width room, eq-eqb (get_or l 0 0) version current)
+      (two-rows (ltb 2 (get_or l 1 0)) _ _)
 
-  module _ (p : Result Phase Refusal) (phase : p ≡ ok_or (numbered_phase (get_or l 1 0)) Refusal.Account) where
+  module _ (p : Result Phase Refusal)
+      (phase : p ≡ ok_or (numbered_phase (get_or l 1 0)) Refusal.Account) where
     phase-by : outcome_of p ≡ row 13 (ltb 2 (get_or l 1 0)) (accepted (phase_of (get_or l 1 0)))
     phase-by = rw phase (phase-read (get_or l 1 0))
 
@@ -83,16 +93,22 @@ module _ (l : List ℕ) (room : account_width ≤ length l) (current : get_or l 
     phase-refused w e = refused-elsewhere _ _ _ _ (rw e at phase-by) ∙ sym by-tests
 
     module _ (own : Phase) (ok : p ≡ Ok own) where
-      phase-passed : (ltb 2 (get_or l 1 0) ≡ false) × (accepted (phase_of (get_or l 1 0)) ≡ accepted own)
+      phase-passed :
+          (ltb 2 (get_or l 1 0) ≡ false) × (accepted (phase_of (get_or l 1 0)) ≡ accepted own)
       phase-passed = row-passed _ _ _ own (sym (rw ok at phase-by))
 
-      module _ (k : Result (Option HourKind) Refusal) (kind : outcome_of k ≡ row 13 (not (is_kind (get_or l 2 0))) (accepted (hour_kind_of (get_or l 2 0)))) where
+      module _ (k : Result (Option HourKind) Refusal)
+          (kind :
+          outcome_of k
+          ≡ row 13 (not (is_kind (get_or l 2 0))) (accepted (hour_kind_of (get_or l 2 0)))) where
         pub kind-refused : (w : Refusal) → k ≡ Err w → refused (row_of w) ≡ take_up_of l
         kind-refused w e = rw (by-tests, phase-passed.0) (refused-elsewhere _ _ _ _ (rw e at kind))
 
         -- and what they then say
         module _ (of : Option HourKind) (is : k ≡ Ok of) where
-          kind-passed : (not (is_kind (get_or l 2 0)) ≡ false) × (accepted (hour_kind_of (get_or l 2 0)) ≡ accepted of)
+          kind-passed :
+              (not (is_kind (get_or l 2 0)) ≡ false)
+              × (accepted (hour_kind_of (get_or l 2 0)) ≡ accepted of)
           kind-passed = row-passed _ _ _ of (sym (rw is at kind))
 
           pub both-are : (own ≡ phase_of (get_or l 1 0)) × (of ≡ hour_kind_of (get_or l 2 0))
@@ -107,7 +123,8 @@ module _ (l : List ℕ) (room : account_width ≤ length l) where
   front-none : holds_none (take account_width l) ≡ holds_none l
   unfolding holds_none
   front-none =
-      let size : length (take account_width l) ≡ account_width = length-take-le account_width l room in
+      let size : length (take account_width l) ≡ account_width =
+      length-take-le account_width l room in
       simp (
         le-ltb (length (take account_width l)) account_width (omega (arith, size)),
         le-ltb (length l) account_width room,
@@ -119,7 +136,9 @@ module _ (l : List ℕ) (room : account_width ≤ length l) where
   front-account : account_in (take account_width l) ≡ account_in l
   unfolding account_in
   front-account =
-      ap (λ (ns : List ℕ). account_from (phase_of (get_or ns 1 0)) (hour_kind_of (get_or ns 2 0)) (signed_of (get_or ns 11 0)) ns)
+      ap (λ (ns : List ℕ).
+      account_from (phase_of (get_or ns 1 0)) (hour_kind_of (get_or ns 2 0))
+      (signed_of (get_or ns 11 0)) ns)
       (unpacked-front account_width l widths 0 (omega arith))
 
   pub front-taken : take_up_of (take account_width l) ≡ take_up_of l

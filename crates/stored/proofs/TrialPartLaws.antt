@@ -24,16 +24,21 @@ module _ (xs l : List ℕ) (at : ℕ) (h : at + length xs ≤ length l) where
   part-long : length xs ≤ length part
   part-long = rw (part-is at l, length-drop) (omega arith)
 
-  after_is : (after : List ℕ) (w : Result ℕ Refusal) → Prints (accepted xs) part w after → after ≡ xs ++ drop (at + length xs) l
+  after_is :
+      (after : List ℕ) (w : Result ℕ Refusal) → Prints (accepted xs) part w after →
+      after ≡ xs ++ drop (at + length xs) l
   after_is after w p =
       p.leaves
       ∙ rw (le-ltb (length part) (length xs) part-long) refl
       ∙ ap (λ (k : List ℕ). xs ++ drop (length xs) k) (part-is at l)
       ∙ ap (λ (k : List ℕ). xs ++ k) (drop-drop (length xs) at l)
 
-  pub put-part : (after : List ℕ) (w : Result ℕ Refusal) → Prints (accepted xs) part w after → put_mid at (length l - at) l after ≡ sets l at xs
+  pub put-part :
+      (after : List ℕ) (w : Result ℕ Refusal) → Prints (accepted xs) part w after →
+      put_mid at (length l - at) l after ≡ sets l at xs
   put-part after w p =
-      let none : post_of at (length l - at) l ≡ [] = Post-is at (length l) l (omega arith) ∙ drop-length l in
+      let none : post_of at (length l - at) l ≡ [] =
+      Post-is at (length l) l (omega arith) ∙ drop-length l in
       ap (λ (k : List ℕ). take at l ++ (after ++ k)) none
       ∙ ap (λ (k : List ℕ). take at l ++ k) (append-nil after ∙ after_is after w p)
       ∙ sym (append_assoc (take at l) xs (drop (at + length xs) l))

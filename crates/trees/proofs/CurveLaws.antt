@@ -3,7 +3,8 @@ use Rattle.std.specs.Prelude.{Some}
 use Prim.Native.Nat.{ℕ}
 use mathlib.Core.Path.{◌≡◌, refl, sym, ap, ◌∙◌}
 use Rattle.trees.specs.declared.Curve.{Curve}
-use Rattle.trees.specs.declared.Curve.TheVariants.{BorealSpruce, Birch, ContinentalSpruce, Beech, Oak, Evergreen}
+use Rattle.trees.specs.declared.Curve.TheVariants.{BorealSpruce, Birch, ContinentalSpruce, Beech}
+use Rattle.trees.specs.declared.Curve.TheVariants.{Oak, Evergreen}
 use Rattle.trees.specs.declared.Source.{Source}
 use Rattle.trees.specs.declared.Source.TheVariants.{Tabled, Worked}
 use Rattle.trees.specs.declared.Figures.{Figures}
@@ -19,8 +20,12 @@ curve_or other Worked = other
 
 pub figures-tabled : (t : ℕ) (f : Figures) → figures_of t ≡ Some f → HasTable f
 figures-tabled =
-    let own : (g : Figures) (mine : Curve) → g.source ≡ Tabled mine → owner_of mine ≡ g → HasTable g = λ g mine named e. record {
-      pair = λ curve other x. let same : mine ≡ curve = ap (curve_or mine) (sym named ∙ other) in ap (λ f. temperature_pair f x) (sym e ∙ ap owner_of same);
+    let own : (g : Figures) (mine : Curve) → g.source ≡ Tabled mine →
+    owner_of mine ≡ g → HasTable g =
+    λ g mine named e. record {
+      pair = λ curve other x.
+          let same : mine ≡ curve = ap (curve_or mine) (sym named ∙ other) in
+          ap (λ f. temperature_pair f x) (sym e ∙ ap owner_of same);
     } in
     figures-all HasTable
     (own _ BorealSpruce refl refl)

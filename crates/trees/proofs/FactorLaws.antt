@@ -17,7 +17,8 @@ use Rattle.trees.specs.Phenology.{by_ramps, by_dip, by_temperature, phenology_of
 use Rattle.trees.specs.Temperature.{inside}
 use Rattle.exact.specs.Frac.{◌over◌, natural, straight, ◌≼◌, ◌≈◌, Between}
 use Rattle.exact.proofs.GreaterLaws.{cond-le}
-use Rattle.exact.proofs.FracLaws.{≼_trans, straight-start, straight-end, straight-le, straight-ge, straight-anti}
+use Rattle.exact.proofs.FracLaws.{≼_trans, straight-start, straight-end, straight-le, straight-ge}
+use Rattle.exact.proofs.FracLaws.{straight-anti}
 
 whole_le : 100 over 100 ≼ natural 1
 whole_le = omega arith
@@ -32,7 +33,8 @@ dip-le day = grind (arith, cond-le, line-le)
 
 temperature-le : (t_min t_max temperature : ℕ) → by_temperature t_min t_max temperature ≼ natural 1
 unfolding by_temperature
-temperature-le t_min t_max temperature = cond-le (inside t_min t_max temperature) (omega arith) (omega arith)
+temperature-le t_min t_max temperature =
+    cond-le (inside t_min t_max temperature) (omega arith) (omega arith)
 
 drier-none : (m : Measure) (x : ℕ) → drier m x x ≡ 0
 drier-none Suction x = omega arith
@@ -63,23 +65,29 @@ module _ (f : Figures) (sound : Sound f) where
 
   -- ---- f_SW
 
-  pub soil_water-limits : (reading : ℕ) → Between (f.f_min over 100) (natural 1) (soil_water_of f reading)
+  pub soil_water-limits :
+      (reading : ℕ) → Between (f.f_min over 100) (natural 1) (soil_water_of f reading)
   unfolding soil_water_of
   soil_water-limits reading = falling-limits _ _
 
   pub soil_water-max : soil_water_of f f.soil_max ≈ natural 1
   unfolding soil_water_of
-  soil_water-max = falling-start _ _ (drier-none f.measure f.soil_max) (drier-pos f.measure f.soil_max f.soil_min sound.soil)
+  soil_water-max =
+      falling-start _ _ (drier-none f.measure f.soil_max)
+      (drier-pos f.measure f.soil_max f.soil_min sound.soil)
 
   pub soil_water-min : soil_water_of f f.soil_min ≈ f.f_min over 100
   unfolding soil_water_of
   soil_water-min = falling-end _ _ (omega arith)
 
-  pub suction-anti : f.measure ≡ Suction → (kpa kpa' : ℕ) → kpa ≤ kpa' → soil_water_of f kpa' ≼ soil_water_of f kpa
+  pub suction-anti :
+      f.measure ≡ Suction → (kpa kpa' : ℕ) → kpa ≤ kpa' → soil_water_of f kpa' ≼ soil_water_of f kpa
   unfolding soil_water_of
   suction-anti e kpa kpa' h = rw e (falling-anti _ _ _ (omega arith))
 
-  pub water-mono : f.measure ≡ Water → (tenths tenths' : ℕ) → tenths ≤ tenths' → soil_water_of f tenths ≼ soil_water_of f tenths'
+  pub water-mono :
+      f.measure ≡ Water → (tenths tenths' : ℕ) → tenths ≤ tenths' →
+      soil_water_of f tenths ≼ soil_water_of f tenths'
   unfolding soil_water_of
   water-mono e tenths tenths' h = rw e (falling-anti _ _ _ (omega arith))
 
@@ -89,13 +97,17 @@ module _ (f : Figures) (sound : Sound f) where
   unfolding by_ramps
   ramps-le first last day = grind (arith, cond-le, line-le)
 
-  by-kind-le : (kind : Phenology) → f.phenology ≡ kind → (first last day temperature : ℕ) → phenology_of f first last day temperature ≼ natural 1
+  by-kind-le :
+      (kind : Phenology) → f.phenology ≡ kind → (first last day temperature : ℕ) →
+      phenology_of f first last day temperature ≼ natural 1
   unfolding phenology_of by_ramps
   by-kind-le Ramps e first last day temperature = rw e (ramps-le first last day)
   by-kind-le Dip e first last day temperature = rw e (dip-le day)
   by-kind-le Temperature e first last day temperature = grind (arith, nat_tests, temperature-le)
 
-  pub phenology-limits : (first last day temperature : ℕ) → Between (natural 0) (natural 1) (phenology_of f first last day temperature)
+  pub phenology-limits :
+      (first last day temperature : ℕ) →
+      Between (natural 0) (natural 1) (phenology_of f first last day temperature)
   phenology-limits first last day temperature = grind (arith, nat_tests, by-kind-le)
 
   warmth-le : (w : Warmth) (sum : ℕ) → by_warmth f w sum ≼ natural 1

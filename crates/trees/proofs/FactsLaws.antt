@@ -9,7 +9,8 @@ use Rattle.trees.specs.declared.Figures.{Figures}
 use Rattle.trees.specs.declared.Warmth.{Warmth}
 use Rattle.trees.specs.Sound.{Sound}
 use Rattle.trees.specs.Phenology.{by_ramps, by_dip, by_temperature, phenology_of, by_warmth}
-use Rattle.trees.specs.Facts.{RampFacts, DipFacts, PhenologyFacts, WarmthFacts, TemperatureFacts, DeficitFacts, SoilWaterFacts, FactorFacts}
+use Rattle.trees.specs.Facts.{RampFacts, DipFacts, PhenologyFacts, WarmthFacts, TemperatureFacts}
+use Rattle.trees.specs.Facts.{DeficitFacts, SoilWaterFacts, FactorFacts}
 use Rattle.trees.proofs.FactorLaws.{
   soil_water-limits,
   soil_water-max,
@@ -19,7 +20,8 @@ use Rattle.trees.proofs.FactorLaws.{
   phenology-limits,
   warmth-limits,
 }
-use Rattle.trees.proofs.DeficitLaws.{deficit-limits, deficit-max, deficit-min, deficit-anti, deficit-near}
+use Rattle.trees.proofs.DeficitLaws.{deficit-limits, deficit-max, deficit-min, deficit-anti}
+use Rattle.trees.proofs.DeficitLaws.{deficit-near}
 use Rattle.trees.proofs.TemperatureLaws.{
   temperature_at-above,
   temperature_at-le,
@@ -38,9 +40,12 @@ use Rattle.exact.proofs.FracLaws.{≼-antisym, straight-start, straight-end}
 module _ (f : Figures) (first last : ℕ) (fits : first + f.f1 + f.f4 ≤ last) where
   ramps-first : 0 < f.f1 → by_ramps f first last first ≈ f.a over 100
   unfolding by_ramps
-  ramps-first h = let none : first - first ≡ 0 = omega arith in rw none (grind (arith, nat_tests, straight-start))
+  ramps-first h =
+      let none : first - first ≡ 0 = omega arith in
+      rw none (grind (arith, nat_tests, straight-start))
 
-  ramps-between : (day : ℕ) → first + f.f1 ≤ day → day + f.f4 ≤ last → by_ramps f first last day ≈ natural 1
+  ramps-between :
+      (day : ℕ) → first + f.f1 ≤ day → day + f.f4 ≤ last → by_ramps f first last day ≈ natural 1
   unfolding by_ramps
   ramps-between day p q = grind (arith, nat_tests, straight-end)
 
@@ -68,7 +73,9 @@ module _ (f : Figures) (w : Warmth) where
   unfolding by_warmth
   warmth-first fits h = grind (arith, nat_tests, straight-start)
 
-  warmth-between : (sum : ℕ) → 240 * w.rise ≤ sum → sum + 240 * w.fall ≤ 240 * w.end → by_warmth f w sum ≈ natural 1
+  warmth-between :
+      (sum : ℕ) → 240 * w.rise ≤ sum → sum + 240 * w.fall ≤ 240 * w.end →
+      by_warmth f w sum ≈ natural 1
   unfolding by_warmth
   warmth-between sum p q = grind (arith, nat_tests, straight-end)
 
@@ -87,12 +94,14 @@ module _ (f : Figures) (w : Warmth) where
 
 module _ (f : Figures) (s : Sound f) where
   ramp-facts :
-      f.phenology ≡ Ramps → (first last x : ℕ) → first + f.f1 + f.f4 ≤ last → RampFacts f first last (λ day. phenology_of f first last day x)
+      f.phenology ≡ Ramps → (first last x : ℕ) → first + f.f1 + f.f4 ≤ last →
+      RampFacts f first last (λ day. phenology_of f first last day x)
   unfolding phenology_of by_ramps
   ramp-facts e first last x fits =
       rw e (grind (arith, ramps-first, ramps-rising, ramps-between, ramps-falling, ramps-last))
 
-  dip-facts : f.phenology ≡ Dip → (first last x : ℕ) → DipFacts (λ day. phenology_of f first last day x)
+  dip-facts :
+      f.phenology ≡ Dip → (first last x : ℕ) → DipFacts (λ day. phenology_of f first last day x)
   unfolding phenology_of by_dip straight
   dip-facts e first last x = rw e (grind (arith, nat_tests))
 
@@ -102,19 +111,35 @@ module _ (f : Figures) (s : Sound f) where
 
   warmth-facts : (w : Warmth) → WarmthFacts f w
   unfolding by_warmth
-  warmth-facts w = grind (arith, nat_tests, warmth-limits, warmth-first, warmth-between, warmth-falls, warmth-last)
+  warmth-facts w = grind (
+    arith,
+    nat_tests,
+    warmth-limits,
+    warmth-first,
+    warmth-between,
+    warmth-falls,
+    warmth-last,
+  )
 
   temperature-facts : TemperatureFacts f
   temperature-facts = record {
-    limits = λ k x. record { above = temperature_at-above f s x k; below = temperature_at-le f s x k };
+    limits =
+        λ k x. record { above = temperature_at-above f s x k; below = temperature_at-le f s x k };
     outside = λ k x h. rw (temperature_at-outside f s x k h) (omega arith);
-    optimum = λ k. ≼-antisym (temperature_at-le f s (10 * f.t_opt) k) (temperature_at-optimum f s k);
+    optimum =
+        λ k. ≼-antisym (temperature_at-le f s (10 * f.t_opt) k) (temperature_at-optimum f s k);
     grows = λ k l x h. temperature_at-mono f s x h;
-    pair = λ x. record { at = 9; low = temperature_pair-low f s x; high = temperature_pair-high f s x; near = temperature_pair-gap f s x };
+    pair = λ x. record {
+      at = 9;
+      low = temperature_pair-low f s x;
+      high = temperature_pair-high f s x;
+      near = temperature_pair-gap f s x;
+    };
   }
 
   deficit-facts : DeficitFacts f
-  deficit-facts = grind (arith, deficit-limits, deficit-max, deficit-min, deficit-anti, deficit-near)
+  deficit-facts =
+      grind (arith, deficit-limits, deficit-max, deficit-min, deficit-anti, deficit-near)
 
   soil_water-facts : SoilWaterFacts f
   soil_water-facts = record {

@@ -1,5 +1,9 @@
 -- A fraction has one form in lowest terms; `powers_of` has it where p and q are at most 22.
-use Rattle.std.proofs.Common.{◌≡◌, ℕ, zero, suc, ◌+◌, ◌-◌, ◌*◌, ◌/◌, ◌%◌, ◌<◌, ◌≤◌, Bool, true, false, cond, ◌&&◌, T, eqb, ltb, leb, sym, refl, ap, ◌∙◌, subst, ⊎_elim, le_refl, mul-le-mul_right, mul_comm, le_antisymm, eq-or-lt_of_le, mul-pos, div-add-mod', arith, eqb→eq, ltb→lt, leb→le, le-ltb, lt-ltb, eq-eqb, le-leb}
+use Rattle.std.proofs.Common.{◌≡◌, ℕ, zero, suc, ◌+◌, ◌-◌, ◌*◌, ◌/◌, ◌%◌, ◌<◌, ◌≤◌, Bool, true}
+use Rattle.std.proofs.Common.{false, cond, ◌&&◌, T, eqb, ltb, leb, sym, refl, ap, ◌∙◌, subst}
+use Rattle.std.proofs.Common.{⊎_elim, le_refl, mul-le-mul_right, mul_comm, le_antisymm}
+use Rattle.std.proofs.Common.{eq-or-lt_of_le, mul-pos, div-add-mod', arith, eqb→eq, ltb→lt, leb→le}
+use Rattle.std.proofs.Common.{le-ltb, lt-ltb, eq-eqb, le-leb}
 use mathlib.Core.Path.{subst⁻¹}
 use native.Mathlib.Nat.{mul-mod_left, eq_of_mul-eq-mul_right}
 use store.Enc.{and_l, and_r}
@@ -8,7 +12,8 @@ use Rattle.exact.proofs.OrderLaws.{le-or-lt}
 use Rattle.exact.proofs.LeastLaws.{least-passes, least_under}
 use Rattle.std.specs.Prelude.{Option, Some, None}
 use Rattle.trees.specs.declared.ratio.Ratio.{Ratio}
-use Rattle.trees.specs.Powers.{lowest_q, lowest_p, both_small, powers_of, InLowestTerms, PowersFacts}
+use Rattle.trees.specs.Powers.{lowest_q, lowest_p, both_small, powers_of, InLowestTerms}
+use Rattle.trees.specs.Powers.{PowersFacts}
 
 module _ (rise fall : ℕ) where
   abbrev whole : ℕ → Bool
@@ -24,42 +29,63 @@ module _ (rise fall : ℕ) where
   module _ (rise-pos : 0 < rise) where
     lowest-whole : T (whole (lowest_q rise fall))
     lowest-whole =
-        least-passes whole rise rise (le_refl rise) (whole-true rise rise-pos (ap (λ (m : ℕ). m % rise) (mul_comm rise fall) ∙ mul-mod_left fall rise))
+        least-passes whole rise rise (le_refl rise)
+        (whole-true rise rise-pos
+        (ap (λ (m : ℕ). m % rise) (mul_comm rise fall) ∙ mul-mod_left fall rise))
 
     lowest-rest : lowest_q rise fall * fall % rise ≡ 0
     lowest-rest =
-        eqb→eq (lowest_q rise fall * fall % rise) 0 (and_r (ltb 0 (lowest_q rise fall)) (eqb (lowest_q rise fall * fall % rise) 0) lowest-whole)
+        eqb→eq (lowest_q rise fall * fall % rise) 0
+        (and_r (ltb 0 (lowest_q rise fall)) (eqb (lowest_q rise fall * fall % rise) 0) lowest-whole)
 
     lowest-terms : InLowestTerms rise fall (lowest_p rise fall) (lowest_q rise fall)
     lowest-terms = record {
-      positive = ltb→lt 0 (lowest_q rise fall) (and_l (ltb 0 (lowest_q rise fall)) (eqb (lowest_q rise fall * fall % rise) 0) lowest-whole);
+      positive =
+          ltb→lt 0 (lowest_q rise fall)
+          (and_l (ltb 0 (lowest_q rise fall))
+          (eqb (lowest_q rise fall * fall % rise) 0) lowest-whole);
       ratio = omega (arith, div-add-mod' (lowest_q rise fall * fall) rise, lowest-rest);
-      least = λ r s h e. least_under whole rise s (whole-true s h (ap (λ (m : ℕ). m % rise) (sym e) ∙ mul-mod_left r rise));
+      least = λ r s h e.
+          least_under whole rise s
+          (whole-true s h (ap (λ (m : ℕ). m % rise) (sym e) ∙ mul-mod_left r rise));
     }
 
-    lowest-unique : {p q : ℕ} → InLowestTerms rise fall p q → (lowest_p rise fall ≡ p) × (lowest_q rise fall ≡ q)
+    lowest-unique :
+        {p q : ℕ} → InLowestTerms rise fall p q →
+        (lowest_p rise fall ≡ p) × (lowest_q rise fall ≡ q)
     lowest-unique {p} {q} h =
         let l = lowest-terms in
-        let same : lowest_q rise fall ≡ q = le_antisymm (l.least p q h.positive h.ratio) (h.least (lowest_p rise fall) (lowest_q rise fall) l.positive l.ratio) in
-        (eq_of_mul-eq-mul_right rise rise-pos (lowest_p rise fall) p (l.ratio ∙ ap (λ (m : ℕ). m * fall) same ∙ sym h.ratio), same)
+        let same : lowest_q rise fall ≡ q =
+        le_antisymm (l.least p q h.positive h.ratio)
+        (h.least (lowest_p rise fall) (lowest_q rise fall) l.positive l.ratio) in (
+          eq_of_mul-eq-mul_right rise rise-pos (lowest_p rise fall) p
+              (l.ratio ∙ ap (λ (m : ℕ). m * fall) same ∙ sym h.ratio),
+          same,
+        )
 
 -- ---- q and what it leaves
 
 between-multiples : (u p r rise : ℕ) → 0 < r → r < rise → u * rise ≡ p * rise + r → ⊥
 between-multiples u p r rise pos lt e =
-    ⊎_elim (λ h. omega (arith, mul-le-mul_right rise h)) (λ h. omega (arith, mul-le-mul_right rise h)) (le-or-lt u p)
+    ⊎_elim (λ h. omega (arith, mul-le-mul_right rise h))
+    (λ h. omega (arith, mul-le-mul_right rise h)) (le-or-lt u p)
 
 module _ (rise fall p q r : ℕ) (h : p * rise + r ≡ q * fall) where
   pub rest-next : (p + fall / rise) * rise + (r + fall % rise) ≡ (q + 1) * fall
   rest-next = omega (arith, div-add-mod' fall rise)
 
-  pub rest-carried : rise ≤ r + fall % rise → (p + fall / rise + 1) * rise + (r + fall % rise - rise) ≡ (q + 1) * fall
+  pub rest-carried :
+      rise ≤ r + fall % rise →
+      (p + fall / rise + 1) * rise + (r + fall % rise - rise) ≡ (q + 1) * fall
   rest-carried carry = omega (arith, div-add-mod' fall rise)
 
 pub none-next :
-    (rise fall p q r : ℕ) → 0 < r → r < rise → p * rise + r ≡ q * fall → NoneBelow rise fall q → NoneBelow rise fall (q + 1)
+    (rise fall p q r : ℕ) → 0 < r → r < rise → p * rise + r ≡ q * fall → NoneBelow rise fall q →
+    NoneBelow rise fall (q + 1)
 none-next rise fall p q r pos lt e none u s h f =
-    ⊎_elim (λ same. absurd (between-multiples u p r rise pos lt (f ∙ ap (λ (m : ℕ). m * fall) (sym same) ∙ sym e))) (λ l. omega (arith, l))
+    ⊎_elim (λ same.
+    absurd (between-multiples u p r rise pos lt (f ∙ ap (λ (m : ℕ). m * fall) (sym same) ∙ sym e)))
+    (λ l. omega (arith, l))
     (eq-or-lt_of_le (none u s h f))
 
 -- ---- both at most 22
@@ -77,20 +103,27 @@ large-q : (p q : ℕ) → 22 < q → both_small p q ≡ None
 large-q p q h = ⊎_elim (λ l. rw (le-leb p 22 l, lt-leb q 22 h)) (λ l. large-p p q l) (le-or-lt p 22)
 
 module _ (rise fall p q : ℕ) (rise-pos : 0 < rise) where
-  pub lowest-small : InLowestTerms rise fall p q → p ≤ 22 → q ≤ 22 → ratio_of p q ≡ both_small (lowest_p rise fall) (lowest_q rise fall)
+  pub lowest-small :
+      InLowestTerms rise fall p q → p ≤ 22 → q ≤ 22 →
+      ratio_of p q ≡ both_small (lowest_p rise fall) (lowest_q rise fall)
   lowest-small h hp hq =
       let u = lowest-unique rise fall rise-pos h in
       rw (u.0, u.1) (sym (small_is p q hp hq))
 
-  pub lowest-large-p : InLowestTerms rise fall p q → 22 < p → None ≡ both_small (lowest_p rise fall) (lowest_q rise fall)
+  pub lowest-large-p :
+      InLowestTerms rise fall p q → 22 < p →
+      None ≡ both_small (lowest_p rise fall) (lowest_q rise fall)
   lowest-large-p h l =
       let u = lowest-unique rise fall rise-pos h in
       rw (u.0, u.1) (sym (large-p p q l))
 
-pub lowest-large-q : (rise fall : ℕ) → 0 < rise → NoneBelow rise fall 23 → None ≡ both_small (lowest_p rise fall) (lowest_q rise fall)
+pub lowest-large-q :
+    (rise fall : ℕ) → 0 < rise → NoneBelow rise fall 23 →
+    None ≡ both_small (lowest_p rise fall) (lowest_q rise fall)
 lowest-large-q rise fall rise-pos none =
     let l = lowest-terms rise fall rise-pos in
-    sym (large-q (lowest_p rise fall) (lowest_q rise fall) (none (lowest_p rise fall) (lowest_q rise fall) l.positive l.ratio))
+    sym (large-q (lowest_p rise fall) (lowest_q rise fall)
+    (none (lowest_p rise fall) (lowest_q rise fall) l.positive l.ratio))
 
 -- ---- out of the temperatures
 
@@ -106,26 +139,38 @@ module _ (t_min t_opt t_max : ℕ) where
   root = lowest_q (t_opt - t_min) (t_max - t_opt)
 
   small-facts :
-      (c : Bool) → c ≡ (leb low 22 && leb root 22) → t_min < t_opt → t_opt < t_max → PowersFacts t_min t_opt t_max (cond c (ratio_of low root) None)
+      (c : Bool) → c ≡ (leb low 22 && leb root 22) → t_min < t_opt → t_opt < t_max →
+      PowersFacts t_min t_opt t_max (cond c (ratio_of low root) None)
   small-facts true e h k =
       let l = lowest-terms (t_opt - t_min) (t_max - t_opt) (omega arith) in
       let both : T (leb low 22 && leb root 22) = subst T e tt in
       record {
         rising = (h, k);
         lowest = l;
-        p_small = (ratio-pos low root (t_opt - t_min) (t_max - t_opt) l.ratio l.positive (omega arith), leb→le low 22 (and_l (leb low 22) (leb root 22) both));
+        p_small = (
+          ratio-pos low root (t_opt - t_min) (t_max - t_opt) l.ratio l.positive (omega arith),
+          leb→le low 22 (and_l (leb low 22) (leb root 22) both),
+        );
         q_small = (l.positive, leb→le root 22 (and_r (leb low 22) (leb root 22) both));
       }
   small-facts false e h k = λ p q _ _ l p-le.
       let u = lowest-unique (t_opt - t_min) (t_max - t_opt) (omega arith) l in
-      ⊎_elim (λ q-le. absurd (subst⁻¹ T e (rw (le-leb low 22 (omega (arith, u.0)), le-leb root 22 (omega (arith, u.1))) tt))) (λ lt. lt) (le-or-lt q 22)
+      ⊎_elim (λ q-le.
+      absurd (subst⁻¹ T e
+      (rw (le-leb low 22 (omega (arith, u.0)), le-leb root 22 (omega (arith, u.1))) tt)))
+      (λ lt. lt)
+      (le-or-lt q 22)
 
-  rising-facts : (b : Bool) → b ≡ (ltb t_min t_opt && ltb t_opt t_max) → PowersFacts t_min t_opt t_max (cond b (both_small low root) None)
+  rising-facts :
+      (b : Bool) → b ≡ (ltb t_min t_opt && ltb t_opt t_max) →
+      PowersFacts t_min t_opt t_max (cond b (both_small low root) None)
   rising-facts true e =
       let both : T (ltb t_min t_opt && ltb t_opt t_max) = subst T e tt in
-      small-facts (leb low 22 && leb root 22) refl (ltb→lt t_min t_opt (and_l (ltb t_min t_opt) (ltb t_opt t_max) both))
+      small-facts (leb low 22 && leb root 22) refl
+      (ltb→lt t_min t_opt (and_l (ltb t_min t_opt) (ltb t_opt t_max) both))
       (ltb→lt t_opt t_max (and_r (ltb t_min t_opt) (ltb t_opt t_max) both))
-  rising-facts false e = λ p q h k l p-le. absurd (subst⁻¹ T e (rw (lt-ltb t_min t_opt h, lt-ltb t_opt t_max k) tt))
+  rising-facts false e =
+      λ p q h k l p-le. absurd (subst⁻¹ T e (rw (lt-ltb t_min t_opt h, lt-ltb t_opt t_max k) tt))
 
   pub powers-facts : PowersFacts t_min t_opt t_max (powers_of t_min t_opt t_max)
   unfolding powers_of
@@ -137,7 +182,8 @@ module _ (t_min t_opt t_max : ℕ) where
   answered : {r : (Option Ratio)} → r ≡ powers_of t_min t_opt t_max → Answers r
   answered e = (e, subst⁻¹ (PowersFacts t_min t_opt t_max) e powers-facts)
 
-  pub powers-rising : {r : (Option Ratio)} → t_min < t_opt → t_opt < t_max → r ≡ both_small low root → Answers r
+  pub powers-rising :
+      {r : (Option Ratio)} → t_min < t_opt → t_opt < t_max → r ≡ both_small low root → Answers r
   unfolding powers_of
   powers-rising h k e = answered (rw (lt-ltb t_min t_opt h, lt-ltb t_opt t_max k) e)
 

@@ -10,4 +10,5 @@ use Rattle.trees.specs.MeasuredFigures.{number_row}
 
 pub number-row-is : (t : ℕ) → t ≢ 7 → tree_row t ≡ number_row t
 number-row-is t other =
-    ⊎_elim (λ h. rw (le-ltb 6 t h, le-ltb 7 t (omega arith))) (λ h. rw (lt-ltb 6 t h, lt-ltb 7 t (omega arith))) (le-or-lt t 6)
+    ⊎_elim (λ h. rw (le-ltb 6 t h, le-ltb 7 t (omega arith)))
+    (λ h. rw (lt-ltb 6 t h, lt-ltb 7 t (omega arith))) (le-or-lt t 6)

@@ -5,7 +5,8 @@ use mathlib.Core.Path.{◌≡◌}
 use mathlib.Core.Bool.{Bool, true, false, cond}
 use native.Mathlib.Omega.{arith}
 use Rattle.trees.specs.declared.Figures.{Figures}
-use Rattle.trees.specs.Figures.{boreal_spruce, birch, continental_spruce, beech, oak, evergreen, figures_of}
+use Rattle.trees.specs.Figures.{boreal_spruce, birch, continental_spruce, beech, oak, evergreen}
+use Rattle.trees.specs.Figures.{figures_of}
 use Rattle.trees.specs.Sound.{Sound}
 
 pub boreal_spruce-sound : Sound boreal_spruce
@@ -33,7 +34,9 @@ module _ (P : Figures → Type 0) where
   Chosen (Some f) = P f
   Chosen None = Unit
 
-  either : (t : Bool) (f : Figures) (rest : Option Figures) → P f → Chosen rest → Chosen (cond t (Some f) rest)
+  either :
+      (t : Bool) (f : Figures) (rest : Option Figures) → P f → Chosen rest →
+      Chosen (cond t (Some f) rest)
   either true f rest s r = s
   either false f rest s r = r
 
@@ -45,4 +48,5 @@ module _ (P : Figures → Type 0) where
 
 pub figures-sound : (t : ℕ) (f : Figures) → figures_of t ≡ Some f → Sound f
 figures-sound =
-    figures-all Sound boreal_spruce-sound birch-sound continental_spruce-sound beech-sound oak-sound evergreen-sound
+    figures-all Sound boreal_spruce-sound birch-sound continental_spruce-sound beech-sound
+    oak-sound evergreen-sound

@@ -11,7 +11,8 @@ use lib.Pow.{pow-add}
 use Rattle.trees.specs.declared.Figures.{Figures}
 use Rattle.trees.specs.Sound.{Sound}
 use Rattle.trees.specs.Temperature.{root_at, inside, temperature_at, temperature_pair}
-use Rattle.trees.proofs.TemperatureRoot.{root_at-greatest, root_at-grows, root_at-next, root_at-optimum, greatest-le-one}
+use Rattle.trees.proofs.TemperatureRoot.{root_at-greatest, root_at-grows, root_at-next}
+use Rattle.trees.proofs.TemperatureRoot.{root_at-optimum, greatest-le-one}
 use Rattle.trees.proofs.TemperatureLookup.{inside-true}
 use Rattle.exact.specs.declared.Bounds.{Bounds}
 use Rattle.exact.specs.Frac.{Frac, ◌over◌, natural, ◌≼◌, greater}
@@ -24,7 +25,8 @@ cases P true y z h k = h tt
 cases P false y z h k = k
 
 cases₂ :
-    {A B : Type 0} (P : A → B → Type 0) (b : Bool) (o p : A) (y z : B) → (T b → P o y) → P p z → P (cond b o p) (cond b y z)
+    {A B : Type 0} (P : A → B → Type 0) (b : Bool) (o p : A) (y z : B) → (T b → P o y) → P p z →
+    P (cond b o p) (cond b y z)
 cases₂ P true o p y z h k = h tt
 cases₂ P false o p y z h k = k
 
@@ -46,7 +48,13 @@ module _ (f : Figures) (s : Sound f) (x : ℕ) where
 
   root-le : (k : ℕ) → T (inside f.t_min f.t_max x) → root k ≼ natural 1
   root-le k h =
-      record { cross = omega (arith, greatest-le-one f s x (grind (arith, nat_tests)) (grind (arith, nat_tests)) (root_at-greatest f x s.q.0 k)) }
+      record {
+        cross = omega (
+          arith,
+          greatest-le-one f s x (grind (arith, nat_tests)) (grind (arith, nat_tests))
+              (root_at-greatest f x s.q.0 k),
+        );
+      }
 
   root-next : (k : ℕ) → root (k + 9) ≼ ((root_at 9 f x + 1) over 10 ^ 9)
   root-next k =
@@ -54,7 +62,8 @@ module _ (f : Figures) (s : Sound f) (x : ℕ) where
       (omega (
         arith,
         ap (λ (m : ℕ). (root_at 9 f x + 1) * m) (pow-add 10 k 9),
-        subst (λ (m : ℕ). root_at m f x < 10 ^ k * (root_at 9 f x + 1)) (add_comm 9 k) (root_at-next f x s.q.0 9 k),
+        subst (λ (m : ℕ). root_at m f x < 10 ^ k * (root_at 9 f x + 1)) (add_comm 9 k)
+            (root_at-next f x s.q.0 9 k),
       ))
 
   -- f_min ≤ f_temp ≤ 1
@@ -69,7 +78,8 @@ module _ (f : Figures) (s : Sound f) (x : ℕ) where
   unfolding temperature_at
   temperature_at-le k = grind (arith, cases, greater-least, f_min-le, root-le)
 
-  pub temperature_at-outside : (k : ℕ) → (10 * f.t_min < x → 10 * f.t_max ≤ x) → temperature_at k f x ≡ f_min
+  pub temperature_at-outside :
+      (k : ℕ) → (10 * f.t_min < x → 10 * f.t_max ≤ x) → temperature_at k f x ≡ f_min
   unfolding temperature_at
   temperature_at-outside k h = grind (arith, nat_tests)
 
@@ -77,7 +87,8 @@ module _ (f : Figures) (s : Sound f) (x : ℕ) where
   temperature_at-step : (k j : ℕ) → temperature_at k f x ≼ temperature_at (k + j) f x
   unfolding temperature_at
   temperature_at-step k j =
-      cases₂ ◌≼◌ (inside f.t_min f.t_max x) (greater f_min (root k)) f_min (greater f_min (root (k + j))) f_min
+      cases₂ ◌≼◌ (inside f.t_min f.t_max x) (greater f_min (root k)) f_min
+      (greater f_min (root (k + j))) f_min
       (λ h.
       greater-least f_min (root k) (greater-left f_min (root (k + j)))
       (≼_trans (root-mono k j) (greater-right f_min (root (k + j)))))
@@ -101,15 +112,20 @@ module _ (f : Figures) (s : Sound f) (x : ℕ) where
 
   pub temperature_pair-low : ((temperature_pair f x).lower over 10 ^ 9) ≼ temperature_at 9 f x
   unfolding temperature_at temperature_pair
-  temperature_pair-low = grind (arith, cases₂, max-over-least, ≼_trans, floor-is, greater-left, greater-right)
+  temperature_pair-low =
+      grind (arith, cases₂, max-over-least, ≼_trans, floor-is, greater-left, greater-right)
 
-  pub temperature_pair-high : (k : ℕ) → temperature_at k f x ≼ ((temperature_pair f x).upper over 10 ^ 9)
+  pub temperature_pair-high :
+      (k : ℕ) → temperature_at k f x ≼ ((temperature_pair f x).upper over 10 ^ 9)
   unfolding temperature_at temperature_pair
   temperature_pair-high k =
-      let next : ((root_at 9 f x + 1) over 10 ^ 9) ≼ (max floor (root_at 9 f x + 1) over 10 ^ 9) = record { cross = omega arith } in
-      cases₂ (λ (p : Bounds) v. v ≼ (p.upper over 10 ^ 9)) (inside f.t_min f.t_max x) found least (greater f_min (root k)) f_min
+      let next : ((root_at 9 f x + 1) over 10 ^ 9) ≼ (max floor (root_at 9 f x + 1) over 10 ^ 9) =
+      record { cross = omega arith } in
+      cases₂ (λ (p : Bounds) v. v ≼ (p.upper over 10 ^ 9)) (inside f.t_min f.t_max x) found least
+      (greater f_min (root k)) f_min
       (λ h.
-      greater-least f_min (root k) (record { cross = omega arith }) (≼_trans (≼_trans (root-mono k 9) (root-next k)) next))
+      greater-least f_min (root k) (record { cross = omega arith })
+      (≼_trans (≼_trans (root-mono k 9) (root-next k)) next))
       (record { cross = omega arith })
 
   pub temperature_pair-gap : (temperature_pair f x).upper ≤ (temperature_pair f x).lower + 1
@@ -121,8 +137,11 @@ module _ (f : Figures) (s : Sound f) (x : ℕ) where
   temperature_pair-order = grind (arith, nat_tests)
 
   pub temperature_pair-le : (temperature_pair f x).lower ≤ 10 ^ 9
-  temperature_pair-le = let l = ≼_trans temperature_pair-low (temperature_at-le 9) in omega (arith, l.cross)
+  temperature_pair-le =
+      let l = ≼_trans temperature_pair-low (temperature_at-le 9) in omega (arith, l.cross)
 
-pub temperature_at-optimum : (f : Figures) → Sound f → (k : ℕ) → natural 1 ≼ temperature_at k f (10 * f.t_opt)
+pub temperature_at-optimum :
+    (f : Figures) → Sound f → (k : ℕ) → natural 1 ≼ temperature_at k f (10 * f.t_opt)
 unfolding temperature_at
-temperature_at-optimum f s k = grind (arith, root_at-optimum, ten-pos, inside-true, ≼_trans, greater-right)
+temperature_at-optimum f s k =
+    grind (arith, root_at-optimum, ten-pos, inside-true, ≼_trans, greater-right)

@@ -25,7 +25,8 @@ module _ (f : Figures) (x : ℕ) where
   unfolding temperature_pair
   pair-floor {r} under e = grind (arith, nat_tests)
 
-module _ {f : Figures} {from x : ℕ} {ts : List ℕ} (s : Sound f) (t : IsTemperatureTable f from ts) (low : 10 * f.t_min < x) (high : x < 10 * f.t_max)
+module _ {f : Figures} {from x : ℕ} {ts : List ℕ} (s : Sound f) (t : IsTemperatureTable f from ts)
+    (low : 10 * f.t_min < x) (high : x < 10 * f.t_max)
     (first : from ≤ x) (short : x < from + length ts) where
   abbrev found : ℕ
   found = get_or ts (x - from) 0
@@ -37,6 +38,8 @@ module _ {f : Figures} {from x : ℕ} {ts : List ℕ} (s : Sound f) (t : IsTempe
   found-is = root_at-is f x s.q.0 found-greatest
 
   pub pair_read :
-      {r : Bounds} → (r.lower ≡ max (f.f_min * 10000000) found) × (r.upper ≡ max (f.f_min * 10000000) (found + 1)) → r ≡ temperature_pair f x
+      {r : Bounds} →
+      (r.lower ≡ max (f.f_min * 10000000) found)
+      × (r.upper ≡ max (f.f_min * 10000000) (found + 1)) → r ≡ temperature_pair f x
   unfolding temperature_pair
   pair_read e = grind (arith, nat_tests, found-is)

@@ -42,7 +42,9 @@ module _ (f : Figures) (x : ℕ) where
   nums = (a f x).num ^ f.q * (w f x).num ^ f.p
 
   dens-pos : zero < dens
-  dens-pos = mul-pos (one-le-pow f.q (a f x).den (a f x).positive) (one-le-pow f.p (w f x).den (w f x).positive)
+  dens-pos =
+      mul-pos (one-le-pow f.q (a f x).den (a f x).positive)
+      (one-le-pow f.p (w f x).den (w f x).positive)
 
   tried-mono : {t u : ℕ} → t ≤ u → tried f x t ≤ tried f x u
   unfolding tried
@@ -115,13 +117,15 @@ module _ (f : Figures) (x : ℕ) where
     root_at-next k j = digits_lt k j (root_at-greatest root k) (root_at-greatest root (k + j))
 
 -- a·w^(p/q) is 1 at Topt and nowhere greater
-tenfold : (p q d e : ℕ) → zero < d → zero < e → p * d ≡ q * e → p * max 1 (10 * d) ≡ q * max 1 (10 * e)
+tenfold :
+    (p q d e : ℕ) → zero < d → zero < e → p * d ≡ q * e → p * max 1 (10 * d) ≡ q * max 1 (10 * e)
 tenfold p q d e hd he h =
     let d-is : max 1 (10 * d) ≡ 10 * d = omega arith in
     let e-is : max 1 (10 * e) ≡ 10 * e = omega arith in
     rw (d-is, e-is) (omega arith)
 
-module _ (f : Figures) (s : Sound f) (x : ℕ) (low : 10 * f.t_min < x) (high : x < 10 * f.t_max) where
+module _ (f : Figures) (s : Sound f) (x : ℕ) (low : 10 * f.t_min < x)
+    (high : x < 10 * f.t_max) where
   nums-le : nums f x ≤ dens f x
   nums-le = grind (arith, mean-le, tenfold)
 
@@ -130,13 +134,16 @@ module _ (f : Figures) (s : Sound f) (x : ℕ) (low : 10 * f.t_min < x) (high : 
   greatest-le-one {k} {t} g =
       pow-le-inv f.q s.q.0
       (rw (← (pow-mul 10 k f.q))
-      (le_of_mul-le-mul_right {k = dens f x} (le_trans g.under (mul-le-mul_left (10 ^ (k * f.q)) nums-le)) (dens-pos f x)))
+      (le_of_mul-le-mul_right {k = dens f x}
+      (le_trans g.under (mul-le-mul_left (10 ^ (k * f.q)) nums-le)) (dens-pos f x)))
 
 module _ (f : Figures) (s : Sound f) where
   nums-optimum : nums f (10 * f.t_opt) ≡ dens f (10 * f.t_opt)
   nums-optimum =
-      let rise : 10 * f.t_opt - 10 * f.t_min ≡ max 1 (10 * (f.t_opt - f.t_min)) = omega (arith, s.t_opt) in
-      let fall : 10 * f.t_max - 10 * f.t_opt ≡ max 1 (10 * (f.t_max - f.t_opt)) = omega (arith, s.t_max) in
+      let rise : 10 * f.t_opt - 10 * f.t_min ≡ max 1 (10 * (f.t_opt - f.t_min)) =
+      omega (arith, s.t_opt) in
+      let fall : 10 * f.t_max - 10 * f.t_opt ≡ max 1 (10 * (f.t_max - f.t_opt)) =
+      omega (arith, s.t_max) in
       ap₂ (λ (m n : ℕ). m ^ f.q * n ^ f.p) rise fall
 
   optimum-fits : (k : ℕ) → tried f (10 * f.t_opt) (10 ^ k) ≤ allowed k f (10 * f.t_opt)
@@ -147,5 +154,6 @@ module _ (f : Figures) (s : Sound f) where
   root_at-optimum k =
       let x : ℕ = 10 * f.t_opt in
       le_antisymm
-      (greatest-le-one f s x (omega (arith, s.t_opt)) (omega (arith, s.t_max)) (root_at-greatest f x s.q.0 k))
+      (greatest-le-one f s x (omega (arith, s.t_opt)) (omega (arith, s.t_max))
+      (root_at-greatest f x s.q.0 k))
       (root_at-above f x s.q.0 k (optimum-fits k))

@@ -17,7 +17,8 @@ greatest_test f x t = leb (tried f x t) (allowed 9 f x) && ltb (allowed 9 f x) (
 
 pub greatest-tested : (f : Figures) (x t : ℕ) → T (greatest_test f x t) → IsGreatest 9 f x t
 unfolding tried allowed
-greatest-tested f x t h = record { under = grind (arith, nat_tests); above = grind (arith, nat_tests) }
+greatest-tested f x t h =
+    record { under = grind (arith, nat_tests); above = grind (arith, nat_tests) }
 
 -- each entry is the greatest, the first one at x
 abbrev every_test : Figures → ℕ → List ℕ → Bool
@@ -26,12 +27,14 @@ every_test f x [] = true
 every_test f x (t ∷ ts) = greatest_test f x t && every_test f (suc x) ts
 
 entry-tested :
-    (f : Figures) (x : ℕ) (ts : List ℕ) → T (every_test f x ts) → (i : ℕ) → i < length ts → IsGreatest 9 f (x + i) (get_or ts i 0)
+    (f : Figures) (x : ℕ) (ts : List ℕ) → T (every_test f x ts) → (i : ℕ) → i < length ts →
+    IsGreatest 9 f (x + i) (get_or ts i 0)
 unfolding tried allowed
 entry-tested f x [] h i l = absurd (not-suc-le-zero l)
 entry-tested f x (t ∷ ts) h zero l = rw add-zero (greatest-tested f x t (grind (arith, nat_tests)))
 entry-tested f x (t ∷ ts) h (suc i) l =
-    rw (add-suc, ← (suc-add x i)) (entry-tested f (suc x) ts (grind (arith, nat_tests)) i (le_of_suc-le-suc l))
+    rw (add-suc, ← (suc-add x i))
+    (entry-tested f (suc x) ts (grind (arith, nat_tests)) i (le_of_suc-le-suc l))
 
 module _ (f : Figures) (from : ℕ) (ts : List ℕ) where
   abbrev pub table_test : Bool

@@ -24,9 +24,11 @@ abbrev reaches_test : Figures → ℕ → Bool
 unfolding tried allowed
 reaches_test f x = leb (tried f x (floor f)) (allowed 9 f x)
 
-reaches-tested : (f : Figures) → zero < f.q → (x : ℕ) → T (reaches_test f x) → floor f ≤ root_at 9 f x
+reaches-tested :
+    (f : Figures) → zero < f.q → (x : ℕ) → T (reaches_test f x) → floor f ≤ root_at 9 f x
 unfolding tried allowed
-reaches-tested f root x h = root_at-above f x root 9 (leb→le (tried f x (floor f)) (allowed 9 f x) h)
+reaches-tested f root x h =
+    root_at-above f x root 9 (leb→le (tried f x (floor f)) (allowed 9 f x) h)
 
 -- t is under f_min
 abbrev under_test : Figures → ℕ → Bool
@@ -34,9 +36,11 @@ unfolding tried allowed
 under_test f x = ltb (allowed 9 f x) (tried f x (floor f))
 
 under-tested :
-    (f : Figures) → zero < f.q → (first n : ℕ) → T (all_from (under_test f) first n) → (x : ℕ) → first ≤ x → x < first + n → root_at 9 f x < floor f
+    (f : Figures) → zero < f.q → (first n : ℕ) → T (all_from (under_test f) first n) → (x : ℕ) →
+    first ≤ x → x < first + n → root_at 9 f x < floor f
 unfolding tried allowed
-under-tested f root first n h x p q = root_at-below f x root 9 (ltb→lt _ _ (all_from-each (under_test f) first n h x p q))
+under-tested f root first n h x p q =
+    root_at-below f x root 9 (ltb→lt _ _ (all_from-each (under_test f) first n h x p q))
 
 module _ (f : Figures) (first last : ℕ) where
   abbrev cold : ℕ
@@ -69,8 +73,10 @@ module _ (f : Figures) (first last : ℕ) where
       let ends = and_l ends_test cut_test h in
       let cut = and_r ends_test cut_test h in
       record {
-        begins = reaches-tested f s.q.0 first (and_l (reaches_test f first) (reaches_test f last) ends);
-        ends = reaches-tested f s.q.0 last (and_r (reaches_test f first) (reaches_test f last) ends);
+        begins =
+            reaches-tested f s.q.0 first (and_l (reaches_test f first) (reaches_test f last) ends);
+        ends =
+            reaches-tested f s.q.0 last (and_r (reaches_test f first) (reaches_test f last) ends);
         colder = λ x low high.
             under-tested f s.q.0 cold (first - cold) (and_l cold_test warm_test cut) x low
             (omega arith);
@@ -90,4 +96,5 @@ pub floor-pair :
     {f : Figures} {first last x : ℕ} {r : Bounds} → IsTrimmed f first last →
     x ≤ highest_reading → (first ≤ x → last < x) →
     (r.lower ≡ f.f_min * 10000000) × (r.upper ≡ f.f_min * 10000000) → r ≡ temperature_pair f x
-floor-pair {f} {first} {last} {x} trimmed highest outside h = pair-floor f x (trimmed-under f first last trimmed x highest outside) h
+floor-pair {f} {first} {last} {x} trimmed highest outside h =
+    pair-floor f x (trimmed-under f first last trimmed x highest outside) h

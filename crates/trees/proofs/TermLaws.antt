@@ -32,7 +32,8 @@ straight-den : (from to d s top : ℕ) → 100 ≤ top → 100 * s ≤ top → (
 straight-den from to d s top h k = grind (arith, nat_tests, straight-end, straight-along)
 
 straight-small : (from to d s : ℕ) → s ≤ 10000 → SmallDen (straight from to d s)
-straight-small from to d s h = record { den = straight-den from to d s (10 ^ 6) (omega arith) (omega arith) }
+straight-small from to d s h =
+    record { den = straight-den from to d s (10 ^ 6) (omega arith) (omega arith) }
 
 drier-le : (m : Measure) (wet dry : ℕ) → SoilSound m wet dry → drier m wet dry ≤ 10000
 drier-le Suction wet dry s = omega arith
@@ -51,7 +52,9 @@ dip-small day =
 temperature-small :
     (t_min t_max temperature : ℕ) → SmallDen (by_temperature t_min t_max temperature)
 unfolding by_temperature
-temperature-small t_min t_max temperature = cond_small (inside t_min t_max temperature) (record { den = omega arith }) (record { den = omega arith })
+temperature-small t_min t_max temperature =
+    cond_small (inside t_min t_max temperature) (record { den = omega arith })
+    (record { den = omega arith })
 
 module _ (f : Figures) (sound : Sound f) where
   pub deficit-small : (vpd : Frac) → (deficit_of f vpd).den ≤ 10 ^ 6 * vpd.den
@@ -60,7 +63,8 @@ module _ (f : Figures) (sound : Sound f) where
 
   pub soil_water-small : (reading : ℕ) → SmallDen (soil_water_of f reading)
   unfolding soil_water_of falling
-  soil_water-small reading = straight-small _ f.f_min _ _ (drier-le f.measure f.soil_max f.soil_min sound.soil)
+  soil_water-small reading =
+      straight-small _ f.f_min _ _ (drier-le f.measure f.soil_max f.soil_min sound.soil)
 
   ramps-small : (first last day : ℕ) → SmallDen (by_ramps f first last day)
   unfolding by_ramps
@@ -72,13 +76,22 @@ module _ (f : Figures) (sound : Sound f) where
   unfolding phenology_of by_ramps
   by-kind-small Ramps e first last day temperature = rw e (ramps-small first last day)
   by-kind-small Dip e first last day temperature = rw e (dip-small day)
-  by-kind-small Temperature e first last day temperature = grind (arith, nat_tests, temperature-small)
+  by-kind-small Temperature e first last day temperature =
+      grind (arith, nat_tests, temperature-small)
 
   pub phenology-small :
       (first last day temperature : ℕ) → SmallDen (phenology_of f first last day temperature)
-  phenology-small first last day temperature = by-kind-small f.phenology refl first last day temperature
+  phenology-small first last day temperature =
+      by-kind-small f.phenology refl first last day temperature
 
   -- 100 · 240 · 65535 is under 2·10⁹
-  pub warmth-den : (w : Warmth) (sum : ℕ) → w.rise < 65536 → w.fall < 65536 → (by_warmth f w sum).den ≤ 2 * 10 ^ 9
+  pub warmth-den :
+      (w : Warmth) (sum : ℕ) → w.rise < 65536 → w.fall < 65536 →
+      (by_warmth f w sum).den ≤ 2 * 10 ^ 9
   unfolding by_warmth
-  warmth-den w sum p q = grind (arith, nat_tests, straight-den f.a 100 sum (240 * w.rise) (2 * 10 ^ 9), straight-den f.e 100 (240 * w.end - sum) (240 * w.fall) (2 * 10 ^ 9))
+  warmth-den w sum p q = grind (
+    arith,
+    nat_tests,
+    straight-den f.a 100 sum (240 * w.rise) (2 * 10 ^ 9),
+    straight-den f.e 100 (240 * w.end - sum) (240 * w.fall) (2 * 10 ^ 9),
+  )

@@ -22,7 +22,9 @@ Made a l t = trial-reads.Post ([], tt) (a, (lent l, tt)) t (a, (lent l, tt))
 abbrev Taken : Account → Trial → Fed → Type 0
 Taken a t r = take-reads.Post tt (a, (t, tt)) r (a, (t, tt))
 
-made-taken : (a : Account) (l : List ℕ) (t : Trial) → Made a l t → (r : Fed) → Taken a t r → Feeds a l r × Reads (left_by r) t.reading
+made-taken :
+    (a : Account) (l : List ℕ) (t : Trial) → Made a l t → (r : Fed) → Taken a t r →
+    Feeds a l r × Reads (left_by r) t.reading
 made-taken a l t made r k = trial-promise.taken a l t made r k.0
 
 pub promise_cited : TrialPromise

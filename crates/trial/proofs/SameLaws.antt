@@ -40,7 +40,15 @@ carried-same c = search rules
 
 account-same : (a : Account) → is_same a a ≡ true
 unfolding is_same
-account-same a = rw (phase-same a.phase, season-same a.season, kind-same a.kind, sums-same a.sums, carried-same a.carried) refl
+account-same a =
+    rw (
+      phase-same a.phase,
+      season-same a.season,
+      kind-same a.kind,
+      sums-same a.sums,
+      carried-same a.carried,
+    )
+    refl
 
 account-equal : (a b : Account) → is_same a b ≡ true → a ≡ b
 unfolding is_same

@@ -23,7 +23,8 @@ module _ (a : Account) (t : Trial) where
     takes-other e = grind arith
 
     module _ (same : is_same a t.tried ≡ true) where
-      pub takes-refused : (r : Refusal) (b : Account) → t.answer ≡ Err (r, b) → TakesTrial a t (Err (r, a))
+      pub takes-refused :
+          (r : Refusal) (b : Account) → t.answer ≡ Err (r, b) → TakesTrial a t (Err (r, a))
       unfolding take_of take_with
       takes-refused r b e = grind arith
 

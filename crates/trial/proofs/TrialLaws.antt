@@ -20,11 +20,16 @@ use Rattle.account_spec.proofs.NextLaws.{next-possible}
 
 -- ---- any trial
 
-pub other : (a tried : Account) (answer : Outcome Account) → (a ≡ tried → ⊥) → take_with a tried answer ≡ row 13 (impossible a) (refused (16, 0))
+pub other :
+    (a tried : Account) (answer : Outcome Account) → (a ≡ tried → ⊥) →
+    take_with a tried answer ≡ row 13 (impossible a) (refused (16, 0))
 unfolding take_with
-other a tried answer h = rw (false_from_ne_true (is_same a tried) (λ e. h ((same-is a tried).0 e))) refl
+other a tried answer h =
+    rw (false_from_ne_true (is_same a tried) (λ e. h ((same-is a tried).0 e))) refl
 
-pub carries : (a : Account) (answer : Outcome Account) → impossible a ≡ false → take_with a a answer ≡ answer_in answer
+pub carries :
+    (a : Account) (answer : Outcome Account) → impossible a ≡ false →
+    take_with a a answer ≡ answer_in answer
 unfolding take_with
 carries a answer e = rw (e, (same-is a a).1 refl) refl
 
@@ -38,13 +43,16 @@ accepts : (a b : Account) (t : Trial) → take_of a t ≡ accepted b → Accepts
 unfolding take_of take_with
 accepts a b t e = grind (arith, (same-is a t.tried).0)
 
-twice : (a b : Account) (t : Trial) → take_of a t ≡ accepted b → (b ≡ a → ⊥) → take_of b t ≡ refused (16, 0)
+twice :
+    (a b : Account) (t : Trial) → take_of a t ≡ accepted b → (b ≡ a → ⊥) →
+    take_of b t ≡ refused (16, 0)
 unfolding take_of take_with
 twice a b t e h = let k = accepts a b t e in grind (arith, (same-is b t.tried).0)
 
 -- ---- a trial that was made
 
-pub feed-impossible : (a : Account) (l : List ℕ) → impossible a ≡ true → feed_of a l ≡ refused (13, 0)
+pub feed-impossible :
+    (a : Account) (l : List ℕ) → impossible a ≡ true → feed_of a l ≡ refused (13, 0)
 unfolding feed_of
 feed-impossible a l e = rw e refl
 
@@ -55,7 +63,8 @@ carried-is a l o e = grind (arith, next-possible a)
 -- taken with the tried account, the answer to a line is the answer
 pub take-fed : (a : Account) (l : List ℕ) → take_with a a (feed_of a l) ≡ feed_of a l
 unfolding take_with
-take-fed a l = grind (arith, (same-is a a).1 refl, feed-impossible a l, carried-is a l (feed_of a l) refl)
+take-fed a l =
+    grind (arith, (same-is a a).1 refl, feed-impossible a l, carried-is a l (feed_of a l) refl)
 
 module _ (a : Account) (l : List ℕ) (t : Trial) (made : Tries a l t) where
   pub taken_is : take_of a t ≡ feed_of a l
@@ -65,7 +74,8 @@ module _ (a : Account) (l : List ℕ) (t : Trial) (made : Tries a l t) where
   taken : (r : Fed) → TakesTrial a t r → Feeds a l r × Reads (left_by r) t.reading
   taken r k = (
     subst (λ (o : Outcome Account). Answers a o r) taken_is k,
-    subst (λ (x : Account). Reads x t.reading) (sym (k.leaves ∙ ap (left_of a) taken_is)) made.reading,
+    subst (λ (x : Account). Reads x t.reading)
+        (sym (k.leaves ∙ ap (left_of a) taken_is)) made.reading,
   )
 
   refused-tried : (w : ℕ × ℕ) → feed_of a l ≡ refused w → (left_by t.answer ≡ a) × Reads a t.reading
@@ -73,9 +83,14 @@ module _ (a : Account) (l : List ℕ) (t : Trial) (made : Tries a l t) where
       let same = ap (left_of a) e in
       (made.answer.leaves ∙ same, subst (λ (x : Account). Reads x t.reading) same made.reading)
 
-  impossible-tried : impossible a ≡ true → (fed_as t.answer ≡ refused (13, 0)) × (outcome_of t.reading ≡ refused (13, 0))
+  impossible-tried :
+      impossible a ≡ true →
+      (fed_as t.answer ≡ refused (13, 0)) × (outcome_of t.reading ≡ refused (13, 0))
   unfolding read_of
-  impossible-tried e = (made.answer.answers ∙ feed-impossible a l e, made.reading.answers ∙ rw (feed-impossible a l e, e) refl)
+  impossible-tried e = (
+    made.answer.answers ∙ feed-impossible a l e,
+    made.reading.answers ∙ rw (feed-impossible a l e, e) refl,
+  )
 
 pub trial-promise : TrialPromise
 unfolding take_of

@@ -10,5 +10,6 @@ pub invariant_of-result : goal.invariant_of-result
 invariant_of-result c =
     record {
       possible =
-          ap impossible (c.fresh.ensures.value ∙ fresh-same) ∙ proper-possible empty_book fresh-proper;
+          ap impossible (c.fresh.ensures.value ∙ fresh-same)
+          ∙ proper-possible empty_book fresh-proper;
     }

@@ -15,7 +15,9 @@ returns-in_err-run c =
     let out = err_from_is_err_and c.from_residual.result c.from_residual.ensures.1 in
     let run = sym c.dosing.ensures ∙ ap dosing_as c.in_err-run.was in
     record {
-      result_value = rw (out.1, out.2) (sym (ap (λ o. onward o (λ stand. hour_by stand a.h)) run) ∙ split-is _ _ _ _ _ _ _);
+      result_value =
+          rw (out.1, out.2)
+          (sym (ap (λ o. onward o (λ stand. hour_by stand a.h)) run) ∙ split-is _ _ _ _ _ _ _);
       enclosure = enclosure;
       facts = hour-facts;
       bench_cases = bench-cases;
@@ -26,7 +28,9 @@ returns c =
     let a = c.args in
     let run = sym c.dosing.ensures ∙ ap dosing_as c.in_ok-run.was in
     record {
-      result_value = c.dose_by.ensures ∙ (sym (ap (λ o. onward o (λ stand. hour_by stand a.h)) run) ∙ split-is _ _ _ _ _ _ _);
+      result_value =
+          c.dose_by.ensures
+          ∙ (sym (ap (λ o. onward o (λ stand. hour_by stand a.h)) run) ∙ split-is _ _ _ _ _ _ _);
       enclosure = enclosure;
       facts = hour-facts;
       bench_cases = bench-cases;

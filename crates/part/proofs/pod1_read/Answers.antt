@@ -9,4 +9,8 @@ use Rattle.part.proofs.pod1_read.Goals as goal
 
 pub returns : goal.returns
 unfolding read_in
-returns c = c.of_reading.ensures ∙ ap readout_of (onward-given _ read_of _ _ (λ a k. search rules) _ c.take_up.ensures.result_value c.and_then.ensures)
+returns c =
+    c.of_reading.ensures
+    ∙ ap readout_of
+    (onward-given _ read_of _ _
+    (λ a k. search rules) _ c.take_up.ensures.result_value c.and_then.ensures)

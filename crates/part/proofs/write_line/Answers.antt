@@ -11,9 +11,12 @@ pub returns-in_err-take_up : goal.returns-in_err-take_up
 unfolding printed_line
 returns-in_err-take_up c =
     let e : c.from_residual.result ≡ Err c.in_err-take_up.field-0.0 = search rules in
-    let q : take_up_of c.args.account.now ≡ refused (row_of c.in_err-take_up.field-0.0) = sym c.take_up.ensures.result_value ∙ ap outcome_of c.in_err-take_up.was in
+    let q : take_up_of c.args.account.now ≡ refused (row_of c.in_err-take_up.field-0.0) =
+    sym c.take_up.ensures.result_value ∙ ap outcome_of c.in_err-take_up.was in
     record { answers = ap outcome_of e ∙ rw q; leaves = rw q }
 
 pub returns : goal.returns
 unfolding printed_line
-returns c = rw (sym c.take_up.ensures.result_value ∙ ap outcome_of c.in_ok-take_up.was) c.format.ensures.prints
+returns c =
+    rw (sym c.take_up.ensures.result_value ∙ ap outcome_of c.in_ok-take_up.was)
+    c.format.ensures.prints

@@ -15,7 +15,8 @@ returns c =
     record {
       tried = refl;
       answer =
-          subst (λ (o : Outcome Account). Answers held.account o c.answered.result) fed c.answered.ensures;
+          subst (λ (o : Outcome Account). Answers held.account o c.answered.result)
+          fed c.answered.ensures;
       reading =
           subst (λ (a : Account). Reads a (Ok c.totals.result))
           (left-is held c.args.line.now _ fed _ c.unwrap_or-left.ensures)

@@ -13,17 +13,21 @@ carry-carried-requires-clause-total c =
     let held = c.args.held in (room-is held.account held.possible).total
 
 pub carry-carried-requires-clause-temperature : goal.carry-carried-requires-clause-temperature
-carry-carried-requires-clause-temperature c = hour-temperate c.args.held.account.season c.args.passed.hour c.requires
+carry-carried-requires-clause-temperature c =
+    hour-temperate c.args.held.account.season c.args.passed.hour c.requires
 
 pub dosing-requires : goal.dosing-requires
 dosing-requires c = has-stand c.args.held.account.season c.args.passed.hour c.requires
 
 pub add-sums-requires-clause-room : goal.add-sums-requires-clause-room
 add-sums-requires-clause-room c =
-    let held = c.args.held in
-    (possible-grown held.account held.possible, omega (arith, (room-is held.account held.possible).hours))
+    let held = c.args.held in (
+      possible-grown held.account held.possible,
+      omega (arith, (room-is held.account held.possible).hours),
+    )
 
 pub returns : goal.returns
 returns c =
-    hour-is c.args.held.account c.args.passed.hour c.requires _ _ _ _ _ c.kind_of.ensures c.dosing.ensures
+    hour-is c.args.held.account c.args.passed.hour c.requires _ _ _ _ _
+    c.kind_of.ensures c.dosing.ensures
     c.pair_alone-pair.ensures.is c.add-sums.ensures.is c.carry-carried.ensures

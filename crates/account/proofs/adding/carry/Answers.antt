@@ -13,17 +13,37 @@ use Rattle.account.proofs.WarmthLaws.{sum_fits, sum_is}
 use Rattle.account.proofs.adding.carry.Goals as goal
 
 pub overflow_add-total : goal.overflow_add-total
-overflow_add-total c = sum_fits c.args.c.total c.args.h.temperature (search rules) (search rules) c.requires.total c.requires.temperature
+overflow_add-total c =
+    sum_fits c.args.c.total c.args.h.temperature (search rules)
+    (search rules) c.requires.total c.requires.temperature
 
 pub overflow_add-result : goal.overflow_add-result
-overflow_add-result c = record { fits = omega (arith, c.requires.sum, c.not_negative.ensures.small) }
+overflow_add-result c =
+    record { fits = omega (arith, c.requires.sum, c.not_negative.ensures.small) }
 
 pub returns-then-h-eq23 : goal.returns-then-h-eq23
-returns-then-h-eq23 c = let total-is : to_z w16 (of_z w16 (to_z w16 (of_z w16 c.args.c.total) +ℤ to_z w16 (of_z w16 c.args.h.temperature))) ≡ c.args.c.total +ℤ c.args.h.temperature = sum_is c.args.c.total c.args.h.temperature (search rules) (search rules) c.requires.total c.requires.temperature in
+returns-then-h-eq23 c =
+    let total-is :
+    to_z w16
+    (of_z w16 (to_z w16 (of_z w16 c.args.c.total) +ℤ to_z w16 (of_z w16 c.args.h.temperature)))
+    ≡ c.args.c.total +ℤ c.args.h.temperature =
+    sum_is c.args.c.total c.args.h.temperature (search rules)
+    (search rules) c.requires.total c.requires.temperature in
     let warm : has_warmth c.args.warmth ≡ true = search rules in
-    rw (warm, c.not_negative.ensures.is ∙ ap not_negative (total-is), eq-eqb c.args.h.hour 23 (omega (arith, c.if-h-eq23.true))) refl
+    rw (
+      warm,
+      c.not_negative.ensures.is ∙ ap not_negative (total-is),
+      eq-eqb c.args.h.hour 23 (omega (arith, c.if-h-eq23.true)),
+    )
+    refl
 
 pub returns : goal.returns
-returns c = let total-is : to_z w16 (of_z w16 (to_z w16 (of_z w16 c.args.c.total) +ℤ to_z w16 (of_z w16 c.args.h.temperature))) ≡ c.args.c.total +ℤ c.args.h.temperature = sum_is c.args.c.total c.args.h.temperature (search rules) (search rules) c.requires.total c.requires.temperature in
+returns c =
+    let total-is :
+    to_z w16
+    (of_z w16 (to_z w16 (of_z w16 c.args.c.total) +ℤ to_z w16 (of_z w16 c.args.h.temperature)))
+    ≡ c.args.c.total +ℤ c.args.h.temperature =
+    sum_is c.args.c.total c.args.h.temperature (search rules)
+    (search rules) c.requires.total c.requires.temperature in
     let warm : has_warmth c.args.warmth ≡ true = search rules in
     rw (warm, total-is, ne_eqb c.args.h.hour 23 (λ e. omega (arith, e, c.if-h-eq23.false))) refl

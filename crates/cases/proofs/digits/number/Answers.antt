@@ -14,12 +14,17 @@ unfolding hex_at
 loop-i-init c = (search rules, refl)
 
 pub overflow_mul-said : goal.overflow_mul-said
-overflow_mul-said c = let a = c.args in omega (arith, hex_at-room c.loop-i.i a.at a.line.now (omega arith))
+overflow_mul-said c =
+    let a = c.args in omega (arith, hex_at-room c.loop-i.i a.at a.line.now (omega arith))
 
 pub overflow_add-said : goal.overflow_add-said
 overflow_add-said c = let a = c.args in
     let i = c.loop-i.i in
-    omega (arith, hex_at-room i a.at a.line.now (omega arith), value-lt (get_or a.line.now (a.at + i) 0))
+    omega (
+      arith,
+      hex_at-room i a.at a.line.now (omega arith),
+      value-lt (get_or a.line.now (a.at + i) 0),
+    )
 
 pub loop-i-preserved : goal.loop-i-preserved
 loop-i-preserved c = (search rules, rw hex_at-step (cc))

@@ -9,4 +9,6 @@ returns-then-has_root c = rw c.max-w.ensures at (c.has_root.ensures c.if-has_roo
 
 pub returns : goal.returns
 unfolding root_low
-returns c = rw c.max-w.ensures at (square_root-is _ _ c.isqrt.ensures.square_le c.isqrt.ensures.next_square_gt)
+returns c =
+    rw c.max-w.ensures
+    at (square_root-is _ _ c.isqrt.ensures.square_le c.isqrt.ensures.next_square_gt)

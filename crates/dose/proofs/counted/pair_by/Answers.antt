@@ -8,18 +8,23 @@ use Rattle.dose.proofs.RememberedLaws.{pair-back}
 use Rattle.dose.proofs.counted.pair_by.Goals as goal
 
 pub factor-l-requires : goal.factor-l-requires
-factor-l-requires c = let range : HourIn c.args.passed.hour = checked-passed (Record.Hour c.args.passed.hour) c.args.passed.passes in
+factor-l-requires c =
+    let range : HourIn c.args.passed.hour =
+    checked-passed (Record.Hour c.args.passed.hour) c.args.passed.passes in
     record { steep = c.args.dosing.sound.light_a.1; bright = range.ppfd }
 
 pub deficits-vpd-requires : goal.deficits-vpd-requires
-deficits-vpd-requires c = let range : HourIn c.args.passed.hour = checked-passed (Record.Hour c.args.passed.hour) c.args.passed.passes in
+deficits-vpd-requires c =
+    let range : HourIn c.args.passed.hour =
+    checked-passed (Record.Hour c.args.passed.hour) c.args.passed.passes in
     record { range = (range).air }
 
 pub dosed-requires : goal.dosed-requires
 unfolding light_low light_up
 dosed-requires c = let f = c.args.dosing.stand.figures in
     let t = above_of c.args.passed.hour.temperature in
-    let is : IsWarm f t c.remembered-warm.result = rw (← c.reading.ensures) c.remembered-warm.ensures.is in
+    let is : IsWarm f t c.remembered-warm.result =
+    rw (← c.reading.ensures) c.remembered-warm.ensures.is in
     record {
       temperature = pair-back f t is _ c.f_temp.ensures.lower c.f_temp.ensures.upper;
       light_low = c.factor-l.ensures.lower;

@@ -21,8 +21,12 @@ quotient_low-lower-requires c =
 
 pub quotient_up-upper-requires : goal.quotient_up-upper-requires
 quotient_up-upper-requires c =
-    let root = root-most c.args.dosing _ _ c.root_low-r.ensures in
-    (c.args.dosing.sound.g_max.1, c.requires.concentration.1, c.requires.share.1, omega (arith, root))
+    let root = root-most c.args.dosing _ _ c.root_low-r.ensures in (
+      c.args.dosing.sound.g_max.1,
+      c.requires.concentration.1,
+      c.requires.share.1,
+      omega (arith, root),
+    )
 
 pub overflow_add-upper : goal.overflow_add-upper
 overflow_add-upper c = let a = c.args in

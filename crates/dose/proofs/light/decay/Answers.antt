@@ -9,20 +9,21 @@ use Rattle.dose.proofs.light.decay.Goals as goal
 pub overflow_mul-result : goal.overflow_mul-result
 overflow_mul-result c = omega (
   arith,
-  two-le c.args.n c.decay_entry-a.result c.decay_entry-b.result c.decay_entry-c.result c.decay_entry-a.ensures
-      c.decay_entry-b.ensures c.decay_entry-c.ensures,
+  two-le c.args.n c.decay_entry-a.result c.decay_entry-b.result c.decay_entry-c.result
+      c.decay_entry-a.ensures c.decay_entry-b.ensures c.decay_entry-c.ensures,
 )
 
 pub overflow_mul-result-2 : goal.overflow_mul-result-2
 overflow_mul-result-2 c = omega (
   arith,
-  three-le c.args.n c.decay_entry-a.result c.decay_entry-b.result c.decay_entry-c.result c.decay_entry-a.ensures
-      c.decay_entry-b.ensures c.decay_entry-c.ensures,
+  three-le c.args.n c.decay_entry-a.result c.decay_entry-b.result c.decay_entry-c.result
+      c.decay_entry-a.ensures c.decay_entry-b.ensures c.decay_entry-c.ensures,
 )
 
 pub returns : goal.returns
-returns c = found-is c.args.n c.decay_entry-a.result c.decay_entry-b.result c.decay_entry-c.result c.decay_entry-a.ensures
-    c.decay_entry-b.ensures c.decay_entry-c.ensures
+returns c =
+    found-is c.args.n c.decay_entry-a.result c.decay_entry-b.result c.decay_entry-c.result
+    c.decay_entry-a.ensures c.decay_entry-b.ensures c.decay_entry-c.ensures
 
 pub decay_entry-a-requires-clause-table : goal.decay_entry-a-requires-clause-table
 unfolding common_den common_num

@@ -1,5 +1,6 @@
 -- `dose::ozone::at` meets its contract; no product passes 64 bits, whatever the readings.
-use Rattle.std.proofs.Common.{◌≡◌, ℕ, ◌+◌, ◌*◌, sym, ap, ◌∙◌, mul-le-mul, arith, w16, w64, Fits, rules}
+use Rattle.std.proofs.Common.{◌≡◌, ℕ, ◌+◌, ◌*◌, sym, ap, ◌∙◌, mul-le-mul, arith, w16, w64, Fits}
+use Rattle.std.proofs.Common.{rules}
 use Rattle.exact.specs.Frac.{Frac, ◌over◌}
 use Rattle.exact.specs.Rounding.{round_up, round_down}
 use Rattle.frames.specs.declared.records.Air.{Air}
@@ -15,21 +16,48 @@ product-fits : {o p : ℕ} → Fits w16 o → Fits w16 p → Fits w64 (400000000
 product-fits f g = record { fits = omega (arith, mul-le-mul f.fits g.fits) }
 
 module _ (ozone : ℕ) (h : Hour) (n : ℕ) where
-  deficit-is : h.air ≡ Air.Deficit n → (concentration_low (with_ozone ozone h) ≡ 74808 * ozone) × (concentration_up (with_ozone ozone h) ≡ 74808 * ozone)
+  deficit-is :
+      h.air ≡ Air.Deficit n →
+      (concentration_low (with_ozone ozone h) ≡ 74808 * ozone)
+      × (concentration_up (with_ozone ozone h) ≡ 74808 * ozone)
   deficit-is e = (ozone-facts (with_ozone ozone h)).plain n e
 
-  humidity-is : h.air ≡ Air.Humidity n → (concentration_low (with_ozone ozone h) ≡ 74808 * ozone) × (concentration_up (with_ozone ozone h) ≡ 74808 * ozone)
+  humidity-is :
+      h.air ≡ Air.Humidity n →
+      (concentration_low (with_ozone ozone h) ≡ 74808 * ozone)
+      × (concentration_up (with_ozone ozone h) ≡ 74808 * ozone)
   humidity-is e = (ozone-facts (with_ozone ozone h)).humid n e
 
 pub returns-in-Deficit : goal.returns-in-Deficit
 returns-in-Deficit c = let a = c.args in
     record {
-      lower = grind (arith, c.plain.ensures.lower, c.in-Deficit, deficit-is a.ozone a.h, humidity-is a.ozone a.h);
-      upper = grind (arith, c.plain.ensures.upper, c.in-Deficit, deficit-is a.ozone a.h, humidity-is a.ozone a.h);
+      lower = grind (
+        arith,
+        c.plain.ensures.lower,
+        c.in-Deficit,
+        deficit-is a.ozone a.h,
+        humidity-is a.ozone a.h,
+      );
+      upper = grind (
+        arith,
+        c.plain.ensures.upper,
+        c.in-Deficit,
+        deficit-is a.ozone a.h,
+        humidity-is a.ozone a.h,
+      );
     }
 
 pub returns-in-Pressure : goal.returns-in-Pressure
 returns-in-Pressure c = let h = with_ozone c.args.ozone c.args.h in
-    let tenths : c.above.result ≡ above_of c.args.h.temperature = at_plain c.args.h.temperature (search rules) above_of c.above.ensures in
-    let of : ℕ → Frac = λ t. (4000000000 * c.args.ozone * c.in-Pressure.p) over (92383 * (2 * t + 4463)) in
-    record { lower = c.rounded.ensures.lower ∙ ap (λ t. round_down (of t)) tenths ∙ sym (pressed-down h _ _ c.in-Pressure.is); upper = c.rounded.ensures.upper ∙ ap (λ t. round_up (of t)) tenths ∙ sym (pressed-up h _ _ c.in-Pressure.is) }
+    let tenths : c.above.result ≡ above_of c.args.h.temperature =
+    at_plain c.args.h.temperature (search rules) above_of c.above.ensures in
+    let of : ℕ → Frac =
+    λ t. (4000000000 * c.args.ozone * c.in-Pressure.p) over (92383 * (2 * t + 4463)) in
+    record {
+      lower =
+          c.rounded.ensures.lower ∙ ap (λ t. round_down (of t)) tenths
+          ∙ sym (pressed-down h _ _ c.in-Pressure.is);
+      upper =
+          c.rounded.ensures.upper ∙ ap (λ t. round_up (of t)) tenths
+          ∙ sym (pressed-up h _ _ c.in-Pressure.is);
+    }

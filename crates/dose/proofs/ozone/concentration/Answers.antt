@@ -6,4 +6,7 @@ use Rattle.dose_spec.proofs.ConcentrationLaws.{concentration_low-none}
 use Rattle.dose.proofs.ozone.concentration.Goals as goal
 
 pub returns-in-None-clause-lower : goal.returns-in-None-clause-lower
-returns-in-None-clause-lower c = sym (concentration_low-none c.args.h) ∙ ap (λ n. concentration_low (with_ozone n c.args.h)) (sym (ap (λ o. tenths_or 0 o) c.in-None.is))
+returns-in-None-clause-lower c =
+    sym (concentration_low-none c.args.h)
+    ∙ ap (λ n. concentration_low (with_ozone n c.args.h))
+    (sym (ap (λ o. tenths_or 0 o) c.in-None.is))

@@ -1,6 +1,7 @@
 -- `dose::ozone::rounded` meets its contract.
 use Rattle.std.specs.Prelude.{min}
-use Rattle.std.proofs.Common.{◌≡◌, ℕ, zero, suc, ◌+◌, ◌/◌, ◌%◌, ◌<◌, sym, refl, ◌∙◌, arith, div-add-mod'}
+use Rattle.std.proofs.Common.{◌≡◌, ℕ, zero, suc, ◌+◌, ◌/◌, ◌%◌, ◌<◌, sym, refl, ◌∙◌, arith}
+use Rattle.std.proofs.Common.{div-add-mod'}
 use Rattle.exact.specs.Frac.{◌over◌}
 use Rattle.exact.specs.Rounding.{round_up}
 use Rattle.dose.proofs.NumberLaws.{over-down, over-rest, over-whole}

@@ -24,10 +24,22 @@ invariant_of-memory c =
     elim c.if-not-is_of.branch [
       | then-not-is_of w ↦
           rw w.memory-is
-          (record { sound = tree.sound; few = few; tabled = tabled; own = named-of refl named; kept = none-remembered f 1101 })
+          (record {
+            sound = tree.sound;
+            few = few;
+            tabled = tabled;
+            own = named-of refl named;
+            kept = none-remembered f 1101;
+          })
       | else-not-is_of w ↦
           let was = c.args.memory.now in
           let of = c.is_of.ensures w.if-not-is_of.false in
           rw w.memory-is
-          (record { sound = tree.sound; few = few; tabled = tabled; own = named-of of named; kept = same-kept of named was.own was.kept })
+          (record {
+            sound = tree.sound;
+            few = few;
+            tabled = tabled;
+            own = named-of of named;
+            kept = same-kept of named was.own was.kept;
+          })
     ]

@@ -9,6 +9,7 @@ use Rattle.dose.proofs.scale.reading.Goals as goal
 
 pub invariant_of-result : goal.invariant_of-result
 invariant_of-result c = let h = c.args.passed.hour in
-    let tenths : c.above.result ≡ above_of h.temperature = at_plain h.temperature (search rules) above_of c.above.ensures in
+    let tenths : c.above.result ≡ above_of h.temperature =
+    at_plain h.temperature (search rules) above_of c.above.ensures in
     let range : HourIn h = checked-passed (Record.Hour h) c.args.passed.passes in
     record { in_range = rw tenths (above-highest _ range.temperature) }

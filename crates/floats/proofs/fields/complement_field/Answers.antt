@@ -18,4 +18,7 @@ returns-in_err-z c =
 pub returns : goal.returns
 returns c =
     let number = sym c.in_ok-z.ensures.ok_part ∙ c.whole_number.ensures in
-    ap accepted (complement-held _ _ _ _ (λ t k. search rules) c.try_from.ensures c.map_or.ensures ∙ ap complement_bytes (bits-back _ _ number)) ∙ complement-says c.args.field _ _ number
+    ap accepted
+    (complement-held _ _ _ _ (λ t k. search rules) c.try_from.ensures c.map_or.ensures
+    ∙ ap complement_bytes (bits-back _ _ number))
+    ∙ complement-says c.args.field _ _ number

@@ -5,25 +5,68 @@ use Rattle.floats.proofs.FieldLaws.{frame-by}
 use Rattle.floats.proofs.fields.frame_of.Goals as goal
 
 pub returns-in_err-natural_field : goal.returns-in_err-natural_field
-returns-in_err-natural_field c = let e : c.from_residual.result ≡ Err c.in_err-natural_field.field-0.0 = search rules in rw e (frame-by c.args.day c.args.hour c.args.r c.in_err-natural_field.ensures refl refl refl refl refl refl)
+returns-in_err-natural_field c =
+    let e : c.from_residual.result ≡ Err c.in_err-natural_field.field-0.0 = search rules in
+    rw e
+    (frame-by c.args.day c.args.hour c.args.r c.in_err-natural_field.ensures refl refl
+    refl refl refl refl)
 
 pub returns-in_err-natural_field-2 : goal.returns-in_err-natural_field-2
-returns-in_err-natural_field-2 c = let e : c.from_residual-in_err-natural_field-2.result ≡ Err c.in_err-natural_field-2.field-0.0 = search rules in rw e (frame-by c.args.day c.args.hour c.args.r c.in_ok-natural_field.ensures c.in_err-natural_field-2.ensures refl refl refl refl refl)
+returns-in_err-natural_field-2 c =
+    let e : c.from_residual-in_err-natural_field-2.result ≡ Err c.in_err-natural_field-2.field-0.0 =
+    search rules in
+    rw e
+    (frame-by c.args.day c.args.hour c.args.r c.in_ok-natural_field.ensures
+    c.in_err-natural_field-2.ensures refl refl refl refl refl)
 
 pub returns-in_err-natural_field-3 : goal.returns-in_err-natural_field-3
-returns-in_err-natural_field-3 c = let e : c.from_residual-in_err-natural_field-3.result ≡ Err c.in_err-natural_field-3.field-0.0 = search rules in rw e (frame-by c.args.day c.args.hour c.args.r c.in_ok-natural_field.ensures c.in_ok-natural_field-2.ensures c.in_err-natural_field-3.ensures refl refl refl refl)
+returns-in_err-natural_field-3 c =
+    let e : c.from_residual-in_err-natural_field-3.result ≡ Err c.in_err-natural_field-3.field-0.0 =
+    search rules in
+    rw e
+    (frame-by c.args.day c.args.hour c.args.r c.in_ok-natural_field.ensures
+    c.in_ok-natural_field-2.ensures c.in_err-natural_field-3.ensures refl refl refl refl)
 
 pub returns-in_err-complement_field : goal.returns-in_err-complement_field
-returns-in_err-complement_field c = let e : c.from_residual-in_err-complement_field.result ≡ Err c.in_err-complement_field.field-0.0 = search rules in rw e (frame-by c.args.day c.args.hour c.args.r c.in_ok-natural_field.ensures c.in_ok-natural_field-2.ensures c.in_ok-natural_field-3.ensures c.in_err-complement_field.ensures refl refl refl)
+returns-in_err-complement_field c =
+    let e : c.from_residual-in_err-complement_field.result
+    ≡ Err c.in_err-complement_field.field-0.0 =
+    search rules in
+    rw e
+    (frame-by c.args.day c.args.hour c.args.r c.in_ok-natural_field.ensures
+    c.in_ok-natural_field-2.ensures c.in_ok-natural_field-3.ensures
+    c.in_err-complement_field.ensures refl refl refl)
 
 pub returns-in_err-natural_field-4 : goal.returns-in_err-natural_field-4
-returns-in_err-natural_field-4 c = let e : c.from_residual-in_err-natural_field-4.result ≡ Err c.in_err-natural_field-4.field-0.0 = search rules in rw e (frame-by c.args.day c.args.hour c.args.r c.in_ok-natural_field.ensures c.in_ok-natural_field-2.ensures c.in_ok-natural_field-3.ensures c.in_ok-complement_field.ensures c.in_err-natural_field-4.ensures refl refl)
+returns-in_err-natural_field-4 c =
+    let e : c.from_residual-in_err-natural_field-4.result ≡ Err c.in_err-natural_field-4.field-0.0 =
+    search rules in
+    rw e
+    (frame-by c.args.day c.args.hour c.args.r c.in_ok-natural_field.ensures
+    c.in_ok-natural_field-2.ensures c.in_ok-natural_field-3.ensures c.in_ok-complement_field.ensures
+    c.in_err-natural_field-4.ensures refl refl)
 
 pub returns-in_err-natural_field-5 : goal.returns-in_err-natural_field-5
-returns-in_err-natural_field-5 c = let e : c.from_residual-in_err-natural_field-5.result ≡ Err c.in_err-natural_field-5.field-0.0 = search rules in rw e (frame-by c.args.day c.args.hour c.args.r c.in_ok-natural_field.ensures c.in_ok-natural_field-2.ensures c.in_ok-natural_field-3.ensures c.in_ok-complement_field.ensures c.in_ok-natural_field-4.ensures c.in_err-natural_field-5.ensures refl)
+returns-in_err-natural_field-5 c =
+    let e : c.from_residual-in_err-natural_field-5.result ≡ Err c.in_err-natural_field-5.field-0.0 =
+    search rules in
+    rw e
+    (frame-by c.args.day c.args.hour c.args.r c.in_ok-natural_field.ensures
+    c.in_ok-natural_field-2.ensures c.in_ok-natural_field-3.ensures c.in_ok-complement_field.ensures
+    c.in_ok-natural_field-4.ensures c.in_err-natural_field-5.ensures refl)
 
 pub returns-in_err-natural_field-6 : goal.returns-in_err-natural_field-6
-returns-in_err-natural_field-6 c = let e : c.from_residual-in_err-natural_field-6.result ≡ Err c.in_err-natural_field-6.field-0.0 = search rules in rw e (frame-by c.args.day c.args.hour c.args.r c.in_ok-natural_field.ensures c.in_ok-natural_field-2.ensures c.in_ok-natural_field-3.ensures c.in_ok-complement_field.ensures c.in_ok-natural_field-4.ensures c.in_ok-natural_field-5.ensures c.in_err-natural_field-6.ensures)
+returns-in_err-natural_field-6 c =
+    let e : c.from_residual-in_err-natural_field-6.result ≡ Err c.in_err-natural_field-6.field-0.0 =
+    search rules in
+    rw e
+    (frame-by c.args.day c.args.hour c.args.r c.in_ok-natural_field.ensures
+    c.in_ok-natural_field-2.ensures c.in_ok-natural_field-3.ensures c.in_ok-complement_field.ensures
+    c.in_ok-natural_field-4.ensures c.in_ok-natural_field-5.ensures
+    c.in_err-natural_field-6.ensures)
 
 pub returns : goal.returns
-returns c = frame-by c.args.day c.args.hour c.args.r c.in_ok-natural_field.ensures c.in_ok-natural_field-2.ensures c.in_ok-natural_field-3.ensures c.in_ok-complement_field.ensures c.in_ok-natural_field-4.ensures c.in_ok-natural_field-5.ensures c.in_ok-natural_field-6.ensures
+returns c =
+    frame-by c.args.day c.args.hour c.args.r c.in_ok-natural_field.ensures
+    c.in_ok-natural_field-2.ensures c.in_ok-natural_field-3.ensures c.in_ok-complement_field.ensures
+    c.in_ok-natural_field-4.ensures c.in_ok-natural_field-5.ensures c.in_ok-natural_field-6.ensures

@@ -18,4 +18,7 @@ returns-in_err-z c =
 pub returns : goal.returns
 returns c =
     let number = sym c.in_ok-z.ensures.ok_part ∙ c.whole_number.ensures in
-    ap accepted (c.unwrap_or.ensures ∙ natural-held _ _ c.try_from.ensures ∙ ap natural_bytes (bits-back _ _ number)) ∙ natural-says c.args.field _ _ number
+    ap accepted
+    (c.unwrap_or.ensures ∙ natural-held _ _ c.try_from.ensures
+    ∙ ap natural_bytes (bits-back _ _ number))
+    ∙ natural-says c.args.field _ _ number

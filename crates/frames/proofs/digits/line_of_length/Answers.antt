@@ -15,7 +15,8 @@ loop-i-init c = (search rules, read_none _)
 
 pub loop-i-preserved : goal.loop-i-preserved
 loop-i-preserved c = let l = c.args.s.now in (
-  rw c.is_digit-digits.ensures (sym (all-step c.loop-i.digits l c.loop-i.i (omega arith)) ∙ c.loop-i.invariant.0),
+  rw c.is_digit-digits.ensures
+      (sym (all-step c.loop-i.digits l c.loop-i.i (omega arith)) ∙ c.loop-i.invariant.0),
   rw c.digit_value.ensures.of_any
       (read_more l c.loop-i.i c.loop-i.values (omega arith) c.loop-i.invariant.1),
 )
@@ -25,4 +26,9 @@ unfolding all_digits
 returns c = let l = c.args.s.now in
     let end : c.loop-i.i ≡ length l = omega arith in
     let read = rw end at c.loop-i.invariant.1 in
-    record { digits = sym (and-true c.loop-i.digits) ∙ rw (drop_of_length-le l {i = c.loop-i.i} (omega arith)) at c.loop-i.invariant.0; says = λ d. read-says l c.loop-i.values read d }
+    record {
+      digits =
+          sym (and-true c.loop-i.digits)
+          ∙ rw (drop_of_length-le l {i = c.loop-i.i} (omega arith)) at c.loop-i.invariant.0;
+      says = λ d. read-says l c.loop-i.values read d;
+    }

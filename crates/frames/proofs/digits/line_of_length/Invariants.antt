@@ -8,4 +8,5 @@ use Rattle.frames.proofs.ValueLaws.{ReadValues}
 use Rattle.frames.proofs.digits.line_of_length.Given as goal
 
 abbrev pub invariant-loop-i : goal.invariant-loop-i
-invariant-loop-i l = ((l.digits && all_digits (drop l.i l.s)) ≡ all_digits l.s) × ReadValues l.s l.i l.values
+invariant-loop-i l =
+    ((l.digits && all_digits (drop l.i l.s)) ≡ all_digits l.s) × ReadValues l.s l.i l.values

@@ -12,4 +12,6 @@ pub loop-i-preserved : goal.loop-i-preserved
 loop-i-preserved c = let a = c.args in
     let said = ap₂ (λ (x y : ℕ). x * 16 + y)
     c.digit_value-high.ensures.of_any c.digit_value-low.ensures.of_any in
-    rw c.is_digit-digits.ensures (read_more a.line.now a.from c.loop-i.i c.loop-i.digits c.loop-i.bytes (omega arith) c.loop-i.invariant _ said)
+    rw c.is_digit-digits.ensures
+    (read_more a.line.now a.from c.loop-i.i c.loop-i.digits c.loop-i.bytes
+    (omega arith) c.loop-i.invariant _ said)

@@ -8,8 +8,12 @@ use Rattle.std.specs.List.{list_any, range_with_len}
 use Rattle.frames.specs.Kinds.{length_of, among}
 use Rattle.frames.proofs.kinds.is_length.Goals as goal
 
-by_any : (c : goal.After-any) → c.any.result ≡ list_any (λ k. eqb (length_of k) c.args.digits) (range_with_len 1 8)
-by_any c = any_from_yields_List (λ k. eqb (length_of k) c.args.digits) _ _ _ c.any.ensures.ran (YieldsList-from_range 1 9 8 refl refl) (λ x b q k. search rules)
+by_any :
+    (c : goal.After-any) →
+    c.any.result ≡ list_any (λ k. eqb (length_of k) c.args.digits) (range_with_len 1 8)
+by_any c =
+    any_from_yields_List (λ k. eqb (length_of k) c.args.digits) _ _ _ c.any.ensures.ran
+    (YieldsList-from_range 1 9 8 refl refl) (λ x b q k. search rules)
 
 pub returns : goal.returns
 unfolding length_of among

@@ -8,4 +8,6 @@ use Rattle.frames.proofs.TemperatureLaws.{complement-is}
 use Rattle.frames.proofs.temperature.complement.Goals as goal
 
 pub returns : goal.returns
-returns c = let t = c.args.t in c.cast_unsigned.ensures ∙ ap (of_z w16) (plain t (search rules)) ∙ complement-is t
+returns c =
+    let t = c.args.t in
+    c.cast_unsigned.ensures ∙ ap (of_z w16) (plain t (search rules)) ∙ complement-is t

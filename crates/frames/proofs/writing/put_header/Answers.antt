@@ -12,6 +12,10 @@ pub returns : goal.returns
 unfolding frame_line
 returns c = let room : 20 ≤ length c.args.buf.now = search rules in
     let h = c.args.h in
-    let tree = set-next _ (byte 1 []) (byte h.tree []) _ _ _ c.put_byte.ensures refl (omega (arith, room)) c.put_byte-2.ensures in
+    let tree =
+    set-next _ (byte 1 []) (byte h.tree []) _ _ _ c.put_byte.ensures refl
+    (omega (arith, room)) c.put_byte-2.ensures in
     prints-set _ _ _ _ refl (omega (arith, room))
-    (set-next _ (byte 1 (byte h.tree [])) (number h.days (number h.first (number h.last (number h.level [])))) _ _ _ tree refl (omega (arith, room)) c.put_numbers.ensures)
+    (set-next _ (byte 1 (byte h.tree []))
+    (number h.days (number h.first (number h.last (number h.level [])))) _ _ _ tree refl
+    (omega (arith, room)) c.put_numbers.ensures)

@@ -14,4 +14,6 @@ pub returns : goal.returns
 returns c = let room : 40 ≤ length c.args.buf.now = search rules in
     let h = c.args.h in
     let fields = digits_of (one ∷ widths_of 2) (air_kind h.air ∷ hour_numbers h) in
-    prints-set _ _ _ _ refl (omega (arith, room)) (set-next _ fields (number c.args.pressure []) _ _ _ c.put_hour_fields.ensures refl (omega (arith, room)) c.put_number.ensures)
+    prints-set _ _ _ _ refl (omega (arith, room))
+    (set-next _ fields (number c.args.pressure []) _ _ _ c.put_hour_fields.ensures refl
+    (omega (arith, room)) c.put_number.ensures)

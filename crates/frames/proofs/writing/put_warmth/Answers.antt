@@ -12,6 +12,9 @@ pub returns : goal.returns
 unfolding frame_line
 returns c = let room : 14 ≤ length c.args.buf.now = search rules in
     let w = c.args.w in
-    let two = set-next _ (byte 8 []) (number w.rise (number w.fall [])) _ _ _ c.put_byte.ensures refl (omega (arith, room)) c.put_numbers.ensures in
+    let two =
+    set-next _ (byte 8 []) (number w.rise (number w.fall [])) _ _ _ c.put_byte.ensures refl
+    (omega (arith, room)) c.put_numbers.ensures in
     prints-set _ _ _ _ refl (omega (arith, room))
-    (set-next _ (byte 8 (number w.rise (number w.fall []))) (number w.end []) _ _ _ two refl (omega (arith, room)) c.put_number.ensures)
+    (set-next _ (byte 8 (number w.rise (number w.fall []))) (number w.end []) _ _ _ two refl
+    (omega (arith, room)) c.put_number.ensures)

@@ -10,7 +10,8 @@ loop-i-init c = (refl, refl)
 pub loop-i-preserved : goal.loop-i-preserved
 loop-i-preserved c = let l = c.loop-i in
     let ns = c.args.ns.now in
-    numbers-next _ ns l.buf _ l.i l.invariant.0 (omega arith) c.requires l.invariant.1 c.put_number.ensures
+    numbers-next _ ns l.buf _ l.i l.invariant.0
+    (omega arith) c.requires l.invariant.1 c.put_number.ensures
 
 pub returns : goal.returns
 returns c = rw (take_all c.loop-i.i c.args.ns.now c.loop-i-test.false) at c.loop-i.invariant.0

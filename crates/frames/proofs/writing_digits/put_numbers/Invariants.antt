@@ -5,4 +5,6 @@ use Rattle.frames.specs.steps.Writer.{numbers}
 use Rattle.frames.proofs.writing_digits.put_numbers.Given as goal
 
 abbrev pub invariant-loop-i : goal.invariant-loop-i
-invariant-loop-i l = (l.buf ≡ sets l.initial.buf 0 (numbers (take l.i l.ns) [])) × (length l.buf ≡ length l.initial.buf)
+invariant-loop-i l =
+    (l.buf ≡ sets l.initial.buf 0 (numbers (take l.i l.ns) []))
+    × (length l.buf ≡ length l.initial.buf)

@@ -12,4 +12,6 @@ returns-in_err-t c =
     ap outcome_of e ∙ taken_none _ _ _ c.take_up.ensures.holds _ c.in_err-t.was
 
 pub returns : goal.returns
-returns c = c.next_by.ensures ∙ taken-trial _ _ _ c.take_up.ensures.holds _ c.in_ok-t.was _ c.take.ensures.takes_trial
+returns c =
+    c.next_by.ensures
+    ∙ taken-trial _ _ _ c.take_up.ensures.holds _ c.in_ok-t.was _ c.take.ensures.takes_trial

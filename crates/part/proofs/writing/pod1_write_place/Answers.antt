@@ -17,4 +17,7 @@ returns-in-Ok c = let q = sym c.header_at.ensures.result_value ∙ ap outcome_of
 pub returns-in-Err : goal.returns-in-Err
 unfolding placed_text
 returns-in-Err c = let q = sym c.header_at.ensures.result_value ∙ ap outcome_of c.in-Err.is in
-    record { prints_bytes = prints-refused _ _ _ _ _ _ c.printed_of.ensures c.in-Err.refusal q refl refl; promise = c.header_at.ensures.promise }
+    record {
+      prints_bytes = prints-refused _ _ _ _ _ _ c.printed_of.ensures c.in-Err.refusal q refl refl;
+      promise = c.header_at.ensures.promise;
+    }

@@ -10,9 +10,11 @@ returns-then-t-first g c = let t = c.entries-table.ensures in
 
 pub returns-then-table-t : goal.returns-then-table-t
 returns-then-table-t g c = let t = c.entries-table.ensures in
-    floor-pair t.trimmed c.args.x.in_range (λ within. omega (arith, within, t.filled, c.FIRST-first.ensures))
+    floor-pair t.trimmed c.args.x.in_range
+    (λ within. omega (arith, within, t.filled, c.FIRST-first.ensures))
     (rw c.figures-f_min.ensures at c.floor_of-then-table-t.ensures)
 
 pub returns : goal.returns
 returns g c =
-    c.entries-table.ensures.pairs (rw (c.figures-f_min.ensures, c.FIRST-first.ensures) at c.table_entry.ensures)
+    c.entries-table.ensures.pairs
+    (rw (c.figures-f_min.ensures, c.FIRST-first.ensures) at c.table_entry.ensures)

@@ -9,7 +9,8 @@ overflow_mul-room c = let a = c.args in
 
 pub returns : goal.returns
 returns c = let a = c.args in
-    near-decides a.l a.r a.t a.q (omega arith) (omega arith) (omega (arith, ltb-false)) (omega (arith, ltb-false))
+    near-decides a.l a.r a.t a.q (omega arith) (omega arith) (omega (arith, ltb-false))
+    (omega (arith, ltb-false))
 
 pub returns-then-l-r : goal.returns-then-l-r
 returns-then-l-r c = undecided _ _ _ _

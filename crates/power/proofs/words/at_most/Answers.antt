@@ -11,7 +11,8 @@ loop-i-init c = (refl, omega arith, omega arith)
 pub loop-i-preserved : goal.loop-i-preserved
 loop-i-preserved c = let args = c.args in
     let s = c.settle-le.ensures in (
-      order-next c.loop-i.i args.a.now args.b.now c.loop-i.le c.settle-le.result c.loop-i.invariant.1 c.loop-i.invariant.2 c.loop-i.invariant.0 s,
+      order-next c.loop-i.i args.a.now args.b.now c.loop-i.le c.settle-le.result
+          c.loop-i.invariant.1 c.loop-i.invariant.2 c.loop-i.invariant.0 s,
       worth-lt c.loop-i.i args.a.now c.loop-i.invariant.1 s.left,
       worth-lt c.loop-i.i args.b.now c.loop-i.invariant.2 s.right,
     )

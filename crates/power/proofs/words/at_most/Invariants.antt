@@ -4,4 +4,6 @@ use Rattle.power.specs.steps.Power.{worth}
 use Rattle.power.proofs.words.at_most.Given as goal
 
 abbrev pub invariant-loop-i : goal.invariant-loop-i
-invariant-loop-i l = (l.le ≡ leb (worth l.i l.a) (worth l.i l.b)) × (worth l.i l.a < 4294967296 ^ l.i) × (worth l.i l.b < 4294967296 ^ l.i)
+invariant-loop-i l =
+    (l.le ≡ leb (worth l.i l.a) (worth l.i l.b)) × (worth l.i l.a < 4294967296 ^ l.i)
+    × (worth l.i l.b < 4294967296 ^ l.i)

@@ -6,7 +6,9 @@ use Rattle.stand.specs.declared.alike.Common.{Common}
 use Rattle.stand.specs.steps.ListSteps.{common_as, first_as}
 use Rattle.stand.proofs.tally.first_of.Goals as goal
 
-first-is : (o : Option Common) (own : Common) → common_as (unwrap_or o own) ≡ cond (is_none o) (common_as own) (first_as o)
+first-is :
+    (o : Option Common) (own : Common) →
+    common_as (unwrap_or o own) ≡ cond (is_none o) (common_as own) (first_as o)
 first-is (Some c) own = refl
 first-is None own = refl
 

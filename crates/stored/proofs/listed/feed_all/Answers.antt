@@ -21,8 +21,13 @@ returns-in_err-take_up_all c =
 
 pub returns-in_err-feed_all : goal.returns-in_err-feed_all
 returns-in_err-feed_all c =
-    let e : c.from_residual-in_err-feed_all.result ≡ Err c.in_err-feed_all.field-0.0 = search rules in
-    promised (rw e (listed-refused _ _ c.if-count.false _ _ c.in_ok-take_up_all.ensures _ c.feed_all.ensures.0 _ c.in_err-feed_all.was))
+    let e : c.from_residual-in_err-feed_all.result ≡ Err c.in_err-feed_all.field-0.0 =
+    search rules in
+    promised (rw e
+    (listed-refused _ _ c.if-count.false _ _ c.in_ok-take_up_all.ensures _ c.feed_all.ensures.0 _
+    c.in_err-feed_all.was))
 
 pub returns : goal.returns
-returns c = promised (listed-accepted _ _ c.if-count.false _ _ c.in_ok-take_up_all.ensures _ c.feed_all.ensures.0 _ c.in_ok-feed_all.was c.store_all.ensures)
+returns c =
+    promised (listed-accepted _ _ c.if-count.false _ _ c.in_ok-take_up_all.ensures _
+    c.feed_all.ensures.0 _ c.in_ok-feed_all.was c.store_all.ensures)

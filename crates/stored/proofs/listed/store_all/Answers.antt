@@ -7,4 +7,6 @@ pub loop-i-init : goal.loop-i-init
 loop-i-init c = stores-none _
 
 pub loop-i-preserved : goal.loop-i-preserved
-loop-i-preserved c = stores-step c.args.accounts.now c.loop-i.i _ c.args.bytes.now c.loop-i.bytes _ _ (omega arith) (omega arith) c.loop-i.invariant c.store.ensures.prints c.store.ensures.back
+loop-i-preserved c =
+    stores-step c.args.accounts.now c.loop-i.i _ c.args.bytes.now c.loop-i.bytes _ _ (omega arith)
+    (omega arith) c.loop-i.invariant c.store.ensures.prints c.store.ensures.back

@@ -12,5 +12,8 @@ use Rattle.stored.proofs.listed.take_up_all.Given as goal
 abbrev pub invariant-loop-i : goal.invariant-loop-i
 invariant-loop-i l = record {
   long : length l.accounts ≡ count_in l.bytes;
-  taken : list_in l.bytes ≡ joined_to (take l.i l.accounts) (accounts_in (count_in l.bytes - l.i) (drop (total_width widths * l.i) l.bytes));
+  taken :
+      list_in l.bytes
+      ≡ joined_to (take l.i l.accounts)
+      (accounts_in (count_in l.bytes - l.i) (drop (total_width widths * l.i) l.bytes));
 }

@@ -9,5 +9,6 @@ use Rattle.stored.proofs.trials.named_in.Goals as goal
 pub returns : goal.returns
 unfolding big_endian_at
 returns c =
-    let code : c.from_be_bytes.result ≡ big_endian_at code_width 0 c.args.code.now = rw c.from_be_bytes.ensures (omega arith) in
+    let code : c.from_be_bytes.result ≡ big_endian_at code_width 0 c.args.code.now =
+    rw c.from_be_bytes.ensures (omega arith) in
     c.answer_of.ensures.result_value ∙ ap coded_of code

@@ -12,4 +12,6 @@ pub returns-clause-is : goal.returns-clause-is
 unfolding big_endian
 returns-clause-is c =
     let b = c.args.buffer.now in
-    rw (c.copy_from_slice.ensures.after, c.to_be_bytes.ensures) (sym (sets-eq (big_endian code_width c.of_fed.result []) b 0 (omega arith)) ∙ ap (λ (n : ℕ). sets b 0 (big_endian code_width n [])) c.of_fed.ensures)
+    rw (c.copy_from_slice.ensures.after, c.to_be_bytes.ensures)
+    (sym (sets-eq (big_endian code_width c.of_fed.result []) b 0 (omega arith))
+    ∙ ap (λ (n : ℕ). sets b 0 (big_endian code_width n [])) c.of_fed.ensures)

@@ -16,7 +16,11 @@ pub returns-clause-prints : goal.returns-clause-prints
 returns-clause-prints c =
     let t = contents_of c.args.trial in
     let b = c.args.buffer.now in
-    prints-whole (trial_bytes t) b _ trial_width (trial-length t) (omega arith) (laid t b _ _ _ (omega arith) c.put_code.ensures.is _ c.store.ensures.prints _ c.left_by-next.ensures _ c.store-2.ensures.prints)
+    prints-whole (trial_bytes t) b _ trial_width (trial-length t) (omega arith)
+    (laid t b _ _ _ (omega arith) c.put_code.ensures.is _ c.store.ensures.prints _
+    c.left_by-next.ensures _ c.store-2.ensures.prints)
 
 pub returns-clause-back : goal.returns-clause-back
-returns-clause-back c = λ e. trial-taken-up c.args.trial c.put_code.ensures.small c.store.ensures.back (subst TakenUp c.left_by-next.ensures c.store-2.ensures.back)
+returns-clause-back c = λ e.
+    trial-taken-up c.args.trial c.put_code.ensures.small c.store.ensures.back
+    (subst TakenUp c.left_by-next.ensures c.store-2.ensures.back)

@@ -23,6 +23,8 @@ unfolding measured_figures
 returns c = let a = c.args in
     let zeros : c.default.result ≡ no_ratio = search rules in
     let is = ap₂ unwrap_or c.requires zeros in
-    let p : c.unwrap_or-ratio.result.p ≡ p_in (powers_in a.p) = ap (λ (r : Ratio). r.p) (c.unwrap_or-ratio.ensures ∙ is) ∙ p-is (powers_in a.p) in
-    let q : c.unwrap_or-ratio.result.q ≡ q_in (powers_in a.p) = ap (λ (r : Ratio). r.q) (c.unwrap_or-ratio.ensures ∙ is) ∙ q-is (powers_in a.p) in
+    let p : c.unwrap_or-ratio.result.p ≡ p_in (powers_in a.p) =
+    ap (λ (r : Ratio). r.p) (c.unwrap_or-ratio.ensures ∙ is) ∙ p-is (powers_in a.p) in
+    let q : c.unwrap_or-ratio.result.q ≡ q_in (powers_in a.p) =
+    ap (λ (r : Ratio). r.q) (c.unwrap_or-ratio.ensures ∙ is) ∙ q-is (powers_in a.p) in
     simp (p, q, c.degrees-3.ensures, c.degrees-2.ensures, c.degrees.ensures)

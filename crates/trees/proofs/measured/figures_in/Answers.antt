@@ -9,9 +9,15 @@ use Rattle.trees.proofs.measured.figures_in.Goals as goal
 
 pub returns-then-tree-eq-MEASURED : goal.returns-then-tree-eq-MEASURED
 unfolding figures_in
-returns-then-tree-eq-MEASURED c = record { value = rw c.if-tree-eq-MEASURED.true (ap Some c.measured_figures.ensures.value); row = rw c.if-tree-eq-MEASURED.true }
+returns-then-tree-eq-MEASURED c = record {
+  value = rw c.if-tree-eq-MEASURED.true (ap Some c.measured_figures.ensures.value);
+  row = rw c.if-tree-eq-MEASURED.true;
+}
 
 pub returns : goal.returns
 unfolding figures_in
 returns c = let other = c.if-tree-eq-MEASURED.false in
-    record { value = rw (ne_eqb _ 7 other) c.figures_of.ensures.value; row = c.figures_of.ensures.row ∙ number-row-is _ other }
+    record {
+      value = rw (ne_eqb _ 7 other) c.figures_of.ensures.value;
+      row = c.figures_of.ensures.row ∙ number-row-is _ other;
+    }

@@ -15,10 +15,15 @@ nan-only (inf s) h = absurd (true≢false (sym h))
 nan-only (fin s m e) h = absurd (true≢false (sym h))
 
 pattern-nan : (b : ℕ) → 2139095040 < b % 2147483648 → nan ≡ of_bits binary32 b
-pattern-nan b h = nan-only (of_bits binary32 b) (sym (nan_bits_is binary32 b) ∙ nan_bits_above binary32 b ∙ lt-ltb 2139095040 (b % 2147483648) h)
+pattern-nan b h =
+    nan-only (of_bits binary32 b)
+    (sym (nan_bits_is binary32 b) ∙ nan_bits_above binary32 b
+    ∙ lt-ltb 2139095040 (b % 2147483648) h)
 
 pattern-no-nan : (b : ℕ) → b % 2147483648 ≤ 2139095040 → T (not (nan_bits binary32 b))
-pattern-no-nan b h = subst (λ t. T (not t)) (sym (nan_bits_above binary32 b ∙ le-ltb 2139095040 (b % 2147483648) h)) tt
+pattern-no-nan b h =
+    subst (λ t. T (not t))
+    (sym (nan_bits_above binary32 b ∙ le-ltb 2139095040 (b % 2147483648) h)) tt
 
 pub returns-then-bits-gt2139095040 : goal.returns-then-bits-gt2139095040
 unfolding of_bits div
