@@ -24,9 +24,9 @@ Papers may be named by number in the section "Requests" of docs/SPECIFICATION.md
 that is cited by its title in quotes, behind the page's name, must be there; words in bold that
 begin a paragraph do too. A number behind a page's name is no title.
 
-Lines are at most 100 columns in pages, src/, specs/, tests/, tools/, command/, include/, examples/
-and the scripts at the top. What programs read and print (stdin, stdout, data, .txt, .csv) and
-must-fail edits, whose form is one line, are as they are.
+Lines are at most 100 columns in pages, src/, specs/, proofs/, tests/, tools/, command/, include/,
+examples/ and the scripts at the top. What programs read and print (stdin, stdout, data, .txt, .csv)
+and must-fail edits, whose form is one line, are as they are.
 
 A block of commands is a code block of README.md, or of FORESTERS.md or MAKERS.md of docs/, whose
 lines up to an empty one begin with `./`, gcc, rustc, printf, sed or `name=`. With words in capitals

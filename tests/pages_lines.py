@@ -7,13 +7,11 @@ from pages_names import names
 from pages_read import PATHS, Fault, files, line_of, page, pages, text_of, titles
 
 WIDTH = 100
-NARROW_PROOFS = False  # whether crates/*/proofs are held to the width too
 
 SCRIPTS = r"[^./]+|(?:command|tests|tools)/.*\.(?:py|sh|c|h|rs)|(?:include|examples)/.*\.(?:c|h|rs)"
 MADE_UP = "tests/pages_tried.py"  # what it names is of a small repository of its own
-PROOFS = r"crates/\w+/proofs/.*\.antt"
-SOURCES = rf"{SCRIPTS}|crates/\w+/(?:src/.*\.rt|specs/.*\.antt)"
-ALL = rf"{SOURCES}|{PROOFS}|crates/\w+/must-fail/.*\.edit|crates\.txt"
+SOURCES = rf"{SCRIPTS}|crates/\w+/(?:src/.*\.rt|(?:specs|proofs)/.*\.antt)"
+ALL = rf"{SOURCES}|crates/\w+/must-fail/.*\.edit|crates\.txt"
 
 # between two words of a comment a line may end and the next begin with the comment's mark
 GAP = r"(?:\s|^\s*(?://[/!]?|--|#|\*)\s)+"
@@ -36,8 +34,7 @@ def sources(root, pattern):
 
 def wide(root):
     """Lines that are too wide. An attribute stands on one line, as `rt fmt` lays it out."""
-    pattern = rf"{SOURCES}|{PROOFS}" if NARROW_PROOFS else SOURCES
-    for name in pages(root) + sources(root, pattern):
+    for name in pages(root) + sources(root, SOURCES):
         for number, line in enumerate(text_of(root, name).split("\n"), 1):
             if len(line) > WIDTH and not line.lstrip().startswith("#["):
                 what = f"{len(line)} columns: break the line at {WIDTH}, or shorten it"

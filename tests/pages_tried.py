@@ -37,6 +37,7 @@ Names of their time.
     "docs/PROMISES.md": "`Kept`, `a-law` (Specs), `fed`\n",
     "crates/a/src/lib.rt": "pub fn fed() {}\nfn hidden() {}\n",
     "crates/a/specs/Specs.antt": "pub record Kept : Type 0 where\n  pub field : ℕ\n\na-law : ℕ\n",
+    "crates/a/proofs/Laws.antt": "b-law : ℕ\n",
     "crates/a/must-fail/edit.edit": "file: src/lib.rt\n",
     "say": "#!/bin/sh\nseq 3\n",
 }
@@ -67,6 +68,7 @@ TRIED = (
     ("crates/a/src/lib.rt", "// as docs/B.md, 40\n", "docs/B.md has no numbers"),
     ("crates/a/src/lib.rt", "// as docs/GONE_BY.md has it\n", "there is no file"),
     ("crates/a/specs/Specs.antt", "-- " + 26 * "wide" + "\n", "107 columns"),
+    ("crates/a/proofs/Laws.antt", "-- " + 26 * "wide" + "\n", "107 columns"),
 )
 # what is put below the lines that ./say prints, and how many blocks then print otherwise
 SHOWN = (
