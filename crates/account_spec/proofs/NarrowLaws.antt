@@ -4,6 +4,7 @@ use Prim.Native.Nat.{ℕ, ◌≤◌}
 use mathlib.Core.Path.{◌≡◌, refl, sym, subst}
 use mathlib.Core.List.{List}
 use native.Mathlib.Omega.{arith}
+use Rattle.std.specs.Prelude.{codes}
 use Rattle.std.proofs.lemmas.Bool.Decides.{nat_tests}
 use Rattle.frames.specs.declared.records.Hour.{Hour}
 use Rattle.frames.specs.Answers.{Outcome, accepted}
@@ -16,7 +17,7 @@ use Rattle.account_spec.specs.declared.Carried.{Carried}
 use Rattle.account_spec.specs.Hours.{no_sums, plus, stand_in, stand_at, carried_after, pair_of}
 use Rattle.account_spec.specs.Hours.{hour_sums, sums_of}
 use Rattle.account_spec.specs.Enclosed.{HasDose, AllDosed}
-use Rattle.account_spec.specs.Reading.{exceeded_word, below_word, word_of, verdict_of}
+use Rattle.account_spec.specs.Reading.{word_of, verdict_of}
 use Rattle.account_spec.proofs.SumsLaws.{carried-ozone}
 use Rattle.account_spec.proofs.HourLaws.{season-stand}
 use Rattle.account_spec.proofs.BesideLaws.{FilledHour, FilledHours}
@@ -89,13 +90,13 @@ module _ {low high ceiling : ℕ} (within : high ≤ ceiling) where
 
 module _ (phase : Phase) (season : Season) (s t : Sums) where
   pub exceeded-kept :
-      s.lower ≤ t.lower → word_of (verdict_of phase season s) ≡ exceeded_word →
-      word_of (verdict_of phase season t) ≡ exceeded_word
+      s.lower ≤ t.lower → word_of (verdict_of phase season s) ≡ codes "exceeded" →
+      word_of (verdict_of phase season t) ≡ codes "exceeded"
   unfolding verdict_of
   exceeded-kept grows says = grind (arith, nat_tests)
 
   pub below-kept :
-      t.lower ≤ t.upper → t.upper ≤ s.upper → word_of (verdict_of phase season s) ≡ below_word →
-      word_of (verdict_of phase season t) ≡ below_word
+      t.lower ≤ t.upper → t.upper ≤ s.upper → word_of (verdict_of phase season s) ≡ codes "below" →
+      word_of (verdict_of phase season t) ≡ codes "below"
   unfolding verdict_of
   below-kept order falls says = grind (arith, nat_tests)

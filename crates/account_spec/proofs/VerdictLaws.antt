@@ -5,6 +5,7 @@ use mathlib.Core.Path.{◌≡◌}
 use mathlib.Core.Bool.{false}
 use native.Mathlib.Omega.{arith}
 use native.Mathlib.Nat.{mul-le-mul_right}
+use Rattle.std.specs.Prelude.{codes}
 use Rattle.std.proofs.lemmas.Bool.Decides.{nat_tests}
 use Rattle.exact.specs.Frac.{Frac}
 use Rattle.dose_spec.specs.Dose.{NotAbove}
@@ -12,7 +13,7 @@ use Rattle.account_spec.specs.declared.Phase.{Phase}
 use Rattle.account_spec.specs.declared.Season.{Season}
 use Rattle.account_spec.specs.declared.Sums.{Sums}
 use Rattle.account_spec.specs.Account.{is_fresh}
-use Rattle.account_spec.specs.Reading.{exceeded_word, below_word, word_of, verdict_word, verdict_of}
+use Rattle.account_spec.specs.Reading.{word_of, verdict_word, verdict_of}
 use Rattle.account_spec.specs.Book.{Above}
 
 -- ---- the rule
@@ -31,16 +32,16 @@ module _ (phase : Phase) (season : Season) (sums : Sums) where
   word-is = grind arith
 
   pub exceeded-is :
-      verdict_word phase season sums ≡ exceeded_word → IsExceeded phase season sums.lower
+      verdict_word phase season sums ≡ codes "exceeded" → IsExceeded phase season sums.lower
   unfolding verdict_word
   exceeded-is e = grind (arith, nat_tests)
 
   pub is-exceeded :
-      IsExceeded phase season sums.lower → verdict_word phase season sums ≡ exceeded_word
+      IsExceeded phase season sums.lower → verdict_word phase season sums ≡ codes "exceeded"
   unfolding verdict_word
   is-exceeded x = grind (arith, nat_tests)
 
-  pub below-is : verdict_word phase season sums ≡ below_word → sums.upper ≤ level
+  pub below-is : verdict_word phase season sums ≡ codes "below" → sums.upper ≤ level
   unfolding verdict_word
   below-is e = grind (arith, nat_tests)
 

@@ -1,11 +1,11 @@
 -- What filling brings ("Hours without ozone"): the lines are accepted too, the figures of both ends
 -- are those of lines, and no verdict is turned.
-use Rattle.std.specs.Prelude.{ℕ, ◌≤◌, ◌≡◌, List, [], ◌∷◌, Ok, Err}
+use Rattle.std.specs.Prelude.{ℕ, ◌≤◌, ◌≡◌, List, [], ◌∷◌, Ok, Err, codes}
 use Rattle.account_spec.specs.Rules.{Fed}
 use Rattle.frames.specs.Answers.{accepted}
 use Rattle.account_spec.specs.declared.Account.{Account}
 use Rattle.account_spec.specs.Account.{fresh_account}
-use Rattle.account_spec.specs.Reading.{exceeded_word, below_word, word_of, totals_of, read_of}
+use Rattle.account_spec.specs.Reading.{word_of, totals_of, read_of}
 use Rattle.account_spec.specs.Runs.{Event, fed, taken, Run, account_after, TakesAll}
 use Rattle.account_spec.specs.Lines.{lines_read_as, FillsLines}
 
@@ -40,9 +40,10 @@ pub record Narrower (a b : Account) : Type 0 where
   pub least : a.sums.least ≤ b.sums.least
   pub most : b.sums.most ≤ a.sums.most
   pub exceeded :
-      word_of (totals_of a).verdict ≡ exceeded_word → word_of (totals_of b).verdict ≡ exceeded_word
+      word_of (totals_of a).verdict ≡ codes "exceeded" →
+      word_of (totals_of b).verdict ≡ codes "exceeded"
   pub below :
-      word_of (totals_of a).verdict ≡ below_word → word_of (totals_of b).verdict ≡ below_word
+      word_of (totals_of a).verdict ≡ codes "below" → word_of (totals_of b).verdict ≡ codes "below"
 
 pub record FillingPromise : Type 0 where
   -- the lines that a run accepted, fed alone, leave the same account

@@ -1,8 +1,7 @@
 -- The season's promise ("The book"): one claim about every list of lines fed and readings taken
 -- from a fresh account on.
 use Rattle.std.specs.Prelude.{ℕ, zero, suc, ◌+◌, ◌-◌, ◌*◌, ◌≤◌, ◌≡◌, List, [], ◌∷◌, ◌++◌, ◌==◌}
-use Rattle.std.specs.Prelude.{if◌then◌else◌}
-use Rattle.std.specs.Prelude.{length, Result, Ok, Err}
+use Rattle.std.specs.Prelude.{if◌then◌else◌, length, Result, Ok, Err, codes}
 use Rattle.frames.specs.declared.records.Refusal.{Refusal}
 use Rattle.trees.specs.Sound.{Sound}
 use Rattle.frames.specs.declared.records.Hour.{Hour}
@@ -22,7 +21,7 @@ use Rattle.account_spec.specs.Enclosed.{AllChecked, AllMost, AllDosed, AllRead, 
 use Rattle.account_spec.specs.Enclosed.{HoursEnclosed}
 use Rattle.account_spec.specs.Account.{fresh_account}
 use Rattle.account_spec.specs.Rules.{left_by, Fed}
-use Rattle.account_spec.specs.Reading.{exceeded_word, below_word, word_of, verdict_word}
+use Rattle.account_spec.specs.Reading.{word_of, verdict_word}
 use Rattle.account_spec.specs.Book.{Book, empty_book, book_answer, book_next, counted_of}
 use Rattle.account_spec.specs.Book.{missing_of, excess_over, book_carried, pod_in, book_pod, Above}
 use Rattle.account_spec.specs.Runs.{Event, fed, taken, Run, Call, line, reading, RunOf, reply_in}
@@ -54,9 +53,9 @@ pub record FillingKept (b : Book) (t : Totals) (fs : List Hour) : Type 0 where
   pub least : t.sums.least ≤ excess_over (counted_of fs)
   pub most : excess_over (counted_of fs) ≤ t.sums.most
   pub exceeded :
-      word_of t.verdict ≡ exceeded_word → Above (b.season.header.level * 10000) (pod_in b fs)
+      word_of t.verdict ≡ codes "exceeded" → Above (b.season.header.level * 10000) (pod_in b fs)
   pub below :
-      word_of t.verdict ≡ below_word → NotBelow (b.season.header.level * 10000) (pod_in b fs)
+      word_of t.verdict ≡ codes "below" → NotBelow (b.season.header.level * 10000) (pod_in b fs)
 
 -- of a book without a missing ozone: its AOT40; two numbers that enclose its exact POD1, at most 4
 -- (tree 7: 40) apart for each counted hour; a verdict that is true of it
@@ -67,8 +66,9 @@ pub record ReadKept (b : Book) (t : Totals) : Type 0 where
   pub high : NotBelow t.sums.upper (book_pod b)
   pub gap : t.sums.upper ≤ t.sums.lower + gap_each b.season * t.sums.counted
   pub exceeded :
-      word_of t.verdict ≡ exceeded_word → Above (b.season.header.level * 10000) (book_pod b)
-  pub below : word_of t.verdict ≡ below_word → NotBelow (b.season.header.level * 10000) (book_pod b)
+      word_of t.verdict ≡ codes "exceeded" → Above (b.season.header.level * 10000) (book_pod b)
+  pub below :
+      word_of t.verdict ≡ codes "below" → NotBelow (b.season.header.level * 10000) (book_pod b)
 
 -- the book's hours, counted hours and those of them without ozone; its AOT40 with a missing ozone
 -- read as 0 and as the ceiling; dose numbers at most 4 (tree 7: 40) apart for each counted hour
@@ -96,7 +96,7 @@ ReadingKept b (Ok t) = TotalsKept b t
 ReadingKept b (Err r) = ⊥
 
 abbrev pub SaysExceeded : Result Totals Refusal → Type 0
-SaysExceeded (Ok t) = word_of t.verdict ≡ exceeded_word
+SaysExceeded (Ok t) = word_of t.verdict ≡ codes "exceeded"
 SaysExceeded (Err r) = ⊥
 
 -- every reading says "exceeded"

@@ -14,24 +14,12 @@ use Rattle.account_spec.specs.Account.{is_fresh, impossible}
 
 -- ---- the verdict
 
-abbrev pub none_word : List ℕ
-none_word = codes "none"
-
-abbrev pub exceeded_word : List ℕ
-exceeded_word = codes "exceeded"
-
-abbrev pub below_word : List ℕ
-below_word = codes "below"
-
-abbrev pub undecided_word : List ℕ
-undecided_word = codes "undecided"
-
 -- the word of each case of a verdict
 abbrev pub word_of : Verdict → List ℕ
-word_of None = none_word
-word_of Exceeded = exceeded_word
-word_of Below = below_word
-word_of Undecided = undecided_word
+word_of None = codes "none"
+word_of Exceeded = codes "exceeded"
+word_of Below = codes "below"
+word_of Undecided = codes "undecided"
 
 -- the rule, for words and for cases alike: fresh is "none"; lower above level × 10000 "exceeded";
 -- upper at most that "below"; else "undecided"
@@ -43,7 +31,7 @@ by_rule none exceeded below undecided phase season sums =
     else (if nat_le sums.upper level then below else undecided))
 
 unfoldable pub verdict_word : Phase → Season → Sums → List ℕ
-verdict_word = by_rule none_word exceeded_word below_word undecided_word
+verdict_word = by_rule (codes "none") (codes "exceeded") (codes "below") (codes "undecided")
 
 unfoldable pub verdict_of : Phase → Season → Sums → Verdict
 verdict_of = by_rule None Exceeded Below Undecided

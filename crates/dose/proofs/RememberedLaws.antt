@@ -41,29 +41,15 @@ module _ (f : Figures) (t : ℕ) where
       warm.root ≡ (if nat_lt pair.lower pair.upper then pair.lower else 0) →
       warm.saturation ≡ entry_of t → IsWarm f t warm
   warm-made s pair warm is root e =
+      let gap = temperature_pair-gap f s t in
+      let order = temperature_pair-order f s t in
       record {
         lower =
             rw (root, is)
-            (grind (
-              arith,
-              nat_tests,
-              s.f_min,
-              floor-le,
-              level,
-              temperature_pair-gap f s t,
-              temperature_pair-order f s t,
-            ));
+            (grind (arith, nat_tests, s.f_min, floor-le, level, gap, order));
         upper =
             rw (root, is)
-            (grind (
-              arith,
-              nat_tests,
-              s.f_min,
-              floor-le,
-              level,
-              temperature_pair-gap f s t,
-              temperature_pair-order f s t,
-            ));
+            (grind (arith, nat_tests, s.f_min, floor-le, level, gap, order));
         saturation = e;
       }
 

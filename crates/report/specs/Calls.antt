@@ -8,39 +8,25 @@ use Rattle.text_spec.specs.Text.{decimal, space}
 abbrev pub phrase : List ℕ → ℕ → List ℕ → List ℕ
 phrase word n rest = word ++ decimal n rest
 
-abbrev pub word_refused : List ℕ
-word_refused = codes "refused "
-
-abbrev pub word_line : List ℕ
-word_line = codes " line "
-
-abbrev pub word_header : List ℕ
-word_header = codes " header "
-
-abbrev pub word_text : List ℕ
-word_text = codes "text "
-
-abbrev pub word_none_yet : List ℕ
-word_none_yet = codes "none yet"
-
 -- "A B"
 abbrev pub pair_line : ℕ → ℕ → List ℕ
 pair_line a b = decimal a (space ∷ decimal b (line_feed ∷ []))
 
 -- "none yet"
 abbrev pub none_yet_line : List ℕ
-none_yet_line = word_none_yet ++ line_feed ∷ []
+none_yet_line = codes "none yet" ++ line_feed ∷ []
 
 -- "refused N"
 abbrev pub refused_line : ℕ → List ℕ
-refused_line row = phrase word_refused row (line_feed ∷ [])
+refused_line row = phrase (codes "refused ") row (line_feed ∷ [])
 
 -- "refused N header H"
 abbrev pub header_refused_line : ℕ → ℕ → List ℕ
 header_refused_line row header =
-    phrase word_refused row (phrase word_header header (line_feed ∷ []))
+    phrase (codes "refused ") row (phrase (codes " header ") header (line_feed ∷ []))
 
 -- "text T refused N line L"
 abbrev pub text_refused_line : ℕ → ℕ → ℕ → List ℕ
 text_refused_line text row line =
-    phrase word_text text (space ∷ phrase word_refused row (phrase word_line line (line_feed ∷ [])))
+    phrase (codes "text ") text
+    (space ∷ phrase (codes "refused ") row (phrase (codes " line ") line (line_feed ∷ [])))

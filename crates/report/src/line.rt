@@ -1,13 +1,13 @@
 //! The lines of the report: a season's figures, a month's, or the first refusal. A row is the
 //! number that is printed.
-ghost use Rattle.std.specs.Prelude.{◌≡◌, ◌+◌, ◌≤◌, [], ◌∷◌, ◌++◌, length};
+ghost use Rattle.std.specs.Prelude.{◌≡◌, ◌+◌, ◌≤◌, [], ◌∷◌, ◌++◌, length, codes};
 ghost use Rattle.text_spec.specs.Lines.{line_feed};
 ghost use Rattle.text_spec.specs.Text.{decimal, space, text_in};
 ghost use Rattle.text_spec.specs.Line.{totals_line};
 ghost use Rattle.text_spec.specs.Months.{month_line};
 ghost use Rattle.text_spec.specs.Season.{refusal_line};
 ghost use Rattle.text_spec.specs.steps.Report.{figures_before};
-ghost use Rattle.report.specs.Calls.{phrase, word_refused};
+ghost use Rattle.report.specs.Calls.{phrase};
 
 use crate::text::{LINE_END, byte_before, number_before};
 use account_spec::{Sums, Totals};
@@ -81,7 +81,7 @@ pub(crate) fn of_month(month: u16, sums: Sums) -> Text
 pub(crate) fn refused_at(row: u8, word: &[u8], place: u64) -> Text
     requires room { length word.now ≤ 8 }
     ensures text { text_in result
-        ≡ phrase word_refused row (phrase word.now place (line_feed ∷ [])) }
+        ≡ phrase (codes "refused ") row (phrase word.now place (line_feed ∷ [])) }
     ensures room { 26 ≤ result.at }
 {
     phrase_before(
