@@ -198,24 +198,18 @@ module _ (m : ℕ) {x y : Frac} (h : x ≼ y) where
 -- ---- the product of two numbers of scales s and t, in the scale r
 
 module _ (a b s t r e : ℕ) (scales : max 1 s * max 1 t ≡ max 1 e * max 1 r) where
+  abbrev n : Frac
+  n = (a * b) over e
+
+  scaled : (q : ℕ) → q * (max 1 s * max 1 t) ≡ q * (max 1 e * max 1 r)
+  scaled q = ap (λ (c : ℕ). q * c) scales
+
   pub product-down : round_down ((a * b) over e) over r ≼ a over s ⊗ b over t
-  product-down =
-      let q = round_down ((a * b) over e) in
-      record {
-        cross = omega (
-          arith,
-          ap (λ (c : ℕ). q * c) scales,
-          mul-le-mul_right (max 1 r) (round_down-le ((a * b) over e)),
-        );
-      }
+  product-down = record {
+    cross = omega (arith, scaled (round_down n), mul-le-mul_right (max 1 r) (round_down-le n));
+  }
 
   pub product-up : a over s ⊗ b over t ≼ round_up ((a * b) over e) over r
-  product-up =
-      let q = round_up ((a * b) over e) in
-      record {
-        cross = omega (
-          arith,
-          ap (λ (c : ℕ). q * c) scales,
-          mul-le-mul_right (max 1 r) (round_up-ge ((a * b) over e)),
-        );
-      }
+  product-up = record {
+    cross = omega (arith, scaled (round_up n), mul-le-mul_right (max 1 r) (round_up-ge n));
+  }
