@@ -2,7 +2,7 @@
 -- written back, and the writer answers no other rows.
 use Rattle.trees.specs.declared.Figures.{Figures}
 use Rattle.std.specs.Prelude.{Option, Some, None}
-use Prim.Native.Nat.{ℕ, ◌≤◌}
+use Prim.Native.Nat.{ℕ, ◌≤◌, ◌<◌}
 use mathlib.Core.Path.{◌≡◌, refl, sym, ap, subst, ◌∙◌}
 use mathlib.Core.List.{List, ◌++◌}
 use borrow.Author.Tests.{le-ltb}
@@ -23,6 +23,7 @@ use Rattle.frames.specs.Ranges.{on_tree, checked}
 use Rattle.frames.specs.steps.Frames.{IsHour, with_deficit, with_pressure, with_humidity}
 use Rattle.frames.specs.Frames.{parsed_of, sound_of, record_of, read_frame_of}
 use Rattle.frames.specs.Buffer.{put_of, buffer_after}
+use Rattle.frames.specs.Temperature.{signed_of, complement_of}
 use Rattle.frames.specs.Writer.{text_of, write_of}
 use Rattle.frames.specs.RoundTrip.{InWidth, measure_in, HasMeasure, OfMeasure, RoundTrip}
 use Rattle.frames.specs.declared.records.Air.{Air}
@@ -135,31 +136,24 @@ module _ (l : List ℕ) where
   abbrev hour_in : ℕ → RawHour
   hour_in kind = raw_hour_of (air_of kind (fields_at kind l)) (fields_at kind l)
 
+  temperature-number :
+      (kind : ℕ) → (hour_in kind).temperature < 65536 →
+      complement_of (signed_of (hour_in kind).temperature) ≡ (hour_in kind).temperature
+  temperature-number kind = complement-signed (hour_in kind).temperature
+
   hour-numbers :
       (kind : ℕ) → IsHour kind → (m : Measure) →
       hour_numbers (hour_of (hour_in kind) m) ≡ fields_at kind l
   unfolding hour_of
   hour-numbers kind (with_deficit e) m =
       rw e
-      (simp (
-        ozone-number (hour_in 2).ozone,
-        complement-signed (hour_in 2).temperature (number_lt _ l),
-        soil-number m,
-      ))
+      (simp (ozone-number (hour_in 2).ozone, temperature-number 2 (number_lt _ l), soil-number m))
   hour-numbers kind (with_pressure e) m =
       rw e
-      (simp (
-        ozone-number (hour_in 4).ozone,
-        complement-signed (hour_in 4).temperature (number_lt _ l),
-        soil-number m,
-      ))
+      (simp (ozone-number (hour_in 4).ozone, temperature-number 4 (number_lt _ l), soil-number m))
   hour-numbers kind (with_humidity e) m =
       rw e
-      (simp (
-        ozone-number (hour_in 5).ozone,
-        complement-signed (hour_in 5).temperature (number_lt _ l),
-        soil-number m,
-      ))
+      (simp (ozone-number (hour_in 5).ozone, temperature-number 5 (number_lt _ l), soil-number m))
 
 -- a record that passes, with the kind and the numbers of the line
 record ReadFrom (l : List ℕ) (r : Record) : Type 0 where

@@ -1,5 +1,6 @@
 -- The writer answers rows 5 to 8, 10, 12, 17, 24 and 25 and no other.
 use Prim.Native.Nat.{ℕ}
+use borrow.Author.Rules.{rules}
 use mathlib.Core.Path.{refl}
 use mathlib.Core.List.{List}
 use Rattle.frames.specs.Answers.{accepted}
@@ -16,15 +17,7 @@ use Rattle.frames.specs.RoundTrip.{writer_rows}
 
 write-ranged : Ranged writer_rows
 unfolding among
-write-ranged = record {
-  tree = refl;
-  year = refl;
-  period = refl;
-  level = refl;
-  ceiling = refl;
-  parameter = refl;
-  warmth = refl;
-}
+write-ranged = search rules
 
 text-only : (r : Record) → Only writer_rows (text_of r)
 unfolding text_of
