@@ -49,19 +49,15 @@ unfolding whole divisor
 divisor-down g p s = omega arith
 
 -- n/d is F at those, or bounds it; w is a common factor of the terms x and y of that F
-cross-le :
-    (w a b n d x y : ℕ) → 0 < w → x ≡ w * (1000 * a) → y ≡ w * (9 * b) → x * d ≤ n * y →
-    1000 * a * d ≤ 9 * n * b
-cross-le w a b n d x y p e f h =
-    le_of_mul-le-mul_left {k = w}
-    (omega (arith, ap (λ (z : ℕ). z * d) e, ap (λ (z : ℕ). n * z) f)) p
-
-cross-ge :
-    (w a b n d x y : ℕ) → 0 < w → x ≡ w * (1000 * a) → y ≡ w * (9 * b) → n * y ≤ x * d →
-    9 * n * b ≤ 1000 * a * d
-cross-ge w a b n d x y p e f h =
-    le_of_mul-le-mul_left {k = w}
-    (omega (arith, ap (λ (z : ℕ). z * d) e, ap (λ (z : ℕ). n * z) f)) p
+cross :
+    (w a b n d x y : ℕ) → 0 < w → x ≡ w * (1000 * a) → y ≡ w * (9 * b) →
+    (x * d ≤ n * y → 1000 * a * d ≤ 9 * n * b) × (n * y ≤ x * d → 9 * n * b ≤ 1000 * a * d)
+cross w a b n d x y p e f =
+    let top : x * d ≡ w * (1000 * a) * d = ap (λ (z : ℕ). z * d) e in
+    let bottom : n * y ≡ n * (w * (9 * b)) = ap (λ (z : ℕ). n * z) f in (
+      λ h. le_of_mul-le-mul_left {k = w} (omega (arith, top, bottom, h)) p,
+      λ h. le_of_mul-le-mul_left {k = w} (omega (arith, top, bottom, h)) p,
+    )
 
 -- ---- rounding: q is a divided by m
 
@@ -103,8 +99,8 @@ module _ (g c p s : ℕ) (z x r : Frac) where
     quotient-below : quotient g c p s 1 * d ≤ 3600 * n
     quotient-below =
         let f : 1000 * dividend g c p * d ≤ 9 * n * whole g p s =
-        cross-le 41000000000000000000 (dividend g c p) (whole g p s) n d _ _ (lit< tt)
-        (at-num g c p s) (at-den g c p s) (flux-mono g thin narrow wide).cross in
+        (cross 41000000000000000000 (dividend g c p) (whole g p s) n d _ _ (lit< tt)
+        (at-num g c p s) (at-den g c p s)).0 (flux-mono g thin narrow wide).cross in
         below (quotient g c p s 1) (dividend g c p) (divisor g p s 1) (whole g p s) n d
         (whole_pos g p s) (quotient_le g c p s 1) (divisor-up g p s) f
 
@@ -130,8 +126,8 @@ module _ (g c p s : ℕ) (z x r : Frac) where
   quotient-over thick wide narrow y m t h =
       let q = quotient g c p s 0 in
       let f : 9 * n * whole g p s ≤ 1000 * dividend g c p * d =
-      cross-ge 41000000000000000000 (dividend g c p) (whole g p s) n d _ _ (lit< tt)
-      (at-num g c p s) (at-den g c p s) (flux-mono g thick wide narrow).cross in
+      (cross 41000000000000000000 (dividend g c p) (whole g p s) n d _ _ (lit< tt)
+      (at-num g c p s) (at-den g c p s)).1 (flux-mono g thick wide narrow).cross in
       let l : 3600 * n ≤ (q + 1) * d =
       above q (dividend g c p) (divisor g p s 0) (whole g p s) n d (whole_pos g p s)
       (quotient-lt g c p s 0) (divisor-down g p s) f in
