@@ -53,17 +53,21 @@ plus-encloses e f =
       grows = λ j l h. ⊕-mono (e.grows j l h) (f.grows j l h);
     }
 
+-- the hours with ozone of two sums
+pub plus-read :
+    (s t : Sums) → s.missing ≤ s.counted → t.missing ≤ t.counted →
+    s.counted + t.counted - (s.missing + t.missing)
+    ≡ s.counted - s.missing + (t.counted - t.missing)
+plus-read s t h k = omega arith
+
 plus-sized :
     {apart each : ℕ} {s t : Sums} → SumsSized apart each s → SumsSized apart each t →
     SumsSized apart each (plus s t)
 plus-sized {apart} {each} {s} {t} e f =
-    let read : s.counted + t.counted - (s.missing + t.missing)
-    ≡ s.counted - s.missing + (t.counted - t.missing) =
-    omega arith in
     record {
       missing = omega arith;
       order = omega arith;
-      gap = rw read (omega arith);
+      gap = rw (plus-read s t e.missing f.missing) (omega arith);
       most = omega arith;
     }
 

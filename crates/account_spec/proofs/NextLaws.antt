@@ -28,7 +28,7 @@ use Rattle.account_spec.specs.Account.{awaits, carried_out, impossible}
 use Rattle.account_spec.specs.Rules.{with_ceiling, with_warmth, turn_of, entered, state_of, feed_of}
 use Rattle.account_spec.proofs.SumsLaws.{plus_none}
 use Rattle.account_spec.proofs.HourLaws.{dosable-has}
-use Rattle.account_spec.proofs.EnclosedLaws.{hours-in}
+use Rattle.account_spec.proofs.EnclosedLaws.{hours-in, plus-read}
 use Rattle.account_spec.proofs.CarriedLaws.{ColdIn, cold-in}
 use Rattle.account_spec.proofs.PossibleLaws.{SumsIn, PossibleFacts, possible-is, possible-false}
 use Rattle.account_spec.proofs.KindLaws.{some-kind}
@@ -44,16 +44,13 @@ none_in = grind arith
 plus-in :
     {season : Season} {s t : Sums} → SumsIn season s → SumsIn season t → SumsIn season (plus s t)
 plus-in {season} {s} {t} p q =
-    let read : s.counted + t.counted - (s.missing + t.missing)
-    ≡ s.counted - s.missing + (t.counted - t.missing) =
-    omega arith in
     record {
       counted = omega arith;
       missing = omega arith;
       bounded = λ none. omega (arith, p.bounded none, q.bounded none);
       order = omega arith;
       most = omega arith;
-      gap = rw read (omega (arith, p.gap, q.gap));
+      gap = rw (plus-read s t p.missing q.missing) (omega (arith, p.gap, q.gap));
       aot40-order = omega arith;
       aot40-most = omega arith;
       aot40-width = omega arith;

@@ -32,12 +32,12 @@ use Rattle.account_spec.proofs.ReadingLaws.{read_of-is}
 
 -- ---- there is a reply to each line
 
-record Replied (b : Book) (l : List ℕ) : Type 0 where
-  reply-to : Fed
-  feeds-it : Feeds (account_of b) l reply-to
+pub record Replied (a : Account) (l : List ℕ) : Type 0 where
+  pub reply-to : Fed
+  pub feeds-it : Feeds a l reply-to
 
 module _ (b : Book) (p : Proper b) (l : List ℕ) where
-  by_answer : (o : Outcome Record) → book_answer b l ≡ o → Replied b l
+  by_answer : (o : Outcome Record) → book_answer b l ≡ o → Replied (account_of b) l
   by_answer (accepted r) e = record {
     reply-to = Ok (entered (account_of b) r);
     feeds-it =
@@ -53,15 +53,15 @@ module _ (b : Book) (p : Proper b) (l : List ℕ) where
         };
       }
 
-  replied : Replied b l
-  replied = by_answer (book_answer b l) refl
+  pub book-replied : Replied (account_of b) l
+  book-replied = by_answer (book_answer b l) refl
 
 -- ---- and so a run for each list of calls
 
 run-from : (b : Book) → Proper b → (calls : List Call) → RunOf (account_of b) calls
 run-from b p [] = record { events = []; run = stop; same = refl }
 run-from b p (line l ∷ calls) =
-    let r = replied b p l in
+    let r = book-replied b p l in
     let rest = run-from (book_next b (book_answer b l)) (next-is-proper b p l) calls in
     record {
       events = fed l r.reply-to ∷ rest.events;
