@@ -9,7 +9,13 @@ use Rattle.frames.specs.Layout.{soil_number}
 use Rattle.dose.proofs.NumberLaws.{lower-factor, upper-factor, soil_water-factor, opening_low-is}
 use Rattle.dose.proofs.NumberLaws.{opening_up-is}
 use Rattle.exact.specs.Frac.{Is}
+use Rattle.dose.proofs.hour.opening.Goals.{After-f_vpd-dry}
 use Rattle.dose.proofs.hour.opening.Goals as goal
+
+deficits : (c : After-f_vpd-dry) → let a = c.args in
+    IsDeficitPair a.dosing.stand.figures
+    (air_deficits a.h.air (above_of a.h.temperature)) c.f_vpd-dry.result
+deficits c = rw c.requires.deficits at c.f_vpd-dry.ensures.deficit_pair
 
 pub invariant_of-sw : goal.invariant_of-sw
 invariant_of-sw c = record {
@@ -28,17 +34,9 @@ invariant_of-opening_low c = let f = c.args.dosing.stand.figures in
     }
 
 pub invariant_of-opening_low-2 : goal.invariant_of-opening_low-2
-invariant_of-opening_low-2 c =
-    let pair :
-    let a = c.args in
-    IsDeficitPair a.dosing.stand.figures
-    (air_deficits a.h.air (above_of a.h.temperature)) c.f_vpd-dry.result =
-    rw c.requires.deficits at c.f_vpd-dry.ensures.deficit_pair in
-    record {
-      factor =
-          lower-factor c.args.dosing.stand.figures c.args.dosing.sound c.args.h.air
-          (above_of c.args.h.temperature) pair.lower;
-    }
+invariant_of-opening_low-2 c = let h = c.args.h in
+    let pair = deficits (goal.at.invariant_of-opening_low-2 c).After-f_vpd-dry in
+    record { factor = lower-factor _ c.args.dosing.sound h.air (above_of h.temperature) pair.lower }
 
 pub invariant_of-opening_up : goal.invariant_of-opening_up
 invariant_of-opening_up c = let f = c.args.dosing.stand.figures in
@@ -54,25 +52,13 @@ invariant_of-opening_up c = let f = c.args.dosing.stand.figures in
     }
 
 pub invariant_of-opening_up-2 : goal.invariant_of-opening_up-2
-invariant_of-opening_up-2 c =
-    let pair :
-    let a = c.args in
-    IsDeficitPair a.dosing.stand.figures
-    (air_deficits a.h.air (above_of a.h.temperature)) c.f_vpd-dry.result =
-    rw c.requires.deficits at c.f_vpd-dry.ensures.deficit_pair in
-    record {
-      factor =
-          upper-factor c.args.dosing.stand.figures c.args.dosing.sound c.args.h.air
-          (above_of c.args.h.temperature) pair.upper;
-    }
+invariant_of-opening_up-2 c = let h = c.args.h in
+    let pair = deficits (goal.at.invariant_of-opening_up-2 c).After-f_vpd-dry in
+    record { factor = upper-factor _ c.args.dosing.sound h.air (above_of h.temperature) pair.upper }
 
 pub returns : goal.returns
 returns c =
-    let pair :
-    let a = c.args in
-    IsDeficitPair a.dosing.stand.figures
-    (air_deficits a.h.air (above_of a.h.temperature)) c.f_vpd-dry.result =
-    rw c.requires.deficits at c.f_vpd-dry.ensures.deficit_pair in
+    let pair = deficits (goal.at.returns c).After-f_vpd-dry in
     let f = c.args.dosing.stand.figures in
     let h = c.args.h in
     let sw : Is c.f_sw.result (soil_water_of f (soil_number h.soil)) =

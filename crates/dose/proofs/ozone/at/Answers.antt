@@ -3,48 +3,20 @@ use Rattle.std.proofs.Common.{◌≡◌, ℕ, ◌+◌, ◌*◌, sym, ap, ◌∙�
 use Rattle.std.proofs.Common.{rules}
 use Rattle.exact.specs.Frac.{Frac, ◌over◌}
 use Rattle.exact.specs.Rounding.{round_up, round_down}
-use Rattle.frames.specs.declared.records.Air.{Air}
-use Rattle.frames.specs.declared.records.Hour.{Hour}
 use Rattle.frames.specs.Ozone.{with_ozone}
 use Rattle.frames.proofs.SignedLaws.{at_plain}
 use Rattle.dose_spec.specs.Conductance.{above_of}
-use Rattle.dose_spec.specs.Pair.{concentration_low, concentration_up}
 use Rattle.dose_spec.proofs.ConcentrationLaws.{ozone-facts, pressed-down, pressed-up}
 use Rattle.dose.proofs.ozone.at.Goals as goal
 
 product-fits : {o p : ℕ} → Fits w16 o → Fits w16 p → Fits w64 (4000000000 * o * p)
 product-fits f g = record { fits = omega (arith, mul-le-mul f.fits g.fits) }
 
-module _ (ozone : ℕ) (h : Hour) (n : ℕ) where
-  deficit-is :
-      h.air ≡ Air.Deficit n →
-      (concentration_low (with_ozone ozone h) ≡ 74808 * ozone)
-      × (concentration_up (with_ozone ozone h) ≡ 74808 * ozone)
-  deficit-is e = (ozone-facts (with_ozone ozone h)).plain n e
-
-  humidity-is :
-      h.air ≡ Air.Humidity n →
-      (concentration_low (with_ozone ozone h) ≡ 74808 * ozone)
-      × (concentration_up (with_ozone ozone h) ≡ 74808 * ozone)
-  humidity-is e = (ozone-facts (with_ozone ozone h)).humid n e
-
 pub returns-in-Deficit : goal.returns-in-Deficit
-returns-in-Deficit c = let a = c.args in
+returns-in-Deficit c = let facts = ozone-facts (with_ozone c.args.ozone c.args.h) in
     record {
-      lower = grind (
-        arith,
-        c.plain.ensures.lower,
-        c.in-Deficit,
-        deficit-is a.ozone a.h,
-        humidity-is a.ozone a.h,
-      );
-      upper = grind (
-        arith,
-        c.plain.ensures.upper,
-        c.in-Deficit,
-        deficit-is a.ozone a.h,
-        humidity-is a.ozone a.h,
-      );
+      lower = grind (arith, c.plain.ensures.lower, c.in-Deficit, facts.plain, facts.humid);
+      upper = grind (arith, c.plain.ensures.upper, c.in-Deficit, facts.plain, facts.humid);
     }
 
 pub returns-in-Pressure : goal.returns-in-Pressure
