@@ -10,6 +10,7 @@ use mir.Val.{to_z, of_z}
 use Rattle.trees.specs.Warmth.{has_warmth}
 use Rattle.account_spec.specs.Hours.{not_negative}
 use Rattle.account.proofs.WarmthLaws.{sum_fits, sum_is}
+use Rattle.account.proofs.adding.carry.Goals.{Start}
 use Rattle.account.proofs.adding.carry.Goals as goal
 
 pub overflow_add-total : goal.overflow_add-total
@@ -21,29 +22,30 @@ pub overflow_add-result : goal.overflow_add-result
 overflow_add-result c =
     record { fits = omega (arith, c.requires.sum, c.not_negative.ensures.small) }
 
-pub returns-then-h-eq23 : goal.returns-then-h-eq23
-returns-then-h-eq23 c =
-    let total-is :
+total-is : (c : Start) →
     to_z w16
     (of_z w16 (to_z w16 (of_z w16 c.args.c.total) +ℤ to_z w16 (of_z w16 c.args.h.temperature)))
-    ≡ c.args.c.total +ℤ c.args.h.temperature =
+    ≡ c.args.c.total +ℤ c.args.h.temperature
+total-is c =
     sum_is c.args.c.total c.args.h.temperature (search rules)
-    (search rules) c.requires.total c.requires.temperature in
+    (search rules) c.requires.total c.requires.temperature
+
+pub returns-then-h-eq23 : goal.returns-then-h-eq23
+returns-then-h-eq23 c =
     let warm : has_warmth c.args.warmth ≡ true = search rules in
     rw (
       warm,
-      c.not_negative.ensures.is ∙ ap not_negative (total-is),
+      c.not_negative.ensures.is ∙ ap not_negative (total-is (goal.at.returns-then-h-eq23 c).Start),
       eq-eqb c.args.h.hour 23 (omega (arith, c.if-h-eq23.true)),
     )
     refl
 
 pub returns : goal.returns
 returns c =
-    let total-is :
-    to_z w16
-    (of_z w16 (to_z w16 (of_z w16 c.args.c.total) +ℤ to_z w16 (of_z w16 c.args.h.temperature)))
-    ≡ c.args.c.total +ℤ c.args.h.temperature =
-    sum_is c.args.c.total c.args.h.temperature (search rules)
-    (search rules) c.requires.total c.requires.temperature in
     let warm : has_warmth c.args.warmth ≡ true = search rules in
-    rw (warm, total-is, ne_eqb c.args.h.hour 23 (λ e. omega (arith, e, c.if-h-eq23.false))) refl
+    rw (
+      warm,
+      total-is (goal.at.returns c).Start,
+      ne_eqb c.args.h.hour 23 (λ e. omega (arith, e, c.if-h-eq23.false)),
+    )
+    refl
