@@ -3,6 +3,8 @@
 use Rattle.std.proofs.lemmas.Bool.Decides.{nat_tests}
 use mathlib.Core.Path.{◌≡◌, refl, ap, ◌∙◌}
 use Prim.Native.Nat.{ℕ}
+use lib.IntN.{ℤ}
+use lib.Ieee.{Float}
 use mathlib.Core.Bool.{Bool, true, false}
 use Rattle.frames.specs.declared.records.Air.{Air}
 use Rattle.frames.specs.declared.records.Hour.{Hour}
@@ -27,60 +29,50 @@ use Rattle.account_spec.specs.Rules.{feed_frame_of}
 use Rattle.account_spec.specs.Timely.{timely_in, timely_of}
 use Rattle.floats.specs.declared.FloatReadings.{FloatReadings}
 use Rattle.floats.specs.Numbers.{Wholes, wholes_in, raw_of}
-use Rattle.floats.specs.Feeding.{wholes_of, hour_at, feed_floats_of}
+use Rattle.floats.specs.Whole.{whole_of, IsWhole}
+use Rattle.floats.specs.Feeding.{in_field, wholes_of, hour_at, feed_floats_of}
 use Rattle.floats.specs.Promise.{AreWhole, floats_in, FirstBroken, here, later}
 use Rattle.floats.proofs.WholeLaws.{whole-taken, whole-broken}
 use Rattle.floats.proofs.RangeLaws.{natural-is, bytes-complement}
 
 -- ---- row 26
 
+taken :
+    {A : Type 0} (f : ℕ) (x : Float) (z : ℤ) (next : ℤ → Outcome A) {o : Outcome A} →
+    IsWhole x z → next z ≡ o → in_field f (whole_of x) next ≡ o
+taken f x z next h e = rw (whole-taken x z h) e
+
+lost :
+    {A : Type 0} (f : ℕ) (x : Float) (next : ℤ → Outcome A) →
+    ((z : ℤ) → IsWhole x z → ⊥) → in_field f (whole_of x) next ≡ refused (26, f)
+lost f x next b = rw (whole-broken x b) refl
+
 wholes-broken :
     (r : FloatReadings) (f : ℕ) → FirstBroken f (floats_in r) → wholes_of r ≡ refused (26, f)
 unfolding wholes_of
-wholes-broken r f (here b) = rw (whole-broken r.ozone b) refl
-wholes-broken r f (later z1 h1 (here b)) =
-    rw (whole-taken r.ozone z1 h1, whole-broken r.ppfd b) refl
+wholes-broken r f (here b) = lost 1 r.ozone _ b
+wholes-broken r f (later z1 h1 (here b)) = taken 1 r.ozone z1 _ h1 (lost 2 r.ppfd _ b)
 wholes-broken r f (later z1 h1 (later z2 h2 (here b))) =
-    rw (whole-taken r.ozone z1 h1, whole-taken r.ppfd z2 h2, whole-broken r.radiation b) refl
+    taken 1 r.ozone z1 _ h1 (taken 2 r.ppfd z2 _ h2 (lost 3 r.radiation _ b))
 wholes-broken r f (later z1 h1 (later z2 h2 (later z3 h3 (here b)))) =
-    rw (
-      whole-taken r.ozone z1 h1,
-      whole-taken r.ppfd z2 h2,
-      whole-taken r.radiation z3 h3,
-      whole-broken r.temperature b,
-    )
-    refl
+    taken 1 r.ozone z1 _ h1
+    (taken 2 r.ppfd z2 _ h2 (taken 3 r.radiation z3 _ h3 (lost 4 r.temperature _ b)))
 wholes-broken r f (later z1 h1 (later z2 h2 (later z3 h3 (later z4 h4 (here b))))) =
-    rw (
-      whole-taken r.ozone z1 h1,
-      whole-taken r.ppfd z2 h2,
-      whole-taken r.radiation z3 h3,
-      whole-taken r.temperature z4 h4,
-      whole-broken r.vpd b,
-    )
-    refl
+    taken 1 r.ozone z1 _ h1
+    (taken 2 r.ppfd z2 _ h2
+    (taken 3 r.radiation z3 _ h3 (taken 4 r.temperature z4 _ h4 (lost 5 r.vpd _ b))))
 wholes-broken r f (later z1 h1 (later z2 h2 (later z3 h3 (later z4 h4 (later z5 h5 (here b)))))) =
-    rw (
-      whole-taken r.ozone z1 h1,
-      whole-taken r.ppfd z2 h2,
-      whole-taken r.radiation z3 h3,
-      whole-taken r.temperature z4 h4,
-      whole-taken r.vpd z5 h5,
-      whole-broken r.wind b,
-    )
-    refl
+    taken 1 r.ozone z1 _ h1
+    (taken 2 r.ppfd z2 _ h2
+    (taken 3 r.radiation z3 _ h3
+    (taken 4 r.temperature z4 _ h4 (taken 5 r.vpd z5 _ h5 (lost 6 r.wind _ b)))))
 wholes-broken r f
     (later z1 h1 (later z2 h2 (later z3 h3 (later z4 h4 (later z5 h5 (later z6 h6 (here b))))))) =
-    rw (
-      whole-taken r.ozone z1 h1,
-      whole-taken r.ppfd z2 h2,
-      whole-taken r.radiation z3 h3,
-      whole-taken r.temperature z4 h4,
-      whole-taken r.vpd z5 h5,
-      whole-taken r.wind z6 h6,
-      whole-broken r.soil b,
-    )
-    refl
+    taken 1 r.ozone z1 _ h1
+    (taken 2 r.ppfd z2 _ h2
+    (taken 3 r.radiation z3 _ h3
+    (taken 4 r.temperature z4 _ h4
+    (taken 5 r.vpd z5 _ h5 (taken 6 r.wind z6 _ h6 (lost 7 r.soil _ b))))))
 wholes-broken r _
     (later z1 h1
     (later z2 h2 (later z3 h3 (later z4 h4 (later z5 h5 (later z6 h6 (later {f = f} z _ k))))))) =

@@ -143,47 +143,26 @@ module _ (day hour : ℕ) where
         soil = soil;
       }))))))))
 
-  together : (o p g t v w s : Wholeness)
-      → onward
-      (in_field 1 o
-      (λ ozone.
-      in_field 2 p
-      (λ ppfd.
-      in_field 3 g
-      (λ radiation.
-      in_field 4 t (λ temperature. in_field 5 v (λ vpd. in_field 6 w (λ wind. in_field 7 s (λ soil.
-      accepted (record {
-        ozone = ozone;
-        ppfd = ppfd;
-        radiation = radiation;
-        temperature = temperature;
-        vpd = vpd;
-        wind = wind;
-        soil = soil;
-      })))))))))
-      (λ n. accepted (raw_of day hour n))
-      ≡ framed (natural_at 1 o) (natural_at 2 p) (natural_at 3 g) (complement_at 4 t)
+  from-readings : (r : FloatReadings) (o p g t v w s : Wholeness) →
+      whole_of r.ozone ≡ o → whole_of r.ppfd ≡ p → whole_of r.radiation ≡ g →
+      whole_of r.temperature ≡ t → whole_of r.vpd ≡ v → whole_of r.wind ≡ w → whole_of r.soil ≡ s →
+      framed (natural_at 1 o) (natural_at 2 p) (natural_at 3 g) (complement_at 4 t)
       (natural_at 5 v) (natural_at 6 w) (natural_at 7 s)
-  unfolding raw_of
-  together broken p g t v w s = refl
-  together (whole o) broken g t v w s = refl
-  together (whole o) (whole p) broken t v w s = refl
-  together (whole o) (whole p) (whole g) broken v w s = refl
-  together (whole o) (whole p) (whole g) (whole t) broken w s = refl
-  together (whole o) (whole p) (whole g) (whole t) (whole v) broken s = refl
-  together (whole o) (whole p) (whole g) (whole t) (whole v) (whole w) broken = refl
-  together (whole o) (whole p) (whole g) (whole t) (whole v) (whole w) (whole s) = refl
-
-  frame-answer : (r : FloatReadings)
-      → framed (natural_at 1 (whole_of r.ozone)) (natural_at 2 (whole_of r.ppfd))
-      (natural_at 3 (whole_of r.radiation)) (complement_at 4 (whole_of r.temperature))
-      (natural_at 5 (whole_of r.vpd)) (natural_at 6 (whole_of r.wind))
-      (natural_at 7 (whole_of r.soil))
-      ≡ onward (wholes_of r) (λ w. accepted (raw_of day hour w))
-  unfolding wholes_of
-  frame-answer r =
-      sym (together (whole_of r.ozone) (whole_of r.ppfd) (whole_of r.radiation)
-      (whole_of r.temperature) (whole_of r.vpd) (whole_of r.wind) (whole_of r.soil))
+      ≡ onward (wholes_of r) (λ n. accepted (raw_of day hour n))
+  unfolding wholes_of raw_of
+  from-readings r broken p g t v w s a _ _ _ _ _ _ = rw a refl
+  from-readings r (whole o) broken g t v w s a b _ _ _ _ _ = rw (a, b) refl
+  from-readings r (whole o) (whole p) broken t v w s a b c _ _ _ _ = rw (a, b, c) refl
+  from-readings r (whole o) (whole p) (whole g) broken v w s a b c d _ _ _ = rw (a, b, c, d) refl
+  from-readings r (whole o) (whole p) (whole g) (whole t) broken w s a b c d e _ _ =
+      rw (a, b, c, d, e) refl
+  from-readings r (whole o) (whole p) (whole g) (whole t) (whole v) broken s a b c d e f _ =
+      rw (a, b, c, d, e, f) refl
+  from-readings r (whole o) (whole p) (whole g) (whole t) (whole v) (whole w) broken a b c d e f h =
+      rw (a, b, c, d, e, f, h) refl
+  from-readings r (whole o) (whole p) (whole g) (whole t) (whole v) (whole w) (whole s)
+      a b c d e f h =
+      rw (a, b, c, d, e, f, h) refl
 
   -- by the seven answers
   pub frame-by : (r : FloatReadings) {o p g t v w s : Outcome ℕ}
@@ -192,4 +171,6 @@ module _ (day hour : ℕ) where
       → v ≡ natural_at 5 (whole_of r.vpd) → w ≡ natural_at 6 (whole_of r.wind) →
       s ≡ natural_at 7 (whole_of r.soil)
       → framed o p g t v w s ≡ onward (wholes_of r) (λ w. accepted (raw_of day hour w))
-  frame-by r e1 e2 e3 e4 e5 e6 e7 = rw (e1, e2, e3, e4, e5, e6, e7) (frame-answer r)
+  frame-by r e1 e2 e3 e4 e5 e6 e7 =
+      rw (e1, e2, e3, e4, e5, e6, e7)
+      (from-readings r _ _ _ _ _ _ _ refl refl refl refl refl refl refl)
