@@ -51,12 +51,12 @@ FloatsFed b day hour readings code after =
     floats-reads.Post ([], tt) (lent-mut b, (day, (hour, (readings, tt)))) code
     (lent-mut after, (day, (hour, (readings, tt))))
 
-abbrev Tries : (b line buffer : List ℕ) → Tried → List ℕ → Type 0
+abbrev pub Tries : (b line buffer : List ℕ) → Tried → List ℕ → Type 0
 Tries b line buffer answer trial =
     trial-reads.Post ([], ([], ([], tt))) (lent b, (lent line, (lent-mut buffer, tt))) answer
     (lent b, (lent line, (lent-mut trial, tt)))
 
-abbrev Takes : (b trial : List ℕ) → ℕ → List ℕ → Type 0
+abbrev pub Takes : (b trial : List ℕ) → ℕ → List ℕ → Type 0
 Takes b trial code after =
     take-reads.Post ([], ([], tt)) (lent-mut b, (lent trial, tt)) code
     (lent-mut after, (lent trial, tt))

@@ -63,6 +63,14 @@ none_in : (l : List ℕ) (ys : List Account) → accounts_in 0 l ≡ accepted ys
 unfolding accounts_in
 none_in l ys e = accepted-same e
 
+each-first : {R : Account → Account → Type 0} {n m : ℕ} {l k : List ℕ} {xs ys : List Account}
+    → (a : First n l xs) (b : First m k ys) → Each R xs ys →
+    R a.account b.account × Each R a.rest b.rest
+each-first {R} {xs = xs} a b each =
+    each-head
+    (subst (λ (zs : List Account). Each R zs (b.account ∷ b.rest)) (sym a.is)
+    (subst (Each R xs) (sym b.is) each))
+
 each-at : (R : Account → Account → Type 0) (i n m : ℕ) (l k : List ℕ) (xs ys : List Account)
     → accounts_in n l ≡ accepted xs → accounts_in m k ≡ accepted ys
     → Each R xs ys → i < n → Both R (drop (account_width * i) l) (drop (account_width * i) k)
@@ -75,20 +83,12 @@ each-at R i (suc n) zero l k xs ys e f each h =
 each-at R zero (suc n) (suc m) l k xs ys e f each h =
     let a = first-in n l xs e in
     let b = first-in m k ys f in
-    let heads =
-    each-head
-    (subst (λ (zs : List Account). Each R zs (b.account ∷ b.rest)) (sym a.is)
-    (subst (Each R xs) (sym b.is) each))
-    in
+    let heads = each-first a b each in
     record { before = a.account; after = b.account; held = a.held; holds = b.held; both = heads.0 }
 each-at R (suc i) (suc n) (suc m) l k xs ys e f each h =
     let a = first-in n l xs e in
     let b = first-in m k ys f in
-    let heads =
-    each-head
-    (subst (λ (zs : List Account). Each R zs (b.account ∷ b.rest)) (sym a.is)
-    (subst (Each R xs) (sym b.is) each))
-    in
+    let heads = each-first a b each in
     let rest =
     each-at R i n m (drop account_width l) (drop account_width k) a.rest b.rest a.behind
     b.behind heads.1 (omega arith) in

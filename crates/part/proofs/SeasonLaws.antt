@@ -1,6 +1,6 @@
 -- What each call on the bytes of an account tells: the events of a season that it adds, and the
 -- bytes that it leaves.
-use Rattle.std.specs.Prelude.{Ok, Err}
+use Rattle.std.specs.Prelude.{Ok}
 use Prim.Native.Nat.{ℕ}
 use mathlib.Core.Path.{◌≡◌, refl, sym, ap, subst, ◌∙◌}
 use mathlib.Core.Bool.{Bool, true, false, true≢false}
@@ -15,7 +15,7 @@ use Rattle.frames.specs.Answers.{Outcome, accepted, refused}
 use Rattle.frames.specs.Layout.{frame_line}
 use Rattle.account_spec.specs.declared.Account.{Account}
 use Rattle.account_spec.specs.Account.{fresh_account, impossible}
-use Rattle.account_spec.specs.Rules.{entered, feed_of, left_of, fed_as, left_by, Feeds, Fed}
+use Rattle.account_spec.specs.Rules.{feed_of, left_of, fed_as, left_by, Feeds, Fed}
 use Rattle.account_spec.specs.Reading.{totals_of, read_of}
 use Rattle.account_spec.specs.Book.{Book, empty_book, book_answer, book_next}
 use Rattle.account_spec.specs.Runs.{Event, fed, taken, Run}
@@ -24,6 +24,7 @@ use Rattle.account_spec.specs.steps.Account.{account_of, Proper}
 use Rattle.account_spec.proofs.BookLaws.{fresh-same, proper-possible}
 use Rattle.account_spec.proofs.RowLaws.{answer-row}
 use Rattle.account_spec.proofs.ReadingLaws.{read_of-is}
+use Rattle.account_spec.proofs.RunLaws.{Replied, book-replied}
 use Rattle.account_spec.proofs.SeasonLaws.{feed_of-is, left_is, next-is-proper, fresh-proper}
 use Rattle.stand.specs.Promise.{RunKept}
 use Rattle.floats.specs.declared.FloatReadings.{FloatReadings}
@@ -68,29 +69,6 @@ pub record SeasonSoFar (done : List Event) : Type 0 where
 
 pub nothing-yet : SeasonSoFar []
 nothing-yet = record { book = empty_book; proper = fresh-proper; run = Run.stop; is = fresh-same }
-
--- a line gets a reply
-record Replied (a : Account) (l : List ℕ) : Type 0 where
-  reply-to : Fed
-  feeds-it : Feeds a l reply-to
-
-module _ (b : Book) (p : Proper b) (l : List ℕ) where
-  by_answer : (o : Outcome Record) → book_answer b l ≡ o → Replied (account_of b) l
-  by_answer (accepted r) e = record {
-    reply-to = Ok (entered (account_of b) r);
-    feeds-it =
-        record { answers = rw (feed_of-is b p l, e) refl; leaves = rw (feed_of-is b p l, e) refl };
-  }
-  by_answer (refused w) e =
-      let row = answer-row b l w.0 w.1 e in
-      record {
-        reply-to = Err (row.refusal, account_of b);
-        feeds-it =
-            record {
-              answers = rw (feed_of-is b p l, e) (ap refused row.is);
-              leaves = rw (feed_of-is b p l, e) refl;
-            };
-      }
 
 accepted-feeds : (a b : Account) (l : List ℕ) → feed_of a l ≡ accepted b → Feeds a l (Ok b)
 accepted-feeds a b l e = record { answers = sym e; leaves = ap (left_of a) (sym e) }
@@ -145,8 +123,7 @@ module _ (p : SeasonPromise) (done : List Event) (n : SeasonSoFar done) where
 
   replied : (l : List ℕ) → Replied now l
   replied l =
-      subst (λ (a : Account). Replied a l) (sym n.is)
-      (by_answer n.book n.proper l (book_answer n.book l) refl)
+      subst (λ (a : Account). Replied a l) (sym n.is) (book-replied n.book n.proper l)
 
   read-now : read_of now ≡ accepted (totals_of now)
   read-now = read-after done n

@@ -76,43 +76,31 @@ dark_account n = record {
   carried = none_carried;
 }
 
-begun-by : feed_of fresh_account (frame_line (Record.Header dark_header)) ≡ accepted
-    (opened dark_header)
-unfolding feed_of answer_of turn_of due_of parsed_of record_of sound_of checked frame_at frame_of
-    frame_line hour_of signed_of complement_of temperature_out is_digit value_of all_digits byte_at
-    number_at digit_of among length_of figures_in figures_of impossible entered
-begun-by = refl
+-- what each line of the run answers
+record Lines : Type 0 where
+  begun : feed_of fresh_account (frame_line (Record.Header dark_header))
+      ≡ accepted (opened dark_header)
+  second-header : feed_of (opened dark_header) (frame_line (Record.Header dark_header))
+      ≡ refused (4, 0)
+  first-hour : feed_of (opened dark_header) (frame_line (Record.Hour (dark_hour 0)))
+      ≡ accepted (dark_account 1)
+  second-hour : feed_of (dark_account 1) (frame_line (Record.Hour (dark_hour 1)))
+      ≡ accepted (dark_account 2)
+  third-hour : feed_of (dark_account 2) (frame_line (Record.Hour (dark_hour 2)))
+      ≡ accepted (dark_account 3)
 
-second-header : feed_of (opened dark_header) (frame_line (Record.Header dark_header)) ≡ refused
-    (4, 0)
-unfolding feed_of answer_of turn_of due_of parsed_of record_of sound_of checked frame_at frame_of
-    frame_line hour_of signed_of complement_of temperature_out is_digit value_of all_digits byte_at
-    number_at digit_of among length_of figures_in figures_of impossible entered
-second-header = refl
-
-first-hour : feed_of (opened dark_header) (frame_line (Record.Hour (dark_hour 0))) ≡ accepted
-    (dark_account 1)
+lines : Lines
 unfolding feed_of answer_of turn_of due_of parsed_of record_of sound_of checked frame_at frame_of
     frame_line hour_of signed_of complement_of temperature_out is_digit value_of all_digits byte_at
     number_at digit_of among length_of figures_in figures_of impossible entered stand_in tree_of
     hour_sums
-first-hour = refl
-
-second-hour : feed_of (dark_account 1) (frame_line (Record.Hour (dark_hour 1))) ≡ accepted
-    (dark_account 2)
-unfolding feed_of answer_of turn_of due_of parsed_of record_of sound_of checked frame_at frame_of
-    frame_line hour_of signed_of complement_of temperature_out is_digit value_of all_digits byte_at
-    number_at digit_of among length_of figures_in figures_of impossible entered stand_in tree_of
-    hour_sums
-second-hour = refl
-
-third-hour : feed_of (dark_account 2) (frame_line (Record.Hour (dark_hour 2))) ≡ accepted
-    (dark_account 3)
-unfolding feed_of answer_of turn_of due_of parsed_of record_of sound_of checked frame_at frame_of
-    frame_line hour_of signed_of complement_of temperature_out is_digit value_of all_digits byte_at
-    number_at digit_of among length_of figures_in figures_of impossible entered stand_in tree_of
-    hour_sums
-third-hour = refl
+lines = record {
+  begun = refl;
+  second-header = refl;
+  first-hour = refl;
+  second-hour = refl;
+  third-hour = refl;
+}
 
 second-possible : impossible (dark_account 2) ≡ false
 unfolding impossible checked figures_in figures_of
@@ -366,7 +354,7 @@ first-floats =
     }
     in
     float-promise.line (opened dark_header) (dark_hour 0) dark_floats are refl
-    (omega arith, omega arith) refl ∙ first-hour
+    (omega arith, omega arith) refl ∙ lines.first-hour
 
 dark_read : readout_of (read_of (dark_account 2)) ≡ dark_reading 2
 unfolding read_of impossible checked figures_in figures_of verdict_of
@@ -406,8 +394,8 @@ module _ (room : List ℕ) (long : account_width ≤ length room) where
       let a = dark_account 1 in
       let b = dark_account 2 in
       let c = dark_account 3 in
-      let tried = trial a first-up b second-up l second-hour buffer h in
-      let one = alone b c second-up third-up next second-possible third-hour in
+      let tried = trial a first-up b second-up l lines.second-hour buffer h in
+      let one = alone b c second-up third-up next second-possible lines.third-hour in
       record {
         begun = begun;
         trial = tried;
@@ -418,13 +406,14 @@ module _ (room : List ℕ) (long : account_width ≤ length room) where
         calls =
             subst (λ (x : List ℕ). Calls x (shown_told buffer paper tried one) (account_bytes c))
             (sym (front-is fresh_account (drop account_width room)))
-            (Calls.call (fed-call fresh_account fresh-up o opened-up header begun-by)
-            (Calls.call (refused-call o opened-up header (4, 0) second-header)
+            (Calls.call (fed-call fresh_account fresh-up o opened-up header lines.begun)
+            (Calls.call (refused-call o opened-up header (4, 0) lines.second-header)
             (Calls.call (floats-call o opened-up a first-up 1 0 dark_floats first-floats)
             (Calls.call
-            (trial-call a first-up b second-up l second-hour buffer h (dark_reading 2) dark_read)
-            (Calls.call (take-call a first-up b second-up l second-hour buffer h)
-            (Calls.call (list-call b c second-up third-up next second-possible third-hour)
+            (trial-call a first-up b second-up l lines.second-hour buffer h
+            (dark_reading 2) dark_read)
+            (Calls.call (take-call a first-up b second-up l lines.second-hour buffer h)
+            (Calls.call (list-call b c second-up third-up next second-possible lines.third-hour)
             (Calls.call (reading-call c third-up (dark_reading 3) dark_after)
             (Calls.call (print-call c third-up dark_text paper dark_line k) Calls.stop))))))));
       }

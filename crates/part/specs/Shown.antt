@@ -14,6 +14,7 @@ use Rattle.account_spec.specs.Account.{fresh_account}
 use Rattle.floats.specs.declared.FloatReadings.{FloatReadings}
 use Rattle.text_spec.specs.Lines.{line_feed}
 use Rattle.stored.specs.Layout.{account_width}
+use Rattle.stored.specs.Reading.{no_readout}
 use Rattle.stored.specs.declared.answers.Readout.{Readout}
 use Rattle.stored.specs.declared.answers.Tried.{Tried}
 use Rattle.part.specs.Calls.{Stores}
@@ -55,17 +56,7 @@ dark_floats = record {
 -- ---- what the calls tell
 
 abbrev pub dark_reading : ℕ → Readout
-dark_reading hours = record {
-  code = 0;
-  verdict = 3;
-  hours = hours;
-  counted = 0;
-  missing = 0;
-  least = 0;
-  most = 0;
-  lower = 0;
-  upper = 0;
-}
+dark_reading hours = record (no_readout 0) { verdict = 3; hours = hours }
 
 -- 18 bytes
 abbrev pub dark_text : List ℕ
