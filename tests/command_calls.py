@@ -1,5 +1,5 @@
-"""The proved program behind compare, stretch, place and stand, on cases whose answers the scripts
-beside this one work out by themselves, and on those of tests/runs; run by tests/command.py."""
+"""What compare, stretch, place and stand print, on cases whose answers the scripts beside this one
+work out by themselves, and on those of tests/runs; run by tests/command.py."""
 
 import subprocess
 from itertools import islice
@@ -12,7 +12,7 @@ from vectors import REPOSITORY
 
 RUNS = REPOSITORY / "tests" / "runs"  # of a call each: words (args), files, what it prints (stdout)
 CALLS = ("compare", "place", "stand", "stretch")
-NO_CALLS = ((), ("",), ("report",), ("comparE", "a"), ("stretchs",), ("place ",), ("--", "stand"))
+INPUTS = ((), ("-",), ("report",), ("report", "-"), ("--", "/dev/stdin"))
 HEADER = SEASON[:20].decode()
 TREES = ("03", "04", "05", "06")  # of one soil measure
 PLACES = 400  # places tried
@@ -21,7 +21,8 @@ SHORT = 100_000  # bytes of a text that is tried
 
 def answer(call, *words, **options):
     command = [PROGRAM, call, *map(str, words)]
-    return subprocess.run(command, stdout=subprocess.PIPE, check=True, **options).stdout
+    options = {"stdout": subprocess.PIPE, "stderr": subprocess.DEVNULL, "check": False, **options}
+    return subprocess.run(command, **options).stdout
 
 
 def compared(first, second, tolerance):
@@ -53,9 +54,9 @@ class RealCalls(Case):
             self.assertEqual(answer(call, *words, cwd=RUNS / call), said)
 
     def test_report(self):
-        """Without words, and with a first word that names no call."""
+        """Of standard input, by every word for it."""
         said = report(SEASON).encode()
-        for words in NO_CALLS:
+        for words in INPUTS:
             done = subprocess.run([PROGRAM, *words], input=SEASON, capture_output=True, check=True)
             self.assertEqual(done.stdout, said)
 

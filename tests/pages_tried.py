@@ -34,6 +34,32 @@ Names of their time.
 
 `a::gone_by`, `Gone`
 """,
+    "docs/SPECIFICATION.md": """# C
+
+**What each row says**, and what is done:
+
+- **1.** Says: it is
+  cut. Forester: ask. Maker: send.
+- **2.** Says: it is long. Maker: lend.
+
+## D
+""",
+    "crates/advice/specs/Rows.antt": """
+row_1 = record {
+  says = codes "it is "
+    ++ codes "cut";
+  forester = Some ask;
+  maker = codes "send";
+}
+
+row_2 = record {
+  says = codes "it is long";
+  forester = None;
+  maker = codes "lend";
+}
+
+ask = codes "ask"
+""",
     "docs/PROMISES.md": "`Kept`, `a-law` (Specs), `fed`\n",
     "crates/a/src/lib.rt": "pub fn fed() {}\nfn hidden() {}\n",
     "crates/a/specs/Specs.antt": "pub record Kept : Type 0 where\n  pub field : ℕ\n\na-law : ℕ\n",
@@ -41,6 +67,13 @@ Names of their time.
     "crates/a/must-fail/edit.edit": "file: src/lib.rt\n",
     "say": "#!/bin/sh\nseq 3\n",
 }
+ROW = """
+row_{} = record {{
+  says = codes "{}";
+  forester = None;
+  maker = codes "lend";
+}}
+"""
 # a page or source, what is put at its end, and words of what is then said, None where nothing is
 TRIED = (
     ("README.md", "", None),
@@ -67,6 +100,10 @@ TRIED = (
     ("crates/a/src/lib.rt", '// as docs/B.md, "B" and "Gone"\n', "has no section"),
     ("crates/a/src/lib.rt", "// as docs/B.md, 40\n", "docs/B.md has no numbers"),
     ("crates/a/src/lib.rt", "// as docs/GONE_BY.md has it\n", "there is no file"),
+    ("docs/SPECIFICATION.md", "\n- **3.** Says: no. Maker: no.\n", None),
+    ("crates/advice/specs/Rows.antt", '\nask = codes "wait"\n', "row 1 forester: 'wait'"),
+    ("crates/advice/specs/Rows.antt", ROW.format(2, "it is lent"), "row 2 says: 'it is lent'"),
+    ("crates/advice/specs/Rows.antt", ROW.format(3, "it is"), "row 3 stands in crates/advice"),
     ("crates/a/specs/Specs.antt", "-- " + 26 * "wide" + "\n", "107 columns"),
     ("crates/a/proofs/Laws.antt", "-- " + 26 * "wide" + "\n", "107 columns"),
 )

@@ -1,4 +1,6 @@
 pub mod Number
-pub mod Input
+pub mod Status
+pub mod Output
 pub mod ComparisonLine
 pub mod StretchLine
+pub mod PlaceLine

@@ -1,0 +1,5 @@
+pub mod ReplyLaws
+pub mod LineLaws
+pub mod LowestLaws
+pub mod PowerLaws
+pub mod HintLaws
