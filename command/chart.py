@@ -68,7 +68,7 @@ def hold_apart(names):
 def figures_of(name, text, printed):
     """What the picture shows: the report's lines, and of the header the tree, the period and the
     level."""
-    season, *months = [line.split() for line in printed.splitlines()]
+    season, *months = [line.split() for line in printed.splitlines() if line]
     header = texts.lines_of(text)[0]
     tree, *numbers = (
         int(header[at:end], 16) for at, end in ((2, 4), (4, 8), (8, 12), (12, 16), (16, 20))

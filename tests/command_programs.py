@@ -92,7 +92,9 @@ class Calls(Case):
         self.refused(20, "refused 20", said, "stretch", "0", "a")
         self.write("a", SEASON[:21] + SEASON[58:])
         said = "a line 2: day 1 hour 0 was due, the line is day 1 hour 1"
-        self.refused(9, "refused 9 line 2", said, "stretch", "92", "a")
+        hint = f"{refused_texts.ONE_LEFT_OUT}\n"
+        words = (1, "refused 9 line 2\n", f"{said} (row 9)\n{hint}{to_do(9)}")
+        self.says(words, "stretch", "92", "a")
 
     def test_stretch_usage(self):
         usage = "usage: ./pod1 stretch DAYS FILE.."

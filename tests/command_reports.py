@@ -379,9 +379,8 @@ class Refusals(Case):
         status, out, err = run(*(f"{n}.txt" for n in range(len(REFUSED))), cwd=self.folder)
         rows = [report(text) for text, _ in REFUSED]
         self.assertEqual(out, "\n".join(f"==> {n}.txt <==\n{row}" for n, row in enumerate(rows)))
-        self.assertEqual(
-            err.splitlines()[:-1], [f"{n}.txt {message}" for n, (_, message) in enumerate(REFUSED)]
-        )
+        said = "\n".join(f"{n}.txt {message}" for n, (_, message) in enumerate(REFUSED))
+        self.assertEqual(err.splitlines()[:-1], said.splitlines())
         self.assertEqual(status, 1)
         self.assertEqual({int(row.split()[1]) for row in rows}, {*range(1, 12), 15, 17, 18, 24, 25})
 

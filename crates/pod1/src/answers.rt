@@ -53,7 +53,7 @@ impl Said {
 }
 
 // One text's answer, and why the text or the question is refused.
-fn put_one<R: Eprint, W: Write, Q: Question>(
+fn put_one<R: Eprint + AllocGlobal, W: Write, Q: Question>(
     rt: &R,
     asked: &Q,
     of: Named<'_>,
@@ -78,7 +78,7 @@ fn put_one<R: Eprint, W: Write, Q: Question>(
 
 /// The answer for every text, and the worst status. A text that cannot be read is told, and the
 /// next one is answered.
-pub(crate) fn put_each<R: Eprint + Files + Input, W: Write, Q: Question>(
+pub(crate) fn put_each<R: Eprint + Files + Input + AllocGlobal, W: Write, Q: Question>(
     rt: &R,
     asked: &Q,
     names: &[&str],

@@ -85,7 +85,11 @@ fn put_answer<W: Write>(
 }
 
 // Why a text is refused, and by which row.
-fn tell_text<R: Eprint, W: Write>(rt: &R, of: Named<'_>, out: &mut W) -> io::Result<Rows> {
+fn tell_text<R: Eprint + AllocGlobal, W: Write>(
+    rt: &R,
+    of: Named<'_>,
+    out: &mut W,
+) -> io::Result<Rows> {
     let Some(refused) = why::refused_in(of.text) else {
         return Ok(Rows::none());
     };
@@ -101,7 +105,7 @@ fn tell_unlike<R: Eprint, W: Write>(rt: &R, out: &mut W) -> io::Result<Rows> {
     Ok(Rows::none().with(row))
 }
 
-fn compare_texts<R: Eprint, W: Write>(
+fn compare_texts<R: Eprint + AllocGlobal, W: Write>(
     rt: &R,
     first: Named<'_>,
     second: Named<'_>,
@@ -138,7 +142,7 @@ pub(crate) fn command<'a>(alloc: Global) -> Result<Command<'a>, AllocError> {
 }
 
 // Both texts are read, then compared.
-fn compare_files<R: Eprint + Files + Input, W: Write>(
+fn compare_files<R: Eprint + Files + Input + AllocGlobal, W: Write>(
     rt: &R,
     names: (&str, &str),
     tolerance: u16,
@@ -158,7 +162,7 @@ fn compare_files<R: Eprint + Files + Input, W: Write>(
     compare_texts(rt, first, second, tolerance, out)
 }
 
-pub(crate) fn run<R: Eprint + Files + Input, W: Write>(
+pub(crate) fn run<R: Eprint + Files + Input + AllocGlobal, W: Write>(
     rt: &R,
     matches: &ArgMatches<'_>,
     out: &mut W,

@@ -65,7 +65,7 @@ pub(crate) fn command<'a>(alloc: Global) -> Result<Command<'a>, AllocError> {
         .arg(files(alloc))
 }
 
-fn put_reports<R: Eprint + Files + Input, W: Write>(
+fn put_reports<R: Eprint + Files + Input + AllocGlobal, W: Write>(
     rt: &R,
     names: &[&str],
     out: &mut W,
@@ -76,7 +76,7 @@ fn put_reports<R: Eprint + Files + Input, W: Write>(
     answers::put_each(rt, &Report, names, out)
 }
 
-pub(crate) fn run<R: Eprint + Files + Input, W: Write>(
+pub(crate) fn run<R: Eprint + Files + Input + AllocGlobal, W: Write>(
     rt: &R,
     matches: &ArgMatches<'_>,
     is_keyboard: bool,

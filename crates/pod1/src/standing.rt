@@ -76,7 +76,7 @@ fn put_answer<W: Write>(
 }
 
 // Why, and by which row.
-fn tell<R: Eprint, W: Write>(
+fn tell<R: Eprint + AllocGlobal, W: Write>(
     rt: &R,
     of: Named<'_>,
     headers: &[&str],
@@ -123,7 +123,7 @@ pub(crate) fn command<'a>(alloc: Global) -> Result<Command<'a>, AllocError> {
         .arg(headers)
 }
 
-pub(crate) fn run<R: Eprint + Files + Input, W: Write>(
+pub(crate) fn run<R: Eprint + Files + Input + AllocGlobal, W: Write>(
     rt: &R,
     matches: &ArgMatches<'_>,
     out: &mut W,

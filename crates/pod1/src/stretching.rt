@@ -102,7 +102,7 @@ pub(crate) fn command<'a>(alloc: Global) -> Result<Command<'a>, AllocError> {
         .arg(files)
 }
 
-pub(crate) fn run<R: Eprint + Files + Input, W: Write>(
+pub(crate) fn run<R: Eprint + Files + Input + AllocGlobal, W: Write>(
     rt: &R,
     matches: &ArgMatches<'_>,
     out: &mut W,

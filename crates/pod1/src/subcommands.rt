@@ -47,7 +47,7 @@ fn command<'a>(alloc: Global) -> Result<Command<'a>, AllocError> {
         .subcommand(standing::command(alloc)?)
 }
 
-fn run_one<R: Eprint + Files + Input, W: Write>(
+fn run_one<R: Eprint + Files + Input + AllocGlobal, W: Write>(
     rt: &R,
     matches: &ArgMatches<'_>,
     is_keyboard: bool,

@@ -60,7 +60,7 @@ pub(crate) struct Named<'a> {
 }
 
 /// Where a text is refused, why and by which row; then what a person can mend.
-pub(crate) fn tell_line<R: Eprint, W: Write>(
+pub(crate) fn tell_line<R: Eprint + AllocGlobal, W: Write>(
     rt: &R,
     of: Named<'_>,
     refused: Refused,
