@@ -76,17 +76,26 @@ fn put_reports<R: Eprint + Files + Input + AllocGlobal, W: Write>(
     answers::put_each(rt, &Report, names, out)
 }
 
+/// The report of standard input; `is_keyboard` says whether that is a person's.
+pub(crate) fn run_on_input<R: Eprint + Files + Input + AllocGlobal, W: Write>(
+    rt: &R,
+    is_keyboard: bool,
+    out: &mut W,
+) -> io::Result<Status> {
+    if is_keyboard {
+        say(rt, KEYBOARD, out)?;
+    }
+    put_reports(rt, &[STANDARD_INPUT], out)
+}
+
 pub(crate) fn run<R: Eprint + Files + Input + AllocGlobal, W: Write>(
     rt: &R,
     matches: &ArgMatches<'_>,
     is_keyboard: bool,
     out: &mut W,
 ) -> io::Result<Status> {
-    if let Some(names) = matches.get_strs("FILE") {
-        return put_reports(rt, names, out);
+    match matches.get_strs("FILE") {
+        Some(names) => put_reports(rt, names, out),
+        None => run_on_input(rt, is_keyboard, out),
     }
-    if is_keyboard {
-        say(rt, KEYBOARD, out)?;
-    }
-    put_reports(rt, &[STANDARD_INPUT], out)
 }

@@ -137,6 +137,10 @@ pub(crate) fn run<R: Eprint + Files + Input + AllocGlobal, W: Write>(
     is_keyboard: bool,
     out: &mut W,
 ) -> io::Result<Status> {
+    // without a word no parser is built, which a short report would wait for
+    if words.len() < 2 {
+        return reporting::run_on_input(rt, is_keyboard, out);
+    }
     match command(rt.alloc())?.try_get_matches_from(words) {
         Ok(matches) => run_one(rt, &matches, is_keyboard, out),
         Err(error) if !error.use_stderr() => {
