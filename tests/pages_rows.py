@@ -23,17 +23,28 @@ def of_page(text):
 
 def spoken(term, named):
     """The sentence that a term of the table stands for; None where it is none."""
-    words = re.findall(r'codes "([^"]*)"', named.get(term.removeprefix("Some "), term))
+    words = re.findall(r'codes "([^"]*)"', named.get(term, term))
     return "".join(words) or None
+
+
+def terms_of(text):
+    """The terms that stand behind each other: words, and what brackets hold."""
+    terms, depth = [""], 0
+    for part in re.findall(r'"[^"]*"|.', text, re.DOTALL):
+        depth += (part == "(") - (part == ")")
+        if part.isspace() and not depth:
+            terms.append("")
+        else:
+            terms[-1] += part
+    return [term.removeprefix("(Some ").removesuffix(")") for term in terms if term]
 
 
 def of_table(text):
     """Each row's sentences as the table has them."""
     named = dict(re.findall(r"^(\w+) = (codes .*(?:\n .*)*)", text, re.MULTILINE))
     rows = {}
-    for number, fields in re.findall(r"^row_(\d+) = record \{\n(.*?)^\}", text, re.M | re.S):
-        terms = dict(re.findall(r"^  (\w+) = (.*?);$", fields, re.MULTILINE | re.DOTALL))
-        rows[int(number)] = tuple(spoken(terms[part], named) for part in PARTS)
+    for number, terms in re.findall(r"if n == (\d+) then row \1\s(.*?)\n +else", text, re.DOTALL):
+        rows[int(number)] = tuple(spoken(term, named) for term in terms_of(terms))
     return rows
 
 
@@ -55,4 +66,4 @@ def faults(root):
         return
     page, text = of_page(text_of(root, PAGE)), text_of(root, TABLE)
     for number, what in differing(TABLE, of_table(text), page):
-        yield Fault(TABLE, line_of(text, max(text.find(f"row_{number} ="), 0)), what)
+        yield Fault(TABLE, line_of(text, max(text.find(f"n == {number} then"), 0)), what)

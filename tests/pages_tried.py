@@ -45,18 +45,12 @@ Names of their time.
 ## D
 """,
     "crates/advice/specs/Rows.antt": """
-row_1 = record {
-  says = codes "it is "
-    ++ codes "cut";
-  forester = Some ask;
-  maker = codes "send";
-}
-
-row_2 = record {
-  says = codes "it is long";
-  forester = None;
-  maker = codes "lend";
-}
+row_of n =
+    if n == 1 then row 1 (codes "it is "
+      ++ codes "cut") (Some ask) (codes "send")
+    else (if n == 2 then row 2 (codes "it is long") None
+      (codes "lend")
+    else None)
 
 ask = codes "ask"
 """,
@@ -68,11 +62,8 @@ ask = codes "ask"
     "say": "#!/bin/sh\nseq 3\n",
 }
 ROW = """
-row_{} = record {{
-  says = codes "{}";
-  forester = None;
-  maker = codes "lend";
-}}
+    if n == {0} then row {0} (codes "{1}") None (codes "lend")
+    else None
 """
 # a page or source, what is put at its end, and words of what is then said, None where nothing is
 TRIED = (
