@@ -44,18 +44,10 @@ nearest_test :
     IsNearest (q * b + r) b (cond u (q + 1) q)
 nearest_test true q r b e h =
     let m = means_up q r b e in
-    record {
-      above = omega (arith, m.0);
-      below = omega (arith, m.0);
-      even = even_up q r b h m.1;
-    }
+    record { above = omega (arith, m.0); below = omega (arith, m.0); even = even_up q r b h m.1 }
 nearest_test false q r b e h =
     let m = means_down q r b e in
-    record {
-      above = omega (arith, m.0);
-      below = omega (arith, m.0);
-      even = even_down q r b h m.1;
-    }
+    record { above = omega (arith, m.0); below = omega (arith, m.0); even = even_down q r b h m.1 }
 
 pub nearest-IsNearest : (a b : ℕ) → 0 < b → IsNearest a b (nearest a b)
 unfolding nearest

@@ -13,20 +13,17 @@ pub returns-clause-found : goal.returns-clause-found
 returns-clause-found c =
     some_weaker _ _ c.behind.result
     (λ q d.
-    left-found c.args.times c.args.size c.in_ok-number.number c.args.whole.now
-    c.split_at.result.0.now c.split_at.result.1.now c.args.fraction.now c.carry_digits.result
-    c.carry_digits-carried.result c.shift.result q c.split_at.ensures.by_index.0 (omega arith)
-    c.in_ok-number.ensures.1 c.carry_digits.ensures.carried c.carry_digits-carried.ensures.carried
-    c.shift.ensures.carried d)
+    left-found c.args.times c.args.size _ c.args.whole.now c.split_at.result.0.now
+    c.split_at.result.1.now c.args.fraction.now _ _ _ q c.split_at.ensures.by_index.0
+    (omega arith) c.in_ok-number.ensures.1 c.carry_digits.ensures.carried
+    c.carry_digits-carried.ensures.carried c.shift.ensures.carried d)
     c.behind.ensures.found
 
 pub returns-clause-large : goal.returns-clause-large
 returns-clause-large c =
     none_weaker _ _ c.behind.result
-    (λ large.
-    left-large c.args.times c.args.size c.in_ok-number.number c.args.whole.now
-    c.split_at.result.0.now c.split_at.result.1.now c.args.fraction.now c.carry_digits.result
-    c.carry_digits-carried.result c.shift.result c.split_at.ensures.by_index.0 (omega arith)
+    (left-large c.args.times c.args.size _ c.args.whole.now c.split_at.result.0.now
+    c.split_at.result.1.now c.args.fraction.now _ _ _ c.split_at.ensures.by_index.0 (omega arith)
     c.in_ok-number.ensures.1 c.carry_digits.ensures.carried c.carry_digits-carried.ensures.carried
-    c.shift.ensures.carried large)
+    c.shift.ensures.carried)
     c.behind.ensures.large

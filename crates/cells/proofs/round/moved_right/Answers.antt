@@ -14,8 +14,7 @@ pub returns-clause-found : goal.returns-clause-found
 returns-clause-found c =
     some_weaker _ _ c.behind.result
     (λ q d.
-    right-found c.args.times c.args.size c.in_ok-number.number c.args.whole.now c.args.fraction.now
-    c.split_at.result.0.now c.split_at.result.1.now c.carry_digits.result q
+    right-found c.args.times c.args.size _ c.args.whole.now _ _ _ _ q
     c.split_at.ensures.by_index.0 (omega arith) c.in_ok-number.ensures.1
     c.carry_digits.ensures.carried d)
     c.behind.ensures.found
@@ -23,9 +22,6 @@ returns-clause-found c =
 pub returns-clause-large : goal.returns-clause-large
 returns-clause-large c =
     none_weaker _ _ c.behind.result
-    (λ large.
-    right-large c.args.times c.args.size c.in_ok-number.number c.args.whole.now c.args.fraction.now
-    c.split_at.result.0.now c.split_at.result.1.now c.carry_digits.result
-    c.split_at.ensures.by_index.0 (omega arith) c.in_ok-number.ensures.1
-    c.carry_digits.ensures.carried large)
+    (right-large c.args.times c.args.size _ c.args.whole.now _ _ _ _ c.split_at.ensures.by_index.0
+    (omega arith) c.in_ok-number.ensures.1 c.carry_digits.ensures.carried)
     c.behind.ensures.large
