@@ -3,25 +3,16 @@ command/draw.py draws them with matplotlib."""
 
 import json
 import os
-import re
 import subprocess
 import sys
-from pathlib import Path
 
+import build
+import report
 import texts
 import trees
-from speak import ACCEPTED, FAILED, Failure, Usage, put
+from speak import ACCEPTED, FAILED, REFUSED, Failure, Usage, fail, put
 
 USAGE = "./pod1 chart FILE.."
-HELP = """\
-A picture of each report, beside the text: dose and AOT40 by month, and the dose so far against the
-level. It prints the name of each picture, which is the text's with .svg in place of its ending.
-
-Usage: ./pod1 chart FILE..
-
-Example: ./pod1 chart examples/beech.txt
-"""
-PROGRAM = Path(__file__).resolve().parent.parent / "target" / "bin" / "pod1"
 NO_MATPLOTLIB = (
     "matplotlib is missing, which draws the picture: install it (Debian: apt install "
     "python3-matplotlib)"
@@ -68,7 +59,7 @@ def hold_apart(names):
 def figures_of(name, text, printed):
     """What the picture shows: the report's lines, and of the header the tree, the period and the
     level."""
-    season, *months = [line.split() for line in printed.splitlines() if line]
+    season, *months = [line.split() for line in printed.splitlines()]
     header = texts.lines_of(text)[0]
     tree, *numbers = (
         int(header[at:end], 16) for at, end in ((2, 4), (4, 8), (8, 12), (12, 16), (16, 20))
@@ -97,28 +88,27 @@ def draw(python, figures):
     return ACCEPTED if done.returncode == 0 else FAILED
 
 
-def reports(names):
-    """Each text's report, and the status; what is refused or cannot be read has none, and standard
-    error says why."""
-    command = [PROGRAM, "report", "--", *names]
-    done = subprocess.run(command, stdout=subprocess.PIPE, check=False)
-    printed = done.stdout.decode("utf-8", "surrogateescape")
-    if len(names) == 1:
-        return {names[0]: printed}, done.returncode
-    blocks = re.split("^==> (.*) <==\n", printed, flags=re.MULTILINE)[1:]
-    return dict(zip(blocks[::2], blocks[1::2])), done.returncode
-
-
-def run(words):
+def chart(words):
     """`./pod1 chart FILE..`"""
     if not words:
         raise Usage(f"usage: {USAGE}")
     hold_apart(words)
     python = drawer()
-    printed, status = reports(words)
-    figures = [
-        figures_of(name, texts.read(name), lines)
-        for name, lines in printed.items()
-        if lines[:1].isdigit()
-    ]
+    build.program(build.PROGRAM)
+    figures, status, rows = [], ACCEPTED, set()
+    for name in words:
+        try:
+            text = texts.read(name)
+            printed = report.report_of(name, text)
+        except Failure as failure:
+            status = max(status, fail(failure))
+            continue
+        refusal = report.refusal_in(printed)
+        if refusal:
+            report.explain_text(name, text, *refusal)
+            rows.add(refusal[0])
+            status = max(status, REFUSED)
+        else:
+            figures.append(figures_of(name, text, printed))
+    report.point_to_explain(rows)
     return max(status, draw(python, figures)) if figures else status

@@ -5,7 +5,7 @@ import os
 import sys
 
 PROGRAM = "pod1"
-ACCEPTED, FAILED = 0, 2  # exit statuses; 1 is that of a refused text
+ACCEPTED, REFUSED, FAILED = 0, 1, 2  # the exit statuses; of several files the worst
 GONE = 141  # the reader of standard output has gone, as a shell says it of any program
 
 

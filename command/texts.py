@@ -1,5 +1,6 @@
 """Season texts by name: a file, or - for standard input."""
 
+import os
 import sys
 
 from speak import Failure
@@ -11,6 +12,11 @@ MOST = 1 << 20  # bytes: more than the report program reads of any text
 def label(name):
     """How messages and headings call the text."""
     return "standard input" if name == STANDARD_INPUT else name
+
+
+def path_of(name):
+    """For a program that opens its file by name."""
+    return "/dev/stdin" if name == STANDARD_INPUT else name
 
 
 def reason(error):
@@ -41,6 +47,27 @@ def read_input(most):
     if sys.stdin is None:
         raise OSError(0, "it is closed")
     return sys.stdin.buffer.read(most)
+
+
+def hold_readable(name):
+    """A message where the file cannot be read; it is not opened, as a pipe can be once."""
+    if name == STANDARD_INPUT:
+        if sys.stdin is None:
+            raise Failure(f"{label(name)}: cannot be read: it is closed")
+        return
+    try:
+        os.stat(name)
+    except OSError as error:
+        raise Failure(f"{label(name)}: {reason(error)}") from None
+    if os.path.isdir(name):
+        raise Failure(f"{label(name)}: {reason(IsADirectoryError())}")
+    if not os.access(name, os.R_OK):
+        raise Failure(f"{label(name)}: {reason(PermissionError())}")
+
+
+def read_again(name):
+    """The text that a program has read; nothing where it was a pipe, which is read once."""
+    return read(name) if name != STANDARD_INPUT and os.path.isfile(name) else b""
 
 
 def lines_of(text):

@@ -1,5 +1,5 @@
 """What the tests of the command ./pod1 share: a run of it, a folder for files, and a copy of it
-with a stand-in for rt."""
+with stand-ins for the proved program and for rt."""
 
 import shutil
 import stat
@@ -9,7 +9,6 @@ import tempfile
 import unittest
 from pathlib import Path
 
-import pages_rows
 from account_cases import header_line
 from refused_texts import DAY, text_of
 from vectors import REPOSITORY
@@ -22,8 +21,6 @@ SECONDS = 60  # for a run to end
 SEASON = text_of(DAY)
 ONE_DAY = header_line().decode()
 USAGE = "pod1: ./pod1 --help has all of it\n"
-PAGE = pages_rows.of_page((REPOSITORY / pages_rows.PAGE).read_text())
-ROWS = {number: says for number, (says, _, _) in PAGE.items()}  # what each row says
 
 
 def run(*words, root=REPOSITORY, text=None, **options):
@@ -44,9 +41,7 @@ def run(*words, root=REPOSITORY, text=None, **options):
 
 
 def report(text):
-    """What is printed of the text."""
-    options = {"stdout": subprocess.PIPE, "stderr": subprocess.DEVNULL, "check": False}
-    return subprocess.run([PROGRAM], input=text, **options).stdout.decode()
+    return subprocess.run([PROGRAM], input=text, stdout=subprocess.PIPE, check=True).stdout.decode()
 
 
 def to_do(*rows):
@@ -96,6 +91,10 @@ class Copied(Case):
         path.parent.mkdir(parents=True, exist_ok=True)
         path.write_text("\n".join(("#!/bin/sh", *lines)) + "\n")
         path.chmod(path.stat().st_mode | stat.S_IXUSR)
+
+    def program(self, *lines):
+        """A stand-in that counts as built."""
+        self.script(self.root / "target" / "bin" / "pod1", *lines)
 
     def call(self, *words, **options):
         return run(*words, root=self.root, cwd=self.folder, **options)

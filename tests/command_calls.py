@@ -1,5 +1,5 @@
-"""What compare, stretch, place and stand print, on cases whose answers the scripts beside this one
-work out by themselves, and on those of tests/runs; run by tests/command.py."""
+"""The proved program behind compare, stretch, place and stand, on cases whose answers the scripts
+beside this one work out by themselves, and on those of tests/runs; run by tests/command.py."""
 
 import subprocess
 from itertools import islice
@@ -12,7 +12,7 @@ from vectors import REPOSITORY
 
 RUNS = REPOSITORY / "tests" / "runs"  # of a call each: words (args), files, what it prints (stdout)
 CALLS = ("compare", "place", "stand", "stretch")
-INPUTS = ((), ("-",), ("report",), ("report", "-"), ("--", "/dev/stdin"))
+NO_CALLS = ((), ("",), ("report",), ("comparE", "a"), ("stretchs",), ("place ",), ("--", "stand"))
 HEADER = SEASON[:20].decode()
 TREES = ("03", "04", "05", "06")  # of one soil measure
 PLACES = 400  # places tried
@@ -21,8 +21,7 @@ SHORT = 100_000  # bytes of a text that is tried
 
 def answer(call, *words, **options):
     command = [PROGRAM, call, *map(str, words)]
-    options = {"stdout": subprocess.PIPE, "stderr": subprocess.DEVNULL, "check": False, **options}
-    return subprocess.run(command, **options).stdout
+    return subprocess.run(command, stdout=subprocess.PIPE, check=True, **options).stdout
 
 
 def compared(first, second, tolerance):
@@ -54,9 +53,9 @@ class RealCalls(Case):
             self.assertEqual(answer(call, *words, cwd=RUNS / call), said)
 
     def test_report(self):
-        """Of standard input, by every word for it."""
+        """Without words, and with a first word that names no call."""
         said = report(SEASON).encode()
-        for words in INPUTS:
+        for words in NO_CALLS:
             done = subprocess.run([PROGRAM, *words], input=SEASON, capture_output=True, check=True)
             self.assertEqual(done.stdout, said)
 

@@ -1,5 +1,5 @@
-"""Words and messages of compare, stretch, place and stand, and the first build over a stand-in of
-rt; run by tests/command.py."""
+"""compare, stretch, place and stand over stand-ins of the program, and the first build over a
+stand-in of rt; run by tests/command.py."""
 
 import os
 import shutil
@@ -11,51 +11,68 @@ from pathlib import Path
 
 import refused_texts
 from account_cases import header_line
-from command_base import BEECH, ONE_DAY, ROWS, SEASON, SECONDS, USAGE, Case, Copied, report, run
-from command_base import to_do
+from command_base import ONE_DAY, SEASON, SECONDS, USAGE, Copied, report, to_do
 from local_trees import parameters_line
 from refused_texts import DAY, text_of
 
+import refusals
 
-class Calls(Case):
-    """Words and messages of compare, stretch, place and stand, in a folder of their own."""
 
-    def call(self, *words, **options):
-        return run(*words, cwd=self.folder, **options)
+class Calls(Copied):
+    def answers(self, call, lines):
+        """The stand-in keeps its words and prints these lines; the first word is the call."""
+        keep = f'for word; do printf "%s\\n" "$word"; done >"{self.folder}/words"'
+        self.program(f'[ "$1" = {call} ] || exit 0', "shift", keep, f"printf '{lines}'")
 
-    def says(self, answer, *words, **options):
-        """Status, standard output and standard error."""
-        self.assertEqual(self.call(*words, **options), answer)
-
-    def refused(self, row, printed, said, *words):
-        """Status 1: what is printed, and what is said of it."""
-        self.says((1, f"{printed}\n", f"{said} (row {row})\n" + to_do(row)), *words)
+    def words(self):
+        """Those after the call."""
+        return (self.folder / "words").read_text().splitlines()
 
     def not_called(self, message, *words):
-        """Usage: status 2."""
-        self.says((2, "", f"pod1: {message}\n{USAGE}"), *words)
+        """Usage: status 2, and the program is not asked."""
+        self.assertEqual(self.call(*words), (2, "", f"pod1: {message}\n{USAGE}"))
+        self.assertFalse((self.folder / "words").exists())
 
     def test_compare(self):
-        self.write("first", SEASON)
-        self.write("-second", SEASON.replace(b"01F4", b"0200", 1))
-        line = SEASON.split(b"\n")[1].replace(b"01F4", b"0200").decode()
-        self.says((0, "0 0\n", ""), "compare", "first", "--", "-second", "020")
-        self.says((0, f"1 0\n{line}\n", ""), "compare", "first", "--", "-second", "11")
-        self.says((0, "0 0\n", ""), "compare", "-", "first", "9" * 20, text=SEASON)
+        for name in ("first", "-second"):
+            self.write(name, SEASON)
+        line = "0200010C025800000000010E03E8012C03E8"
+        for answer in ("0 0\\n", f"3 4000\\n{line}\\n"):
+            self.answers("compare", answer)
+            self.assertEqual(
+                self.call("compare", "first", "--", "-second", "020"),
+                (0, answer.replace("\\n", "\n"), ""),
+            )
+            self.assertEqual(self.words(), ["first", "-second", "020"])
+        self.answers("compare", "0 0\\n")
+        self.assertEqual(
+            self.call("compare", "-", "first", "99999999999999999999", text=SEASON)[0], 0
+        )
+        self.assertEqual(self.words(), ["/dev/stdin", "first", "99999999999999999999"])
 
     def test_compare_refused(self):
         self.write("first", SEASON)
         self.write("second", SEASON[:-7])
-        self.write("third", SEASON.replace(b"012C", b"012D", 1))
+        self.answers("compare", "text 2 refused 11 line 26\\n")
         said = (
             "second line 26: the text ends after 24 of 24 hours, without an end frame; the end "
-            "frame (kind 03) was due"
+            "frame (kind 03) was due (row 11)\n"
         )
-        self.refused(11, "text 2 refused 11 line 26", said, "compare", "first", "second", "20")
-        said = f"pod1: {ROWS[19]}"
-        self.refused(19, "refused 19", said, "compare", "first", "third", "20")
+        self.assertEqual(
+            self.call("compare", "first", "second", "20"),
+            (1, "text 2 refused 11 line 26\n", said + to_do(11)),
+        )
+        self.answers("compare", "refused 19\\n")
+        said = (
+            "pod1: the two texts differ in more than ozone, or an ozone is missing in one of them "
+            "(row 19)\n"
+        )
+        self.assertEqual(
+            self.call("compare", "first", "first", "20"), (1, "refused 19\n", said + to_do(19))
+        )
 
     def test_compare_usage(self):
+        self.answers("compare", "0 0\\n")
         usage = "usage: ./pod1 compare FIRST SECOND TOLERANCE"
         for words in ([], ["a"], ["a", "b"], ["a", "b", "1", "c"]):
             self.not_called(usage, "compare", *words)
@@ -72,31 +89,44 @@ class Calls(Case):
             )
         self.not_called("standard input, -, can be read once", "compare", "-", "-", "1")
         self.write("a", SEASON)
-        self.says((2, "", "pod1: b: there is no such file\n"), "compare", "a", "b", "1")
-        said = "pod1: .: this is a directory, not a text\n"
-        self.says((2, "", said), "compare", "a", ".", "1")
+        self.assertEqual(
+            self.call("compare", "a", "b", "1"), (2, "", "pod1: b: there is no such file\n")
+        )
+        self.assertEqual(
+            self.call("compare", "a", ".", "1"),
+            (2, "", "pod1: .: this is a directory, not a text\n"),
+        )
+        self.answers("compare", "")
+        self.assertEqual(
+            self.call("compare", "a", "a", "1"), (2, "", "pod1: a and a: cannot be read\n")
+        )
 
     def test_stretch(self):
         self.write("a", SEASON)
-        self.says((0, "281597 147\n", ""), "stretch", "92", BEECH)
-        self.says(
-            (0, "==> a <==\n0 1\n\n==> standard input <==\n0 1\n", ""),
-            "stretch",
-            "1",
-            "a",
-            "-",
-            text=SEASON,
+        self.write("b", SEASON)
+        self.answers("stretch", "1380 152\\n")
+        self.assertEqual(self.call("stretch", "92", "a"), (0, "1380 152\n", ""))
+        self.assertEqual(self.words(), ["92", "a"])
+        self.assertEqual(
+            self.call("stretch", "92", "a", "b"),
+            (0, "==> a <==\n1380 152\n\n==> b <==\n1380 152\n", ""),
         )
-        self.says((0, "none yet\n", ""), "stretch", "92", "a")
-        said = "pod1: 0 days; 1 to 366 are possible"
-        self.refused(20, "refused 20", said, "stretch", "0", "a")
+        self.answers("stretch", "none yet\\n")
+        self.assertEqual(self.call("stretch", "92", "a"), (0, "none yet\n", ""))
+        self.answers("stretch", "refused 20\\n")
+        self.assertEqual(
+            self.call("stretch", "0", "a"),
+            (1, "refused 20\n", "pod1: 0 days; 1 to 366 are possible (row 20)\n" + to_do(20)),
+        )
         self.write("a", SEASON[:21] + SEASON[58:])
-        said = "a line 2: day 1 hour 0 was due, the line is day 1 hour 1"
-        hint = f"{refused_texts.ONE_LEFT_OUT}\n"
-        words = (1, "refused 9 line 2\n", f"{said} (row 9)\n{hint}{to_do(9)}")
-        self.says(words, "stretch", "92", "a")
+        self.answers("stretch", "refused 9 line 2\\n")
+        said = "a line 2: day 1 hour 0 was due, the line is day 1 hour 1 (row 9)\n"
+        self.assertEqual(
+            self.call("stretch", "92", "a"), (1, "refused 9 line 2\n", said + to_do(9))
+        )
 
     def test_stretch_usage(self):
+        self.answers("stretch", "none yet\\n")
         usage = "usage: ./pod1 stretch DAYS FILE.."
         self.not_called(usage, "stretch")
         self.not_called(usage, "stretch", "92")
@@ -108,7 +138,11 @@ class Calls(Case):
         )
 
     def test_place(self):
-        self.says((0, "0104016D007801150208\n", ""), *"place 4 365 520 600 0".split())
+        self.answers("place", "0104016D006901290208\\n")
+        self.assertEqual(
+            self.call("place", "4", "365", "520", "500", "0"), (0, "0104016D006901290208\n", "")
+        )
+        self.assertEqual(self.words(), ["4", "365", "520", "500", "0"])
         refused = (
             ("9 365 520 500 0", 5, f"there is no tree 9; the trees are {refused_texts.TREES}"),
             ("4 2026 520 500 0", 6, "YEAR is the days in the year, 365 or 366, and not 2026"),
@@ -116,53 +150,109 @@ class Calls(Case):
             ("3 365 520 500 0", 14, "tree 3 (continental spruce) has no dates by latitude"),
             ("4 365 520 900 0", 14, "latitude 90 ° is outside 35 to 72"),
             ("4 365 520 500 3001", 14, "height 3001 m is outside 0 to 3000"),
-            (f"4 365 520 {5000 * '9'} 0", 14, ROWS[14]),
+            ("4 365 520 720 3000", 7, refusals.ROWS[7].says),
+            (f"4 365 520 {5000 * '9'} 0", 14, refusals.ROWS[14].says),
         )
         for words, row, sentence in refused:
-            self.refused(row, f"refused {row}", f"pod1: {sentence}", "place", *words.split())
+            self.answers("place", f"refused {row}\\n")
+            self.assertEqual(
+                self.call("place", *words.split()),
+                (1, f"refused {row}\n", f"pod1: {sentence} (row {row})\n" + to_do(row)),
+            )
 
     def test_place_usage(self):
+        self.answers("place", "refused 5\\n")
         usage = "usage: ./pod1 place TREE YEAR LEVEL LATITUDE HEIGHT"
-        self.not_called(usage, *"place 4 365 520 475".split())
-        self.not_called(usage, *"place 4 365 520 475 0 0".split())
-        latitude = "tenths of a degree north: 475 for 47.5"
-        for name, unit, words, word in (
-            ("LATITUDE", latitude, "4 365 520 47.5 0", "47.5"),
-            ("LATITUDE", latitude, "4 365 520 -475 0", "-475"),
-            ("LEVEL", "hundredths of mmol m⁻²: 520 for 5.2", "4 365 5.2 475 0", "5.2"),
-            ("TREE", refused_texts.TREES, "beech 365 520 475 0", "beech"),
-        ):
-            said = f"{name} is a whole number, and '{word}' is none ({unit}). {usage}"
-            self.not_called(said, "place", *words.split())
+        self.not_called(usage, "place", "4", "365", "520", "475")
+        self.not_called(usage, "place", "4", "365", "520", "475", "0", "0")
+        latitude = (
+            "LATITUDE is a whole number, and '47.5' is none (tenths of a degree north: 475 for "
+            "47.5)."
+        )
+        self.not_called(f"{latitude} {usage}", "place", "4", "365", "520", "47.5", "0")
+        sign = (
+            "LATITUDE is a whole number, and '-475' is none (tenths of a degree north: 475 for "
+            "47.5)."
+        )
+        self.not_called(f"{sign} {usage}", "place", "4", "365", "520", "-475", "0")
+        level = "LEVEL is a whole number, and '5.2' is none (hundredths of mmol m⁻²: 520 for 5.2)."
+        self.not_called(f"{level} {usage}", "place", "4", "365", "5.2", "475", "0")
+        self.not_called(
+            f"TREE is a whole number, and 'beech' is none ({refused_texts.TREES}). {usage}",
+            "place",
+            "beech",
+            "365",
+            "520",
+            "475",
+            "0",
+        )
 
     def test_stand(self):
         self.write("a", SEASON)
-        own = ",".join(line.decode() for line in (header_line(tree=7), parameters_line()))
-        season = report(SEASON).splitlines(True)[0]
-        status, printed, said = self.call("stand", "a", ONE_DAY, own)
-        self.assertEqual((status, printed.splitlines(True)[0], said), (0, season, ""))
+        self.answers("stand", "24 0 0 0 0 0 below\\n24 0 0 0 0 0 below\\n")
+        header, own = (
+            ONE_DAY,
+            ",".join(line.decode() for line in (header_line(tree=7), parameters_line())),
+        )
+        self.assertEqual(
+            self.call("stand", "a", header, own),
+            (0, "24 0 0 0 0 0 below\n24 0 0 0 0 0 below\n", ""),
+        )
+        self.assertEqual(self.words(), ["a", header, own])
+        self.answers("stand", "refused 24 header 2\\n")
         bad = own.replace(parameters_line().decode(), parameters_line(gmax=0).decode())
-        said = "header 2: gmax 0 mmol m⁻² s⁻¹ is outside 1 to 500"
-        self.refused(24, "refused 24 header 2", said, "stand", "a", ONE_DAY, bad)
-        said = "pod1: there are {} headers; one to six are possible"
-        self.refused(22, "refused 22", said.format(0), "stand", "a")
-        self.refused(22, "refused 22", said.format(7), "stand", "a", *7 * [ONE_DAY])
+        said = "header 2: gmax 0 mmol m⁻² s⁻¹ is outside 1 to 500 (row 24)\n"
+        self.assertEqual(
+            self.call("stand", "a", header, bad), (1, "refused 24 header 2\n", said + to_do(24))
+        )
+        self.answers("stand", "refused 22\\n")
+        self.assertEqual(
+            self.call("stand", "a"),
+            (
+                1,
+                "refused 22\n",
+                "pod1: there are 0 headers; one to six are possible (row 22)\n" + to_do(22),
+            ),
+        )
 
     def test_stand_refused_line(self):
         self.write("a", text_of([*DAY[:3], refused_texts.hour_line(hour=2, wind=6001), *DAY[4:]]))
-        said = "a line 4: wind 60.01 m/s is outside 0 to 60"
-        self.refused(10, "refused 10 line 4", said, "stand", "a", ONE_DAY)
+        self.answers("stand", "refused 10 line 4\\n")
+        said = "a line 4: wind 60.01 m/s is outside 0 to 60 (row 10)\n"
+        self.assertEqual(
+            self.call("stand", "a", ONE_DAY), (1, "refused 10 line 4\n", said + to_do(10))
+        )
         # the first account's row: the soil of birch is water, which this text has not
         self.write("a", text_of(refused_texts.hour_with(soil=1001)))
+        self.answers("stand", "refused 10 line 2\\n")
         birch = header_line(tree=2, last=51).decode()
-        said = "a line 2: soil water 100.1 % is outside 0 to 100"
-        self.refused(10, "refused 10 line 2", said, "stand", "a", birch)
-        said = f"a line 2: {ROWS[23]}"
-        self.refused(23, "refused 23 line 2", said, "stand", "a", birch, ONE_DAY)
+        said = "a line 2: soil water 100.1 % is outside 0 to 100 (row 10)\n"
+        self.assertEqual(
+            self.call("stand", "a", birch), (1, "refused 10 line 2\n", said + to_do(10))
+        )
+        self.answers("stand", "refused 23 line 2\\n")
+        said = f"a line 2: {refusals.ROWS[23].says} (row 23)\n"
+        self.assertEqual(
+            self.call("stand", "a", birch, ONE_DAY), (1, "refused 23 line 2\n", said + to_do(23))
+        )
 
     def test_stand_usage(self):
+        self.answers("stand", "refused 22\\n")
         self.not_called("usage: ./pod1 stand FILE HEADER..", "stand")
-        self.says((2, "", "pod1: missing: there is no such file\n"), "stand", "missing", ONE_DAY)
+        self.assertEqual(
+            self.call("stand", "missing", ONE_DAY),
+            (2, "", "pod1: missing: there is no such file\n"),
+        )
+
+    def test_program_that_ends_with_an_error(self):
+        self.write("a", SEASON)
+        self.program("printf 13", "exit 1")
+        self.assertEqual(self.call("stretch", "92", "a"), (2, "", "pod1: a: cannot be read\n"))
+
+    def test_program_that_is_ended(self):
+        self.program("kill -9 $$")
+        said = "pod1: pod1 place was ended by signal 9, and its answer is not used\n"
+        self.assertEqual(self.call("place", "4", "365", "520", "500", "0"), (2, "", said))
 
 
 class Builds(Copied):
@@ -170,13 +260,14 @@ class Builds(Copied):
         super().setUp()
         self.bin = self.folder / "bin"
         tools = (
-            "bash", "sh", "env", "readlink", "dirname", "sleep", "mkdir", "cp", "mv", "chmod",
-            "cat", "touch", "rm", "find", "sort", "tail", "grep", "seq", "flock", "mktemp",
-            "mkfifo",
+            "bash", "sh", "env", "readlink", "dirname", "python3", "sleep", "mkdir", "cp", "chmod",
+            "cat", "touch", "rm",
         )
         self.bin.mkdir()
         for tool in tools:
-            (self.bin / tool).symlink_to(shutil.which(tool))
+            (self.bin / tool).symlink_to(
+                shutil.which(tool) if tool != "python3" else sys.executable
+            )
         self.write(
             "made", f"#!/bin/sh\ncat >/dev/null\necho '{report(SEASON).splitlines()[0]}'\n".encode()
         )
@@ -252,14 +343,16 @@ class Builds(Copied):
         self.called()
         self.assertEqual(self.calls(), 3 * ["run pod1"])
 
-    def test_encode_needs_no_program(self):
+    def test_only_what_is_used(self):
         self.good_rt()
-        (self.bin / "python3").symlink_to(sys.executable)
-        self.called("encode", "--help")
+        self.write("a", SEASON)
+        self.called("--help")
+        self.called("explain", "1")
         self.assertEqual(self.calls(), [])
-        self.called("chart")
+        self.called("compare", "a", "a", "1")
         self.assertEqual(self.calls(), ["run pod1"])
         self.called("--help")
+        self.called("explain", "1")
         self.assertEqual(self.calls(), ["run pod1"])
 
     def test_a_build_that_fails(self):

@@ -1,8 +1,8 @@
 #!/usr/bin/env bash
-# The functions that the compiler left in the part, and in the program those that the loop over a
-# text's lines calls, each beside its caller, are those of the stored lists, tests/inlined: the
-# speed hangs on what is inlined, and a change that loses it is seen here. Says what is new (+) and
-# what is gone (-); exit status 1 where there is any.
+# The functions that the compiler left in the part, and in the program those that the report calls,
+# each beside its caller, are those of the stored lists, tests/inlined: the speed hangs on what is
+# inlined, and a change that loses it is seen here. Says what is new (+) and what is gone (-); exit
+# status 1 where there is any.
 #
 #     tests/inlined.sh [--store]      --store writes the lists anew
 #
@@ -36,17 +36,17 @@ list() {
         grep -vxE '_.*|(de)?register_tm_clones|frame_dummy' | sort >"$room/$1" || no_symbols "$2"
 }
 
-# the calls that a program can come to from a function on, but for those to the C library, into
-# $room/NAME: CALLER > CALLED, without the marks of type arguments
+# the calls that a program can come to from `main` on, but for those to what matches the pattern and
+# to the C library, into $room/NAME: CALLER > CALLED, without the marks of type arguments
 list_calls() {
-    objdump -d --no-show-raw-insn "$2" | awk -v first="$3" '
+    objdump -d --no-show-raw-insn "$2" | awk -v other="$3" '
         /^[0-9a-f]+ <.*>:$/ {
             from = $1
             sub(/^0+/, "", from)
             name = substr($0, index($0, "<") + 1)
             sub(/(::<#[0-9a-f]*>)?>:$/, "", name)
             names[from] = name
-            if (name == first) left[count = 1] = from
+            if (name == "main") left[count = 1] = from
             next
         }
         { for (i = 2; i < NF; i++) if ($(i + 1) ~ /^</) called[from] = called[from] " " $i }
@@ -58,7 +58,7 @@ list_calls() {
                 n = split(called[from], places, " ")
                 for (i = 1; i <= n; i++) {
                     name = names[places[i]]
-                    if (name == "" || name ~ /@plt/ || places[i] == from) continue
+                    if (name == "" || name ~ /@plt/ || name ~ other || places[i] == from) continue
                     print names[from] " > " name
                     left[++count] = places[i]
                 }
@@ -76,9 +76,9 @@ is_stored() {
 }
 
 ./part >"$room/log"
-command/build.sh 2>"$room/log"
+python3 command/build.py pod1 >"$room/log"
 list libpod1.txt target/libpod1.a
-list_calls pod1.txt target/bin/pod1 walk::loops::feed_on
+list_calls pod1.txt target/bin/pod1 '::print_answer$'
 if [ $# = 1 ]; then cp "$room/libpod1.txt" "$room/pod1.txt" tests/inlined; fi
 status=0
 is_stored libpod1.txt target/libpod1.a || status=1

@@ -1,7 +1,6 @@
 #!/usr/bin/env python3
 """The pages hold: what README.md and docs/*.md name is there, their links lead somewhere, nothing
-cites a paper by number, no line is too wide, the rows' sentences are those of the code, and the
-commands that they show print what they show.
+cites a paper by number, no line is too wide, and the commands that they show print what they show.
 
     python3 tests/pages.py               all but the commands' runs
     python3 tests/pages.py --commands    the commands' runs; the programs must stand in target/bin
@@ -40,7 +39,6 @@ from pathlib import PurePath
 
 import pages_lines
 import pages_names
-import pages_rows
 import pages_runs
 import pages_tried
 from pages_read import ROOT
@@ -53,7 +51,6 @@ def checked(root):
     named, names = pages_names.faults(root)
     led, links = pages_lines.links(root)
     found = named + led + pages_lines.faults(root) + list(pages_runs.missing(root))
-    found += pages_rows.faults(root)
     return sorted(set(found)), names, links, len(pages_runs.commands(root))
 
 

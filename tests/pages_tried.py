@@ -34,26 +34,6 @@ Names of their time.
 
 `a::gone_by`, `Gone`
 """,
-    "docs/SPECIFICATION.md": """# C
-
-**What each row says**, and what is done:
-
-- **1.** Says: it is
-  cut. Forester: ask. Maker: send.
-- **2.** Says: it is long. Maker: lend.
-
-## D
-""",
-    "crates/advice/specs/Rows.antt": """
-row_of n =
-    if n == 1 then row 1 (codes "it is "
-      ++ codes "cut") (Some ask) (codes "send")
-    else (if n == 2 then row 2 (codes "it is long") None
-      (codes "lend")
-    else None)
-
-ask = codes "ask"
-""",
     "docs/PROMISES.md": "`Kept`, `a-law` (Specs), `fed`\n",
     "crates/a/src/lib.rt": "pub fn fed() {}\nfn hidden() {}\n",
     "crates/a/specs/Specs.antt": "pub record Kept : Type 0 where\n  pub field : ℕ\n\na-law : ℕ\n",
@@ -61,10 +41,6 @@ ask = codes "ask"
     "crates/a/must-fail/edit.edit": "file: src/lib.rt\n",
     "say": "#!/bin/sh\nseq 3\n",
 }
-ROW = """
-    if n == {0} then row {0} (codes "{1}") None (codes "lend")
-    else None
-"""
 # a page or source, what is put at its end, and words of what is then said, None where nothing is
 TRIED = (
     ("README.md", "", None),
@@ -91,10 +67,6 @@ TRIED = (
     ("crates/a/src/lib.rt", '// as docs/B.md, "B" and "Gone"\n', "has no section"),
     ("crates/a/src/lib.rt", "// as docs/B.md, 40\n", "docs/B.md has no numbers"),
     ("crates/a/src/lib.rt", "// as docs/GONE_BY.md has it\n", "there is no file"),
-    ("docs/SPECIFICATION.md", "\n- **3.** Says: no. Maker: no.\n", None),
-    ("crates/advice/specs/Rows.antt", '\nask = codes "wait"\n', "row 1 forester: 'wait'"),
-    ("crates/advice/specs/Rows.antt", ROW.format(2, "it is lent"), "row 2 says: 'it is lent'"),
-    ("crates/advice/specs/Rows.antt", ROW.format(3, "it is"), "row 3 stands in crates/advice"),
     ("crates/a/specs/Specs.antt", "-- " + 26 * "wide" + "\n", "107 columns"),
     ("crates/a/proofs/Laws.antt", "-- " + 26 * "wide" + "\n", "107 columns"),
 )

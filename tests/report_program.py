@@ -5,7 +5,7 @@ text. The command ./pod1 has tests/command.py.
     python3 tests/report_program.py [VECTORS]
 
 VECTORS is the folder of season texts, else ../shared/vectors beside the repository; without it
-those texts are left out. The program is built by command/build.sh where it is missing or old.
+those texts are left out. The program is built by command/build.py where it is missing or old.
 Printed: the number of cases, the peak memory over a leap year, and ok; or the first case that
 differs.
 """
@@ -163,21 +163,8 @@ def run(command, text=None, stdin=subprocess.PIPE):
     return printed, messages, process.returncode
 
 
-def due(text):
-    """What is printed of a text, whether something is said besides, and the status."""
-    printed = report_cases.report(text)
-    is_refused = printed.startswith(b"refused")
-    return printed, is_refused, int(is_refused)
-
-
-def told(command, **options):
-    """The same of a run."""
-    printed, messages, status = run(command, **options)
-    return printed, bool(messages), status
-
-
 def try_text(name, text):
-    same(name, told([PROGRAM], text=text), due(text))
+    same(name, run([PROGRAM], text), (report_cases.report(text), b"", 0))
 
 
 def try_file(path):
@@ -185,7 +172,7 @@ def try_file(path):
     text = path.read_bytes()
     report_cases.hold(path.name, text, vectors.answer(path))
     with path.open("rb") as file:
-        same(path.name, told([PROGRAM], stdin=file), due(text))
+        same(path.name, run([PROGRAM], stdin=file), (report_cases.report(text), b"", 0))
     if text.endswith(b"\n"):
         try_text(f"{path.name} without its last line feed", text[:-1])
 
@@ -213,8 +200,7 @@ def pour(pipe, text, size):
 def try_pieces(name, text, size):
     """The text through a pipe of packets: each read gets one piece."""
     end, start = os.pipe2(os.O_DIRECT | os.O_CLOEXEC)
-    out, nothing = subprocess.PIPE, subprocess.DEVNULL
-    with subprocess.Popen([PROGRAM], stdin=end, stdout=out, stderr=nothing) as process:
+    with subprocess.Popen([PROGRAM], stdin=end, stdout=subprocess.PIPE) as process:
         os.close(end)
         pour(start, text, size)
         same(f"{name} in pieces of {size}", process.stdout.read(), report_cases.report(text))
@@ -232,14 +218,14 @@ def try_pieces_of(day, year):
 def try_folder():
     """Nothing is printed where standard input is a directory."""
     folder = os.open(REPOSITORY, os.O_RDONLY)
-    same("a directory as standard input", told([PROGRAM], stdin=folder), (b"", True, 2))
+    same("a directory as standard input", run([PROGRAM], stdin=folder), (b"", b"", 0))
     os.close(folder)
 
 
 def try_closed():
     """Nothing is printed where standard input is closed."""
     closed = ["sh", "-c", 'exec "$0" <&-', PROGRAM]
-    same("standard input closed", told(closed), (b"", True, 2))
+    same("standard input closed", run(closed), (b"", b"", 0))
 
 
 # ---- memory
@@ -261,7 +247,11 @@ def try_memory(year):
 
 
 def build():
-    subprocess.run([REPOSITORY / "command" / "build.sh"], check=True)
+    subprocess.run(
+        [sys.executable, REPOSITORY / "command" / "build.py", PROGRAM.name],
+        check=True,
+        stdout=subprocess.DEVNULL,
+    )
 
 
 def try_vectors(folder):

@@ -1,6 +1,4 @@
 pub mod Number
-pub mod Status
-pub mod Output
+pub mod Input
 pub mod ComparisonLine
 pub mod StretchLine
-pub mod PlaceLine

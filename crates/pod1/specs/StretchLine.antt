@@ -1,10 +1,9 @@
--- What `stretch` prints of a text.
+-- What `stretch` prints.
 use Rattle.std.specs.Prelude.{ℕ, List}
 use Rattle.frames.specs.Answers.{Outcome, accepted, refused}
-use Rattle.stretch.specs.Worst.{Worst, found, none_yet, stopped_by, worst_of}
+use Rattle.stretch.specs.Worst.{Worst, found, none_yet, stopped_by}
 use Rattle.text_spec.specs.Season.{refusal_line}
 use Rattle.report.specs.Calls.{pair_line, none_yet_line, refused_line}
-use Rattle.pod1.specs.Output.{fitting}
 
 -- of a season
 abbrev worst_line : Worst → List ℕ
@@ -15,7 +14,3 @@ worst_line (stopped_by row line) = refusal_line row.0 line
 unfoldable pub stretch_line : Outcome Worst → List ℕ
 stretch_line (accepted w) = worst_line w
 stretch_line (refused r) = refused_line r.0
-
--- the buffer for the days' sums holds 366 days
-abbrev pub stretch_text : ℕ → List ℕ → List ℕ
-stretch_text days text = fitting 160 (stretch_line (worst_of text days 1098))

@@ -1,5 +1,0 @@
-pub mod Factors
-pub mod Cell
-pub mod Rounding
-pub mod Promise
-pub mod steps

@@ -1,8 +1,0 @@
--- `reasons::quantities::flux_unit` meets its contract: the bytes of its characters.
-use lib.Utf8.{encode}
-use Rattle.std.proofs.Common.{rules}
-use Rattle.reasons.proofs.quantities.flux_unit.Goals as goal
-
-pub returns : goal.returns
-unfolding encode
-returns c = search rules

@@ -1,8 +1,0 @@
--- `reasons::quantities::per_area` meets its contract: the bytes of its characters.
-use lib.Utf8.{encode}
-use Rattle.std.proofs.Common.{rules}
-use Rattle.reasons.proofs.quantities.per_area.Goals as goal
-
-pub returns : goal.returns
-unfolding encode
-returns c = search rules

@@ -1,9 +1,0 @@
-pub mod Kinds
-pub mod Dues
-pub mod Readings
-pub mod Reasons
-pub mod Quantities
-pub mod Numbers
-pub mod Sentences
-pub mod Hints
-pub mod Causes
