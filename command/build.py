@@ -29,7 +29,7 @@ RUNNING = "rt: running out/"  # only what is proved and built is run
 COUNTS = ("logic /", "statements ", "library ")  # lines on what rt has loaded
 
 FIRST = (
-    "pod1: target/bin/{name} is proved and built first, {count} crates, once: some seven minutes on"
+    "pod1: target/bin/{name} is proved and built first, {count} crates, once: some five minutes on"
     " four processors where nothing is proved yet, and longer beside other work."
     " Ctrl-C stops it, and the next run goes on from there."
 )
