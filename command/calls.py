@@ -165,7 +165,7 @@ def place_sentence(row, tree, year, level, latitude, height):
 
 # ---- stand
 
-# kinds of the text that are passed over: each account has its own
+# kinds that open an account: those at the text's start are fed to one of the text's own
 OWN = (frames.HEADER, frames.PARAMETERS, frames.WARMTH)
 
 
@@ -204,16 +204,31 @@ def tell_header(row, at, header):
 
 
 def tell_shared(name, row, at, headers):
-    """A line of the text, by the first account that bears the row out."""
+    """A line of the text: by the text's own account where it is fed to that one, else by the first
+    account that bears the row out."""
     text = texts.read_again(name)
     lines = texts.lines_of(text)
     line = report.line_at(lines, at)
-    sentences = (
-        explanations.sentence_of(row, season_under(header, lines[: at - 1]), line)
-        for header in headers
-        if text
-    )
+    own = line is not None and own_before(lines[:at])
+    seasons = [own] if own else [season_under(header, lines[: at - 1]) for header in headers]
+    sentences = (explanations.sentence_of(row, season, line) for season in seasons if text)
     report.explain(name, row, at, line, next(filter(None, sentences), None))
+
+
+def is_own(own, line):
+    """A frame that opens an account, or what stands where the text's own awaits its parameters."""
+    frame = frames.frame_of(line)
+    return (frame is not None and frame.kind in OWN) or bool(own.header and own.lacks_parameters)
+
+
+def own_before(lines):
+    """The text's own account before the last of its lines so far; None where that line is not fed
+    to it."""
+    for count, line in enumerate(lines):
+        own = frames.season_of(lines[:count])
+        if own is None or not is_own(own, line):
+            return None
+    return own
 
 
 def season_under(header, lines):

@@ -5,7 +5,8 @@ calls' words and answers, and the first build.
     python3 tests/command.py [-v] [Encode]
 
 The proved program is target/bin/pod1, which must be built. How the command calls it for compare,
-stretch, place and stand, and rt, is tried with stand-ins; the proved program itself in `RealCalls`.
+stretch, place and stand, and rt, is tried with stand-ins; the proved program itself in `RealCalls`,
+on the stored runs also as Rattle's own compiler builds it, which ./test puts beside it.
 """
 
 import sys

@@ -7,9 +7,14 @@ from itertools import islice
 import compare_cases
 import sections
 import stretch_cases
+from account_cases import header_line, warmth_line
 from command_base import BEECH, PROGRAM, SEASON, Case, report, run
+from local_trees import parameters_line
+from refused_texts import DAY, text_of
 from vectors import REPOSITORY
 
+# as Rattle's own compiler builds it: rt ci leaves it, and ./test puts it beside the other, as new
+BY_RATTLE = PROGRAM.with_name("pod1.by-rattle")
 RUNS = REPOSITORY / "tests" / "runs"  # of a call each: words (args), files, what it prints (stdout)
 CALLS = ("compare", "place", "stand", "stretch")
 NO_CALLS = ((), ("",), ("report",), ("comparE", "a"), ("stretchs",), ("place ",), ("--", "stand"))
@@ -19,9 +24,14 @@ PLACES = 400  # places tried
 SHORT = 100_000  # bytes of a text that is tried
 
 
-def answer(call, *words, **options):
-    command = [PROGRAM, call, *map(str, words)]
+def answer(call, *words, program=PROGRAM, **options):
+    command = [program, call, *map(str, words)]
     return subprocess.run(command, stdout=subprocess.PIPE, check=True, **options).stdout
+
+
+def is_as_new():
+    """Both builds of the program are of one run of ./test."""
+    return BY_RATTLE.exists() and BY_RATTLE.stat().st_mtime_ns == PROGRAM.stat().st_mtime_ns
 
 
 def compared(first, second, tolerance):
@@ -45,12 +55,22 @@ def stretched(text, days):
 
 
 class RealCalls(Case):
-    def test_stored_runs(self):
+    def hold_stored_runs(self, program):
         self.assertEqual(tuple(sorted(folder.name for folder in RUNS.iterdir())), CALLS)
         for call in CALLS:
             words = (RUNS / call / "args").read_text().splitlines()
             said = (RUNS / call / "stdout").read_bytes()
-            self.assertEqual(answer(call, *words, cwd=RUNS / call), said)
+            self.assertEqual(answer(call, *words, program=program, cwd=RUNS / call), said)
+
+    def test_stored_runs(self):
+        self.hold_stored_runs(PROGRAM)
+
+    def test_stored_runs_by_rattle(self):
+        """As Rattle's own compiler builds the program; a build that is left of other sources is
+        not run."""
+        if not is_as_new():
+            self.skipTest(f"{BY_RATTLE} is not there, or of another build; ./test makes it")
+        self.hold_stored_runs(BY_RATTLE)
 
     def test_report(self):
         """Without words, and with a first word that names no call."""
@@ -110,6 +130,15 @@ class RealCalls(Case):
     def says(self, status, said, *words):
         """The command's status and standard output."""
         self.assertEqual(run(*words)[:2], (status, said))
+
+    def test_stand_own_frames(self):
+        """A frame of the text's own that comes a second time, in the report's words."""
+        own = [header_line(tree=7, last=40), parameters_line(), warmth_line()]
+        for count in range(1, 4):
+            text = self.write("text", text_of([*own[:count], own[count - 1], *DAY[1:]]))
+            status, said, told = run(text)
+            self.assertEqual((status, said), (1, f"refused 4 line {count + 1}\n"))
+            self.assertEqual(run("stand", text, HEADER), (status, said, told))
 
     def test_by_the_command(self):
         season, changed = self.write("a season", SEASON), SEASON.replace(b"01F4", b"0200", 1)

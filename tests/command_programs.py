@@ -10,12 +10,45 @@ import time
 from pathlib import Path
 
 import refused_texts
-from account_cases import header_line
+from account_cases import header_line, warmth_line
 from command_base import ONE_DAY, SEASON, SECONDS, USAGE, Copied, report, to_do
 from local_trees import parameters_line
 from refused_texts import DAY, text_of
 
 import refusals
+
+# texts whose own frames are refused: the last line's row, and what is said of it
+OWN, HOUR = header_line(tree=7, last=40), refused_texts.hour_line()
+PARAMETERS = "a frame of parameters (kind 07)"
+WARM = "a frame of leaf age by warmth (kind 08)"
+BEECH = "belongs to tree 7, and the header names tree 4 (beech)"
+DUE = "day 1 hour 0 was due"
+OWN_FRAMES = (
+    ([OWN, parameters_line(), parameters_line()], 4, f"{PARAMETERS} comes a second time; {DUE}"),
+    (
+        [OWN, parameters_line(), warmth_line(), warmth_line()],
+        4,
+        f"{WARM} comes a second time; {DUE}",
+    ),
+    ([OWN, parameters_line(), OWN], 4, f"a header (kind 01) comes a second time; {DUE}"),
+    ([OWN, HOUR], 4, f"an hour (kind 02) comes before the parameters; {PARAMETERS} was due"),
+    ([header_line(tree=4, last=40), warmth_line()], 4, f"{WARM} {BEECH}; {DUE}"),
+    ([parameters_line()], 4, f"{PARAMETERS} comes first; the header (kind 01) was due"),
+    (
+        [OWN, parameters_line(f1=30, f4=30)],
+        7,
+        (
+            "from day 1 to day 40 are 39 days; tree 7 (a laboratory's own tree) needs 30 for its "
+            "leaves to grow and 30 for them to age"
+        ),
+    ),
+    ([header_line(level=0)], 8, "critical level 0 mmol m⁻² is outside 0.01 to 100"),
+)
+# of another tree and period
+WORDS = (
+    header_line(tree=4, first=105, last=297).decode(),
+    f"{header_line(tree=7, first=9, last=99).decode()},{parameters_line().decode()}",
+)
 
 
 class Calls(Copied):
@@ -235,6 +268,28 @@ class Calls(Copied):
         self.assertEqual(
             self.call("stand", "a", birch, ONE_DAY), (1, "refused 23 line 2\n", said + to_do(23))
         )
+
+    def refused_line(self, lines, row, at, said, word):
+        """By a stand-in that refuses this line of the text by this row."""
+        self.write("a", text_of(lines))
+        self.answers("stand", f"refused {row} line {at}\\n")
+        said = f"a line {at}: {said} (row {row})\n"
+        self.assertEqual(
+            self.call("stand", "a", word), (1, f"refused {row} line {at}\n", said + to_do(row))
+        )
+
+    def test_stand_own_frames(self):
+        """The text's own frames by its own header, whatever the words say."""
+        for lines, row, said in OWN_FRAMES:
+            for word in WORDS:
+                self.refused_line([*lines, HOUR], row, len(lines), said, word)
+
+    def test_stand_past_own_frames(self):
+        """Behind the first other line all are the accounts'; what no line bears out."""
+        said = f"{WARM} {BEECH}; day 105 hour 1 was due"
+        lines = [header_line(tree=4, last=40), HOUR, warmth_line()]
+        self.refused_line(lines, 4, 3, said, WORDS[0])
+        self.refused_line([OWN, parameters_line(), HOUR], 4, 2, refusals.ROWS[4].says, WORDS[0])
 
     def test_stand_usage(self):
         self.answers("stand", "refused 22\\n")

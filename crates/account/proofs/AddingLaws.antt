@@ -16,6 +16,7 @@ use Rattle.frames.proofs.RangeLaws.{checked-passed}
 use Rattle.dose_spec.specs.declared.Stand.{Stand}
 use Rattle.dose_spec.specs.Dose.{is_counted}
 use Rattle.dose_spec.specs.Pair.{hour_pair}
+use Rattle.dose_spec.specs.HourDose.{stand_of}
 use Rattle.dose_spec.proofs.HourDoseLaws.{stand-passed}
 use Rattle.dose.specs.steps.Given.{counted_pair}
 use Rattle.account_spec.specs.declared.Season.{Season}
@@ -38,7 +39,7 @@ use Rattle.account_spec.specs.Rules.{with_hour}
 use Rattle.account_spec.specs.steps.Account.{Dosable}
 use Rattle.account_spec.proofs.HourLaws.{season-stand, dosable-stand}
 use Rattle.account_spec.proofs.PossibleLaws.{most_hour-le, room-is}
-use Rattle.account.specs.steps.Account.{HasStand, DosedBy, carried_by, added, Grown}
+use Rattle.account.specs.steps.Account.{HasStand, PairAfter, carried_by, added, Grown}
 
 -- the sums of an account that row 13 lets pass have room for an hour
 pub possible-grown : (a : Account) → impossible a ≡ false → Grown a.sums
@@ -74,12 +75,16 @@ module _ (season : Season) (h : Hour) (d : Dosable season h) where
       let stand = dosable-stand season h d in
       rw (stand, (season-stand season d.0 stand).warmth) refl
 
-  module _ (c : Carried) (stand : Stand) (by : DosedBy season c.sum stand) where
+  module _ (c : Carried) where
     -- the season's stand on the day
+    abbrev stand : Stand
+    stand =
+        stand_of d.0.figures (record { warmth = season.warmth; sum = c.sum }) season.header.first
+        season.header.last season.ceiling
+
     day-stand : stand_at d.0 c ≡ stand
     day-stand =
-        let p = stand-passed _ _ _ _ _ h d.0 d.1 in
-        ap (λ (s : Stand). stand_at s c) p.is ∙ sym (by d.0.figures p.named)
+        let p = stand-passed _ _ _ _ _ h d.0 d.1 in ap (λ (s : Stand). stand_at s c) p.is
 
     sums-by :
         (t : Bool) → is_counted h ≡ t →
@@ -94,14 +99,16 @@ module _ (season : Season) (h : Hour) (d : Dosable season h) where
     sums-by false e = rw e refl
 
     sums_is :
-        (pair : Option Bounds) → pair ≡ counted_pair stand h →
+        (pair : Option Bounds) → PairAfter season c.sum h pair →
         added pair season.ceiling h ≡ hour_sums (stand_in season) c h
-    sums_is pair e = rw e (sums-by (is_counted h) refl)
+    sums_is pair by =
+        let p = stand-passed _ _ _ _ _ h d.0 d.1 in
+        rw (by d.0.figures p.named) (sums-by (is_counted h) refl)
 
 module _ (a : Account) (h : Hour) (d : Dosable a.season h) where
   pub hour-is :
-      (kind : HourKind) (sums : Sums) (carried : Carried) (pair : Option Bounds) (stand : Stand) →
-      kind ≡ hour_kind h.air → DosedBy a.season a.carried.sum stand → pair ≡ counted_pair stand h →
+      (kind : HourKind) (sums : Sums) (carried : Carried) (pair : Option Bounds) →
+      kind ≡ hour_kind h.air → PairAfter a.season a.carried.sum h pair →
       sums ≡ plus a.sums (added pair a.season.ceiling h) →
       carried ≡ carried_by a.season.warmth a.carried h →
       record {
@@ -112,12 +119,12 @@ module _ (a : Account) (h : Hour) (d : Dosable a.season h) where
         carried = carried;
       }
       ≡ with_hour a h
-  hour-is kind sums carried pair stand k by p s c =
+  hour-is kind sums carried pair k p s c =
       rw (
         k,
         s,
         c,
-        sums_is a.season h d a.carried stand by pair p,
+        sums_is a.season h d a.carried pair p,
         carried-is a.season h d a.carried,
       )
       refl

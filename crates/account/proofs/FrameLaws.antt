@@ -8,7 +8,7 @@ use Rattle.frames.specs.declared.records.Raw.{Raw}
 use Rattle.frames.specs.declared.records.Record.{Record}
 use Rattle.frames.specs.declared.records.Refusal.{Refusal}
 use Rattle.frames.specs.Answers.{Outcome, accepted, refused, row_of}
-use Rattle.frames.proofs.AnswerLaws.{onward-passed}
+use Rattle.frames.proofs.AnswerLaws.{accepted-same, row-passed, onward-passed}
 use Rattle.frames.specs.Frames.{parsed_of}
 use Rattle.account_spec.specs.declared.Account.{Account}
 use Rattle.account_spec.specs.Account.{impossible}
@@ -77,6 +77,15 @@ module _ (a : Account) (possible : impossible a ≡ false) where
     pub line-refused : (w : ℕ × ℕ) → answer_of (state_of a) l ≡ refused w → refused w ≡ feed_of a l
     unfolding feed_of
     line-refused w e = rw (possible, e) refl
+
+-- of a frame that the account takes, its record entered is the next account
+next-is :
+    (a : Account) (frame : Raw) (r : Record) (next : Account) →
+    turn_of (state_of a) frame ≡ accepted r → feed_frame_of a frame ≡ accepted next →
+    entered a r ≡ next
+unfolding feed_frame_of
+next-is a frame r next read takes =
+    accepted-same (rw read at (row-passed (impossible a) _ _ next takes).1)
 
 -- a line is read as its frame
 module _ (a : Account) (l : List ℕ) where

@@ -5,11 +5,13 @@ ghost use Rattle.account_spec.specs.Hours.{not_negative};
 ghost use Rattle.account_spec.specs.Account.{total_out};
 ghost use Rattle.account_spec.specs.Rules.{opened, with_season, with_hour, ended, entered};
 ghost use Rattle.account_spec.specs.steps.Account.{Dosable, RecordDosable};
-ghost use Rattle.account.specs.steps.Account.{HasStand, DosedBy, carried_by, IsRead};
+ghost use Rattle.dose.specs.steps.Given.{Small};
+ghost use Rattle.account.specs.steps.Account.{HasStand, DosedBy, PairAfter, carried_by, IsRead};
 
 use crate::{Account, Carried, Phase, Season, Sums, sums, turns};
 use account_spec::Possible;
 use dose::{Age, Dosing, Stand};
+use exact::Bounds;
 use frames::{Checked, Header, Hour, Passed, Record, Warmth};
 
 fn open(header: Header) -> Account
@@ -76,6 +78,19 @@ fn dosing(season: Season, sum: u32) -> Dosing
     Dosing { stand }
 }
 
+// The pair of an hour after a temperature sum of the earlier days; none where it is not counted,
+// and then no figures are worked out.
+fn pair_after(season: Season, sum: u32, passed: Passed) -> Option<Bounds>
+    requires { HasStand season }
+    ensures is { PairAfter season sum passed.hour result }
+    ensures small { Small result }
+{
+    if !dose::is_counted(passed.hour) {
+        return None;
+    }
+    dose::pair_alone(dosing(season, sum), passed)
+}
+
 // An hour that no row refuses adds its pair where it is counted; its warmth is carried on.
 fn add_hour(held: Possible, passed: Passed) -> Account
     requires { Dosable held.account.season passed.hour }
@@ -84,7 +99,7 @@ fn add_hour(held: Possible, passed: Passed) -> Account
     let a = held.account;
     let h = passed.hour;
     let carried = carry(a.season.warmth, a.carried, h);
-    let pair = dose::pair_alone(dosing(a.season, a.carried.sum), passed);
+    let pair = pair_after(a.season, a.carried.sum, passed);
     let sums = sums::add(a.sums, a.season.ceiling, h, pair);
     Account {
         kind: Some(turns::kind_of(h.air)),

@@ -37,6 +37,13 @@ module _ (s : State) where
   header-in h = refl
 
   module _ (raw : RawHour) where
+    pub lacks-out :
+        is_mixed s.kind raw.air ≡ false → is_due s raw ≡ true →
+        lacks_ceiling s.season.ceiling (ozone_of raw.ozone) ≡ true →
+        refused (18, 0) ≡ due_of s (Raw.Hour raw)
+    unfolding due_of
+    lacks-out one due e = rw (one, due, e)
+
     pub due_in :
         is_mixed s.kind raw.air ≡ false → is_due s raw ≡ true →
         lacks_ceiling s.season.ceiling (ozone_of raw.ozone) ≡ false →

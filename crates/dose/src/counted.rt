@@ -27,8 +27,8 @@ fn pair_by(dosing: Dosing, passed: Passed, cells: &mut [Warm]) -> Bounds
     hour::dosed(dosing, passed, remembered::f_temp(f.f_min, warm), l, vpd)
 }
 
-// Whether an hour is counted: G > 50.
-fn is_counted(h: Hour) -> bool
+/// Whether an hour is counted: G > 50 W m⁻² ("The exact dose").
+pub fn is_counted(h: Hour) -> bool
     ensures { result ≡ is_counted h }
 {
     50 < h.radiation

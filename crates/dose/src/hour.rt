@@ -47,7 +47,7 @@ fn phenology(stand: Stand, passed: Passed) -> Fraction
     }
     let day = passed.hour.day;
     let x = scale::reading(passed);
-    trees::phen::f_phen(stand.figures, stand.first, stand.last, day, x)
+    trees::phen::f_phen(stand.figures, stand.first, stand.last, day, x.tenths)
 }
 
 // f_phen × f_light × the opening, in units of 10⁻⁷.

@@ -28,7 +28,7 @@ ghost use Rattle.dose_spec.specs.Facts.{HourFacts};
 ghost use Rattle.dose_spec.specs.HourDose.{tree_of, age_by, hour_dose_of};
 ghost use Rattle.dose.specs.steps.Rows.{dosing_as, run_of, hour_by};
 
-pub use counted::{pair_alone, pair_of};
+pub use counted::{is_counted, pair_alone, pair_of};
 pub use dose_spec::{Age, Stand};
 use exact::Bounds;
 use frames::{Hour, Parameters, Passed, Refusal};

@@ -1,5 +1,5 @@
--- A tree's figures, by rows 24 and 5; what an hour that no row refuses has passed, and what it is
--- dosed by.
+-- A tree's figures, by rows 24 and 5; what the hour's dose is, by the tests before it; what an hour
+-- that no row refuses has passed, and what it is dosed by.
 use Rattle.std.proofs.lemmas.Bool.Decides.{nat_tests}
 use Rattle.std.specs.Prelude.{Some, None}
 use Prim.Native.Nat.{ℕ, ◌+◌, ◌≤◌}
@@ -7,6 +7,7 @@ use mathlib.Core.Path.{◌≡◌, refl, sym}
 use mathlib.Core.Bool.{true, false, ◌&&◌}
 use native.Mathlib.Omega.{arith}
 use lib.Dec.{eqb}
+use Rattle.exact.specs.declared.Bounds.{Bounds}
 use Rattle.trees.specs.declared.Measure.{Measure}
 use Rattle.trees.specs.declared.Figures.{Figures}
 use Rattle.trees.specs.declared.measured.Parameters.{Parameters}
@@ -24,14 +25,19 @@ use Rattle.frames.proofs.OzoneLaws.{ceiling-le}
 use Rattle.frames.specs.Layout.{ozone_of, soil_of, hour_of}
 use Rattle.dose_spec.specs.declared.Age.{Age}
 use Rattle.dose_spec.specs.declared.Stand.{Stand}
+use Rattle.dose_spec.specs.Dose.{is_counted}
+use Rattle.dose_spec.specs.Pair.{hour_pair}
 use Rattle.dose_spec.specs.HourDose.{
   tree_of,
+  age_by,
   stand_of,
   days_out,
   other_measure,
   soil_unfit,
   stand_by,
   stand_for,
+  added_pair,
+  hour_dose_of,
 }
 
 -- ---- the tree's figures
@@ -74,6 +80,56 @@ stand-is :
     stand_by f age first last ceiling h ≡ accepted (stand_of f age first last ceiling)
 unfolding stand_by
 stand-is f age first last ceiling h days has passed = rw (days, has, passed)
+
+-- ---- the hour's dose, by row 18 and where no row refuses
+
+module _ (ps : Parameters) (tree : ℕ) (age : Age) (first last ceiling : ℕ) (h : Hour) (f : Figures)
+    (named : tree_of ps tree ≡ accepted f) (warm : warmth_broken (age_by tree age).warmth ≡ false)
+    (days : days_out f first last ≡ false) (within : ceiling_out ceiling ≡ false) where
+  abbrev stand : Stand
+  stand = stand_of f (age_by tree age) first last ceiling
+
+  by-figures :
+      stand_for ps tree (age_by tree age) first last ceiling h
+      ≡ stand_by f (age_by tree age) first last ceiling h
+  unfolding stand_for
+  by-figures = let n = figures-named ps tree f named in rw (within, n.passed, warm, n.chosen)
+
+  pub lacks-ceiling-is :
+      lacks_ceiling ceiling h.ozone ≡ true →
+      refused (18, 0) ≡ hour_dose_of ps tree age first last ceiling h
+  unfolding hour_dose_of stand_by
+  lacks-ceiling-is lacks = rw (by-figures, days, lacks)
+
+  module _ (has : lacks_ceiling ceiling h.ozone ≡ false)
+      (passed : hour_checked (soil_unfit f.measure h.soil) h ≡ accepted tt) where
+    stands : stand_for ps tree (age_by tree age) first last ceiling h ≡ accepted stand
+    stands = rw by-figures (stand-is f (age_by tree age) first last ceiling h days has passed)
+
+    pub dosed-is :
+        (pair : Bounds) → pair ≡ added_pair stand h →
+        accepted pair ≡ hour_dose_of ps tree age first last ceiling h
+    unfolding hour_dose_of
+    dosed-is pair p = rw (stands, p)
+
+    pub counted_is :
+        is_counted h ≡ true → (pair : Bounds) → pair ≡ hour_pair stand h →
+        accepted pair ≡ hour_dose_of ps tree age first last ceiling h
+    unfolding hour_dose_of
+    counted_is counted pair p = rw (stands, counted, p)
+
+    pub uncounted-is :
+        is_counted h ≡ false →
+        accepted (record { lower = 0; upper = 0 }) ≡ hour_dose_of ps tree age first last ceiling h
+    unfolding hour_dose_of
+    uncounted-is dark = rw (stands, dark)
+
+-- ---- an hour that is not counted
+
+pub dark-adds :
+    (stand : Stand) → (h : Hour) → is_counted h ≡ false →
+    added_pair stand h ≡ record { lower = 0; upper = 0 }
+dark-adds stand h dark = rw dark
 
 -- ---- row 10 with the measure, and without it
 

@@ -13,6 +13,10 @@ square-lt {a} {b} h = lt_of_mul-lt-mul_right (a + b) (omega arith)
 pub square_le : {a b : ℕ} → a * a ≤ b * b → a ≤ b
 square_le {a} {b} h = grind (arith, square-lt)
 
+square-pos : (n r : ℕ) → n < r * r → 1 ≤ r
+square-pos n zero h = absurd (omega arith)
+square-pos n (suc r) h = omega arith
+
 up : (t : ℕ) → t ≤ t * t
 up zero = zero-le
 up (suc t) = le-mul_of_pos_right (suc t) (zero-lt-suc t)

@@ -125,3 +125,10 @@ pub deficit-left : (b : ℕ) → IsHour b → (b ≡ 4 → ⊥) → (b ≡ 5 →
 deficit-left b (with_deficit e) p q = e
 deficit-left b (with_pressure e) p q = absurd (p e)
 deficit-left b (with_humidity e) p q = absurd (q e)
+
+-- a line of any kind of hour has the places of kind 02's fields
+pub hour-ge : (b n : ℕ) → IsHour b → length_of b ≤ n → length_of 2 ≤ n
+unfolding length_of
+hour-ge b n (with_deficit e) h = omega (arith, rw e at h)
+hour-ge b n (with_pressure e) h = omega (arith, rw e at h)
+hour-ge b n (with_humidity e) h = omega (arith, rw e at h)

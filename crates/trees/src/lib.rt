@@ -16,8 +16,8 @@ ghost use Rattle.trees.specs.Figures.{evergreen, figures_of, choice_row, tree_ro
 
 use exact::Fraction;
 pub use measured::{
-    MEASURED, Parameters, degrees, figures_before, figures_in, has_warmth, is_fed, no_parameters,
-    no_warmth, powers,
+    MEASURED, Parameters, degrees, figures_before, figures_in, has_warmth, is_fed,
+    measured_figures, no_parameters, no_warmth, powers,
 };
 pub use ratio::{GREATEST_POWER, Ratio, ratio_of};
 pub use temperature::Reading;
@@ -567,7 +567,7 @@ impl Tree for Evergreen {
 /// where it is not 7 either ("Tree table").
 // Any byte: a header may bring any, so a narrower type would ask more of callers.
 #[tactic(auto, unfolding(crate::specs::Figures::figures_of))]
-pub(crate) fn figures_of(tree: u8) -> Option<Figures>
+pub fn figures_of(tree: u8) -> Option<Figures>
     ensures value { result ≡ figures_of tree }
     ensures row { choice_row result ≡ tree_row tree }
 {

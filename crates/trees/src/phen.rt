@@ -3,7 +3,7 @@ ghost use Rattle.exact.specs.Frac.{Is};
 ghost use Rattle.trees.specs.Facts.{FactorFacts};
 ghost use Rattle.trees.specs.Phenology.{by_ramps, by_dip, by_temperature, phenology_of, by_warmth};
 
-use crate::{Figures, Phenology, Reading, Warmth, factors};
+use crate::{Figures, Phenology, Warmth, factors};
 use exact::Fraction;
 
 #[tactic(auto, unfolding(crate::specs::Phenology::by_ramps))]
@@ -32,10 +32,10 @@ fn by_dip(day: u16) -> Fraction
 }
 
 #[tactic(auto, unfolding(crate::specs::Phenology::by_temperature))]
-fn by_temperature(t_min: u16, t_max: u16, x: Reading) -> Fraction
-    ensures { Is result (by_temperature t_min t_max x.tenths) }
+fn by_temperature(t_min: u16, t_max: u16, temperature: u16) -> Fraction
+    ensures { Is result (by_temperature t_min t_max temperature) }
 {
-    let t = x.tenths as u32;
+    let t = temperature as u32;
     if 10 * (t_min as u32) < t && t < 10 * (t_max as u32) {
         Fraction { num: 1, den: 1 }
     } else {
@@ -46,15 +46,15 @@ fn by_temperature(t_min: u16, t_max: u16, x: Reading) -> Fraction
 /// f_phen on a day of the period from `first` to `last`, at a temperature in tenths of a degree
 /// above -50.0 °C: a fraction from 0 to 1 ("Factors").
 #[tactic(auto, unfolding(crate::specs::Phenology::phenology_of), using(crate::proofs::FactsLaws::facts))]
-pub fn f_phen(f: Figures, first: u16, last: u16, day: u16, x: Reading) -> Fraction
-    ensures is { Is result (phenology_of f first last day x.tenths) }
+pub fn f_phen(f: Figures, first: u16, last: u16, day: u16, temperature: u16) -> Fraction
+    ensures is { Is result (phenology_of f first last day temperature) }
     ensures facts { FactorFacts }
 {
     let phenology = f.phenology;
     match phenology {
         Phenology::Ramps => by_ramps(f, first, last, day),
         Phenology::Dip => by_dip(day),
-        Phenology::Temperature => by_temperature(f.t_min, f.t_max, x),
+        Phenology::Temperature => by_temperature(f.t_min, f.t_max, temperature),
     }
 }
 

@@ -12,6 +12,7 @@ use Rattle.frames.specs.declared.records.Refusal.{Refusal}
 use Rattle.frames.specs.Answers.{Outcome, accepted, refused, row_of}
 use Rattle.dose_spec.specs.declared.Stand.{Stand}
 use Rattle.dose_spec.specs.HourDose.{tree_of, stand_of}
+use Rattle.dose.specs.steps.Given.{counted_pair}
 use Rattle.account_spec.specs.declared.Season.{Season}
 use Rattle.account_spec.specs.declared.Sums.{Sums}
 use Rattle.account_spec.specs.declared.Carried.{Carried}
@@ -44,6 +45,16 @@ DosedBy season sum stand =
     stand
     ≡ stand_of f (record { warmth = season.warmth; sum = sum }) season.header.first
     season.header.last season.ceiling
+
+-- the pair of an hour after a temperature sum
+abbrev pub PairAfter : Season → ℕ → Hour → Option Bounds → Type 0
+PairAfter season sum h pair =
+    (f : Figures) → tree_of season.parameters season.header.tree ≡ accepted f →
+    pair
+    ≡ counted_pair
+    (stand_of f (record { warmth = season.warmth; sum = sum }) season.header.first
+    season.header.last season.ceiling)
+    h
 
 abbrev pub carried_by : Warmth → Carried → Hour → Carried
 carried_by w c h = if has_warmth w then warmer c h else c

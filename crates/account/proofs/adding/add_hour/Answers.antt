@@ -16,8 +16,8 @@ pub carry-carried-requires-clause-temperature : goal.carry-carried-requires-clau
 carry-carried-requires-clause-temperature c =
     hour-temperate c.args.held.account.season c.args.passed.hour c.requires
 
-pub dosing-requires : goal.dosing-requires
-dosing-requires c = has-stand c.args.held.account.season c.args.passed.hour c.requires
+pub pair_after-pair-requires : goal.pair_after-pair-requires
+pair_after-pair-requires c = has-stand c.args.held.account.season c.args.passed.hour c.requires
 
 pub add-sums-requires-clause-room : goal.add-sums-requires-clause-room
 add-sums-requires-clause-room c =
@@ -28,6 +28,5 @@ add-sums-requires-clause-room c =
 
 pub returns : goal.returns
 returns c =
-    hour-is c.args.held.account c.args.passed.hour c.requires _ _ _ _ _
-    c.kind_of.ensures c.dosing.ensures
-    c.pair_alone-pair.ensures.is c.add-sums.ensures.is c.carry-carried.ensures
+    hour-is c.args.held.account c.args.passed.hour c.requires _ _ _ _ c.kind_of.ensures
+    c.pair_after-pair.ensures.is c.add-sums.ensures.is c.carry-carried.ensures

@@ -6,9 +6,12 @@ use Rattle.power.proofs.words.times_power.Goals as goal
 pub loop-j-init : goal.loop-j-init
 loop-j-init c = power_product-none _ _ _
 
+pub times-words-requires : goal.times-words-requires
+times-words-requires c = omega (arith, c.loop-j.invariant.words)
+
 pub loop-j-preserved : goal.loop-j-preserved
-loop-j-preserved c = power_product-next _ _ _ _ _ _ (omega arith) c.loop-j.invariant c.times.ensures
+loop-j-preserved c = power_product-next _ _ _ _ _ _ _ _ c.loop-j.invariant c.times-words.ensures
 
 pub returns : goal.returns
 returns c = let e : c.loop-j.j ≡ c.args.k = omega arith in
-    λ m n. (rw e at c.loop-j.invariant).holds m n
+    let done = rw e at c.loop-j.invariant in (done.words, done.holds)
